@@ -1,0 +1,17 @@
+-- A verdict: a refusal's number and place, or an acceptance's count (document 01, "Numbers answered").
+use Prim.Native.Nat.{ℕ}
+use Rattle.answers.specs.declared.verdict.Verdict.{Verdict}
+
+-- Every refusal returns its number and place and no other content.
+abbrev pub refusedBy : ℕ → ℕ → Verdict
+refusedBy number place = record { number = number; place = place; count = 0 }
+
+-- Acceptance carries the number of segments; 0 where a call counts nothing.
+abbrev pub acceptedWith : ℕ → Verdict
+acceptedWith count = record { number = 0; place = 0; count = count }
+
+-- What a lent or handed-over thing is after a call that answered `number`:
+-- after a refusal board, place in the written object and lent octets stay as they were.
+abbrev pub kept : {A : Type 0} → ℕ → A → A → A
+kept ℕ.zero old new = new
+kept (ℕ.suc n) old new = old
