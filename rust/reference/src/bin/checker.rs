@@ -1,0 +1,39 @@
+//! The checking program: a PCC OPEN, a PCE OPEN and an ERO from the first 65,536 octets of standard input, each cut by its own length field
+//! (too little left, or a length under 4: all the rest), PST 3. It prints the first refusal's or the ERO's number, place and count.
+
+use reference::{judge, read_open, Kind, Refusal, Session};
+use std::io::{self, Read};
+
+const MOST: u64 = 65_536;
+
+fn cut(octets: &[u8]) -> (&[u8], &[u8]) {
+    let size = match octets {
+        [_, _, high, low, ..] => u16::from_be_bytes([*high, *low]) as usize,
+        _ => 0,
+    };
+    if size < 4 || size > octets.len() {
+        return (octets, &[]);
+    }
+    octets.split_at(size)
+}
+
+fn check(octets: &[u8]) -> Result<usize, Refusal> {
+    let (pcc, rest) = cut(octets);
+    let (pce, rest) = cut(rest);
+    let (ero, _) = cut(rest);
+    let pcc = read_open(pcc);
+    let pce = read_open(pce);
+    pcc?;
+    pce?;
+    judge(ero, Kind::Ero, &Session::agree(&pcc, &pce), 3)
+}
+
+fn main() -> io::Result<()> {
+    let mut octets = Vec::new();
+    io::stdin().lock().take(MOST).read_to_end(&mut octets)?;
+    match check(&octets) {
+        Ok(count) => println!("0 0 {count}"),
+        Err(refusal) => println!("{} {} 0", refusal.number, refusal.place),
+    }
+    Ok(())
+}

@@ -1,0 +1,211 @@
+//! The console over the reference: one command to a line of standard input, one line of answer for each.
+
+use reference::{judge, read_open, segment, Answer, Board, Change, Kind, Open, Refusal, Segment, Session, Writer, PLACE_OCTETS, STORE_OCTETS};
+use std::fmt::Write as _;
+use std::io::{self, Read, Write};
+
+const LINE_MOST: usize = 131_200;
+const SIZE_MOST: u64 = 65_536;
+const LENT: u8 = 0xEE;
+
+struct Console {
+    pcc: Answer<Open>,
+    pce: Answer<Open>,
+    board: Board,
+    store: Vec<u8>,
+    writer: Writer,
+    buffer: Vec<u8>,
+}
+
+fn number(word: &str) -> Option<u64> {
+    if word.is_empty() || !word.bytes().all(|b| b.is_ascii_digit()) {
+        return None;
+    }
+    let digits = word.trim_start_matches('0');
+    if digits.is_empty() {
+        return Some(0);
+    }
+    digits.parse().ok()
+}
+
+fn number_to(word: &str, most: u64) -> Option<u64> {
+    number(word).filter(|&n| n <= most)
+}
+
+fn octets(word: &str) -> Option<Vec<u8>> {
+    if word == "-" {
+        return Some(Vec::new());
+    }
+    if word.is_empty() || word.len() % 2 != 0 {
+        return None;
+    }
+    let digit = |b: u8| (b as char).to_digit(16);
+    word.as_bytes().chunks(2).map(|pair| Some((digit(pair[0])? * 16 + digit(pair[1])?) as u8)).collect()
+}
+
+fn structure(word: &str) -> Option<Option<[u8; 4]>> {
+    if word == "-" {
+        return Some(None);
+    }
+    let numbers: Vec<u8> = word.split(',').map(|n| number_to(n, 255).map(|n| n as u8)).collect::<Option<_>>()?;
+    Some(Some(numbers.try_into().ok()?))
+}
+
+fn show(octets: &[u8]) -> String {
+    if octets.is_empty() {
+        return "-".to_string();
+    }
+    let mut text = String::with_capacity(2 * octets.len());
+    for octet in octets {
+        write!(text, "{octet:02X}").unwrap();
+    }
+    text
+}
+
+fn show_segment(s: &Segment) -> String {
+    let sid = if s.has_sid { show(&s.sid) } else { "-".to_string() };
+    let nai = match s.nt {
+        2 => &s.nai[..16],
+        4 => &s.nai[..32],
+        6 => &s.nai[..40],
+        _ => &[],
+    };
+    let structure = if s.structured {
+        let [a, b, c, d] = s.structure;
+        format!("{a},{b},{c},{d}")
+    } else {
+        "-".to_string()
+    };
+    format!(" {} {} {} {} {} {} {}", s.loose as u8, s.verify as u8, s.nt, s.behaviour, sid, show(nai), structure)
+}
+
+fn show_open(open: &Open) -> String {
+    let limit = open.limit.map_or("-".to_string(), |n| n.to_string());
+    format!(" {} {} {}", open.srv6 as u8, open.n as u8, limit)
+}
+
+fn kind(word: &str) -> Option<Kind> {
+    match word {
+        "ero" => Some(Kind::Ero),
+        "rro" => Some(Kind::Rro),
+        _ => None,
+    }
+}
+
+impl Console {
+    fn new() -> Console {
+        let refused = Err(Refusal { number: 1, place: 0 });
+        Console {
+            pcc: refused,
+            pce: refused,
+            board: Board::default(),
+            store: vec![0; STORE_OCTETS],
+            writer: Writer { kind: Kind::Ero, at: 0 },
+            buffer: Vec::new(),
+        }
+    }
+
+    fn session(&self) -> Session {
+        Session::agree(&self.pcc, &self.pce)
+    }
+
+    /// The answer to a line in form: what follows `0 0`, or the refusal. None for a line out of form.
+    fn answer(&mut self, line: &str) -> Option<Answer<String>> {
+        let words: Vec<&str> = line.split(' ').collect();
+        Some(match words[..] {
+            ["pcc", given] => {
+                self.pcc = read_open(&octets(given)?);
+                self.pcc.map(|o| show_open(&o))
+            }
+            ["pce", given] => {
+                self.pce = read_open(&octets(given)?);
+                self.pce.map(|o| show_open(&o))
+            }
+            [name @ ("ero" | "rro"), pst, given] => {
+                judge(&octets(given)?, kind(name)?, &self.session(), number(pst)?).map(|count| format!(" {count}"))
+            }
+            [name @ ("ero-segment" | "rro-segment"), pst, i, given] => {
+                segment(&octets(given)?, kind(&name[..3])?, &self.session(), number(pst)?, number(i)?).map(|s| show_segment(&s))
+            }
+            ["begin", name, size] => {
+                let kind = kind(name)?;
+                let mut buffer = vec![LENT; number_to(size, SIZE_MOST)? as usize];
+                Writer::begin(&mut buffer, kind).map(|writer| {
+                    self.writer = writer;
+                    self.buffer = buffer;
+                    format!(" {}", writer.at)
+                })
+            }
+            ["add", l, v, nt, behaviour, sid, nai, bits] => {
+                let sid = octets(sid)?;
+                let nai = octets(nai)?;
+                let bits = structure(bits)?;
+                if nai.len() > 40 || !(sid.is_empty() || sid.len() == 16) {
+                    return None;
+                }
+                let mut given = Segment {
+                    loose: number_to(l, 1)? == 1,
+                    verify: number_to(v, 1)? == 1,
+                    nt: number_to(nt, 255)? as u8,
+                    behaviour: number_to(behaviour, 65_535)? as u16,
+                    has_sid: !sid.is_empty(),
+                    structured: bits.is_some(),
+                    structure: bits.unwrap_or_default(),
+                    ..Segment::default()
+                };
+                given.sid[..sid.len()].copy_from_slice(&sid);
+                given.nai[..nai.len()].copy_from_slice(&nai);
+                self.writer.add(&mut self.buffer, &given).map(|writer| {
+                    self.writer = writer;
+                    format!(" {}", writer.at)
+                })
+            }
+            ["finish"] => self.writer.finish(&mut self.buffer).map(|writer| {
+                self.writer = writer;
+                format!(" {}", show(&self.buffer[..writer.at]))
+            }),
+            ["lent"] => Ok(format!(" {}", show(&self.buffer))),
+            ["report", key, pst, given] => {
+                let (key, pst, given) = (number(key)?, number(pst)?, octets(given)?);
+                let session = self.session();
+                self.board.report(&mut self.store, key, &given, &session, pst).map(|count| format!(" {count}"))
+            }
+            ["remove", key] => self.board.remove(&self.store, number(key)?).map(|()| String::new()),
+            ["compact", c] => self.board.compact(&self.store, number(c)?).map(|()| String::new()),
+            ["body", key] => self.board.body(&self.store, number(key)?).map(|octets| format!(" {}", show(octets))),
+            ["next", s, w] => self.board.next(&self.store, number(s)?, number(w)?).map(|change| match change {
+                Change::Path { key, version, place, length } => {
+                    let start = place * PLACE_OCTETS;
+                    format!(" path {key} {version} {}", show(&self.store[start..start + length]))
+                }
+                Change::Removed { key, version } => format!(" removed {key} {version}"),
+                Change::Level { version } => format!(" level {version}"),
+            }),
+            ["mark"] => {
+                let (s, w) = self.board.fresh_mark();
+                Ok(format!(" {s} {w}"))
+            }
+            ["board"] => Ok(format!(" {} {}", self.board.version, self.board.floor)),
+            _ => return None,
+        })
+    }
+}
+
+fn main() -> io::Result<()> {
+    let mut input = Vec::new();
+    io::stdin().lock().read_to_end(&mut input)?;
+    let mut out = io::BufWriter::new(io::stdout().lock());
+    let mut console = Console::new();
+    for (i, line) in input.split(|&b| b == b'\n').enumerate() {
+        if line.is_empty() || line[0] == b'#' {
+            continue;
+        }
+        let in_form = if line.len() > LINE_MOST { None } else { std::str::from_utf8(line).ok() };
+        match in_form.and_then(|line| console.answer(line)) {
+            Some(Ok(content)) => writeln!(out, "0 0{content}")?,
+            Some(Err(refusal)) => writeln!(out, "{} {}", refusal.number, refusal.place)?,
+            None => writeln!(out, "bad line {}", i + 1)?,
+        }
+    }
+    out.flush()
+}

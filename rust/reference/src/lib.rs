@@ -1,0 +1,18 @@
+//! The rules of the route reader and the path board in plain Rust.
+//!
+//! It is written from the paper alone and shares nothing with the proved code, so that an answer both give is an answer the paper
+//! gives. It is the yardstick of the differential tests and of the benchmark.
+
+pub mod answer;
+pub mod board;
+pub mod open;
+pub mod route;
+pub mod session;
+pub mod writer;
+
+pub use answer::{Answer, Refusal};
+pub use board::{Board, Change, PLACES, PLACE_OCTETS, STORE_OCTETS};
+pub use open::{read_open, Open};
+pub use route::{judge, segment, Kind, Segment};
+pub use session::Session;
+pub use writer::Writer;

@@ -1,0 +1,197 @@
+//! The paper's own examples, on either side of each rule.
+
+use reference::*;
+
+const O: [u8; 32] = [
+    0x01, 0x10, 0x00, 0x20, 0x20, 0x1E, 0x78, 0x07, 0x00, 0x22, 0x00, 0x12, 0x00, 0x00, 0x00, 0x01, 0x03, 0x00, 0x00, 0x00, 0x00, 0x1B, 0x00, 0x06, 0x00, 0x00,
+    0x00, 0x00, 0x2C, 0x04, 0x00, 0x00,
+];
+const E: [u8; 28] = [
+    0x07, 0x10, 0x00, 0x1C, 0x28, 0x18, 0x00, 0x02, 0x00, 0x00, 0x00, 0x01, 0x20, 0x01, 0x0D, 0xB8, 0x00, 0x00, 0x00, 0x01, 0x00, 0x00, 0x00, 0x00, 0x00, 0x00,
+    0x00, 0x01,
+];
+
+fn with<const N: usize>(mut octets: [u8; N], at: usize, value: u8) -> [u8; N] {
+    octets[at] = value;
+    octets
+}
+
+fn refused<T>(number: u8, place: usize) -> Answer<T> {
+    Err(Refusal { number, place })
+}
+
+fn session() -> Session {
+    Session::agree(&read_open(&O), &read_open(&O))
+}
+
+/// A route of `n` segments like E's.
+fn route(n: usize) -> Vec<u8> {
+    let mut octets = E[..4].to_vec();
+    for _ in 0..n {
+        octets.extend_from_slice(&E[4..]);
+    }
+    let size = octets.len() as u16;
+    octets[2..4].copy_from_slice(&size.to_be_bytes());
+    octets
+}
+
+/// E with a structure of these bit lengths.
+fn structured(bits: [u8; 4]) -> Vec<u8> {
+    let mut octets = E.to_vec();
+    octets[3] = 36;
+    octets[5] = 32;
+    octets[7] = 6;
+    octets.extend_from_slice(&bits);
+    octets.extend_from_slice(&[0; 4]);
+    octets
+}
+
+#[test]
+fn opens() {
+    assert_eq!(read_open(&O), Ok(Open { srv6: true, n: false, limit: Some(4) }));
+    assert_eq!(read_open(&with(O, 16, 0)), Ok(Open { srv6: false, n: false, limit: None }));
+    assert_eq!(read_open(&with(O, 28, 0)), refused(3, 0));
+    assert_eq!(read_open(&with(O, 27, 1)), Ok(Open { srv6: true, n: false, limit: None }));
+    assert_eq!(read_open(&with(with(O, 27, 1), 28, 0)), Ok(Open { srv6: true, n: false, limit: None }));
+    assert_eq!(read_open(&with(O, 27, 2)), Ok(Open { srv6: true, n: true, limit: Some(4) }));
+    assert_eq!(read_open(&with(O, 21, 26)), refused(2, 0));
+    assert_eq!(read_open(&with(O, 1, 0x1F)), read_open(&O));
+    for n in 0..O.len() {
+        assert_eq!(read_open(&O[..n]), refused(1, 0));
+    }
+    for (at, value) in [(0, 2), (1, 0x20), (3, 0x24), (4, 0x40), (11, 21), (11, 17), (15, 15), (23, 5), (23, 7)] {
+        assert_eq!(read_open(&with(O, at, value)), refused(1, 0), "octet {at}");
+    }
+}
+
+#[test]
+fn last_padding_only_may_be_cut() {
+    let open = |inner: &[u8]| {
+        let mut octets = vec![1, 0x10, 0, 0, 0x20, 0, 0, 0, 0, 34, 0, inner.len() as u8];
+        octets.extend_from_slice(inner);
+        octets.resize(octets.len().div_ceil(4) * 4, 0);
+        octets[3] = octets.len() as u8;
+        read_open(&octets)
+    };
+    let good = Ok(Open { srv6: true, n: false, limit: Some(9) });
+    let head = [0, 0, 0, 1, 3, 0, 0, 0, 0, 27, 0, 6, 0, 0, 0, 0, 41, 9];
+    assert_eq!(open(&head), good);
+    for n in 1..=2 {
+        assert_eq!(open(&[&head[..], &vec![0; n]].concat()), good);
+    }
+    for n in 3..=5 {
+        assert_eq!(open(&[&head[..], &vec![0; n]].concat()), refused(1, 0));
+    }
+    assert_eq!(open(&[&head[..], &[0; 6]].concat()), good);
+    for n in 0..head.len() {
+        if n != 8 {
+            assert_eq!(open(&head[..n]), refused(1, 0), "{n}");
+        }
+    }
+    assert_eq!(open(&head[..8]), refused(2, 0));
+}
+
+#[test]
+fn routes() {
+    let s = session();
+    assert_eq!(s, Session { agreed: true, n: false, limit: Some(4) });
+    assert_eq!(judge(&E, Kind::Ero, &s, 3), Ok(1));
+    assert_eq!(judge(&E, Kind::Ero, &s, 1), refused(13, 0));
+    assert_eq!(judge(&E, Kind::Ero, &Session::agree(&read_open(&O), &read_open(&with(O, 16, 0))), 3), refused(13, 0));
+    assert_eq!(judge(&with(E, 7, 3), Kind::Ero, &s, 3), refused(9, 4));
+    assert_eq!(judge(&with(E, 7, 6), Kind::Ero, &s, 3), refused(7, 4));
+    assert_eq!(judge(&structured([40, 24, 16, 48]), Kind::Ero, &s, 3), Ok(1));
+    assert_eq!(judge(&structured([40, 24, 16, 49]), Kind::Ero, &s, 3), refused(11, 4));
+    assert_eq!(judge(&structured([64; 4]), Kind::Ero, &s, 3), refused(11, 4));
+    assert_eq!(judge(&route(4), Kind::Ero, &s, 3), Ok(4));
+    assert_eq!(judge(&route(5), Kind::Ero, &s, 3), refused(12, 100));
+    assert_eq!(judge(&E, Kind::Rro, &s, 3), refused(4, 0));
+    assert_eq!(judge(&with(E, 0, 8), Kind::Rro, &s, 3), Ok(1));
+    assert_eq!(judge(&with(with(E, 0, 8), 4, 0xA8), Kind::Rro, &s, 3), refused(14, 0));
+    assert_eq!(judge(&with(E, 6, 0x10), Kind::Ero, &s, 3), refused(8, 4));
+    assert_eq!(judge(&with(with(E, 6, 0x20), 7, 1), Kind::Ero, &s, 3), refused(10, 4));
+    assert_eq!(judge(&with(with(with(E, 0, 8), 6, 0x20), 7, 5), Kind::Rro, &s, 3), Ok(1));
+    assert_eq!(judge(&[7, 0x10, 0, 4], Kind::Ero, &s, 3), refused(5, 0));
+    let mut mixed = route(3);
+    mixed[52] = 1;
+    assert_eq!(judge(&mixed, Kind::Ero, &s, 3), refused(6, 52));
+    for n in 0..E.len() {
+        assert_eq!(judge(&E[..n], Kind::Ero, &s, 3), refused(4, 0));
+    }
+    let read = segment(&with(E, 4, 0xA8), Kind::Ero, &s, 3, 0).unwrap();
+    assert!(read.loose && !read.verify && read.has_sid && read.behaviour == 1 && read.sid == E[12..28]);
+    assert_eq!(segment(&E, Kind::Ero, &s, 3, 1), refused(15, 0));
+    assert_eq!(segment(&route(5), Kind::Ero, &s, 3, 0), refused(12, 100));
+}
+
+#[test]
+fn written_route_is_the_one_read() {
+    let s = session();
+    for object in [E.to_vec(), route(4), structured([40, 24, 16, 48])] {
+        let mut buffer = vec![0xEE; object.len() + 3];
+        let mut writer = Writer::begin(&mut buffer, Kind::Ero).unwrap();
+        assert_eq!(writer.finish(&mut buffer), refused(5, 0));
+        for i in 0..judge(&object, Kind::Ero, &s, 3).unwrap() {
+            writer = writer.add(&mut buffer, &segment(&object, Kind::Ero, &s, 3, i as u64).unwrap()).unwrap();
+        }
+        assert_eq!(writer.add(&mut buffer, &segment(&object, Kind::Ero, &s, 3, 0).unwrap()), refused(16, 0));
+        writer.finish(&mut buffer).unwrap();
+        assert_eq!(buffer[..object.len()], object);
+        assert_eq!(buffer[object.len()..], [0xEE; 3]);
+    }
+    assert_eq!(Writer::begin(&mut [0; 3], Kind::Ero), refused(16, 0));
+}
+
+#[test]
+fn the_worked_history() {
+    let s = session();
+    let mut store = vec![0; STORE_OCTETS];
+    let mut board = Board::default();
+    let (a, b) = (11, 12);
+    assert_eq!(board.report(&mut store, a, &E, &s, 3), Ok(1));
+    assert_eq!(board.report(&mut store, b, &route(2), &s, 3), Ok(2));
+    assert_eq!(board.remove(&store, a), Ok(()));
+    let path_b = Change::Path { key: 12, version: 2, place: 1, length: 48 };
+    assert_eq!(board.next(&store, 1, 1), Ok(path_b));
+    assert_eq!(board.next(&store, 1, 2), Ok(Change::Removed { key: 11, version: 3 }));
+    assert_eq!(board.next(&store, 1, 3), Ok(Change::Level { version: 3 }));
+    assert_eq!(board.body(&store, b), Ok(&route(2)[4..]));
+    assert_eq!(board.body(&store, a), refused(22, 0));
+    assert_eq!(board.compact(&store, 4), refused(24, 0));
+    assert_eq!(board.compact(&store, 3), Ok(()));
+    assert_eq!(board.next(&store, 2, 2), refused(23, 0));
+    assert_eq!(board.next(&store, 3, 3), Ok(Change::Level { version: 3 }));
+    assert_eq!(board.fresh_mark(), (3, 0));
+    assert_eq!(board.next(&store, 3, 0), Ok(path_b));
+    assert_eq!(board.next(&store, 3, 2), Ok(Change::Level { version: 3 }));
+    assert_eq!(board.next(&store, 4, 2), refused(24, 0));
+    assert_eq!(board.next(&store[1..], 3, 2), refused(17, 0));
+}
+
+#[test]
+fn a_full_board() {
+    let s = session();
+    let mut store = vec![0; STORE_OCTETS];
+    let mut board = Board::default();
+    for key in 1..=128 {
+        assert_eq!(board.report(&mut store, key, &E, &s, 3), Ok(1));
+    }
+    assert_eq!(board.report(&mut store, 500, &E, &s, 3), refused(21, 0));
+    assert_eq!(board.report(&mut store, 5, &E, &s, 3), Ok(1));
+    board.remove(&store, 77).unwrap();
+    board.remove(&store, 33).unwrap();
+    assert_eq!((board.version, board.floor), (131, 0));
+    assert_eq!(board.report(&mut store, 500, &E, &s, 3), Ok(1));
+    assert_eq!((board.keys[76], board.version, board.floor), (500, 132, 130));
+    assert_eq!(board.report(&mut store, 0, &E, &s, 3), refused(18, 0));
+    assert_eq!(board.report(&mut store, 1_048_575, &[], &s, 3), refused(18, 0));
+    assert_eq!(board.report(&mut store, 1_048_574, &with(E, 7, 3), &s, 3), refused(9, 4));
+    let free = Session { limit: None, ..s };
+    assert_eq!(board.report(&mut store, 9, &route(16), &free, 3), Ok(16));
+    assert_eq!(board.report(&mut store, 9, &route(17), &free, 3), refused(19, 0));
+    board.version = u64::MAX - 1;
+    assert_eq!(board.report(&mut store, 9, &E, &s, 3), refused(20, 0));
+    assert_eq!(board.remove(&store, 9), refused(20, 0));
+    board.version = u64::MAX;
+    assert_eq!(board.remove(&store, 9), refused(17, 0));
+}
