@@ -1,0 +1,6 @@
+pub mod Logic
+pub mod All
+pub mod Search
+pub mod Proper
+pub mod Changed
+pub mod Determined

@@ -1,0 +1,36 @@
+-- The sizes and bounds of the table (document 01, "The board"), by the names that the code uses.
+use Prim.Native.Nat.{ℕ}
+
+-- "The table has 128 places"
+abbrev pub places : ℕ
+places = 128
+
+-- "384 a place; place i, from 0, starts at 384 times i"
+abbrev pub room : ℕ
+room = 384
+
+-- "Bodies lie in 49,152 lent octets"
+abbrev pub storeSize : ℕ
+storeSize = 49152
+
+-- "Keys are 1 to 1,048,574."
+abbrev pub keyLeast : ℕ
+keyLeast = 1
+
+abbrev pub keyMost : ℕ
+keyMost = 1048574
+
+-- "at most 2^64-2"
+abbrev pub versionMost : ℕ
+versionMost = 18446744073709551614
+
+-- "path lengths multiples of 4 from 24 to 384"
+abbrev pub unit : ℕ
+unit = 4
+
+abbrev pub bodyLeast : ℕ
+bodyLeast = 24
+
+-- octets of an ERO before its body: "a path body (the ERO after its header)"
+abbrev pub header : ℕ
+header = 4

@@ -1,0 +1,16 @@
+// The table of paths in force (document 01, "The board"): 128 places, all empty at the start; each holds a key,
+// a version and either a path body or the mark of a removal. Bodies lie in 49,152 lent octets, 384 a place.
+mod board;
+mod size;
+
+pub use board::Board;
+pub use board::empty;
+pub use size::BODY_LEAST;
+pub use size::HEADER;
+pub use size::KEY_LEAST;
+pub use size::KEY_MOST;
+pub use size::PLACES;
+pub use size::ROOM;
+pub use size::STORE;
+pub use size::UNIT;
+pub use size::VERSION_MOST;

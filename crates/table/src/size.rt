@@ -1,0 +1,26 @@
+// The sizes and bounds of the table (document 01, "The board").
+
+// the table has 128 places
+pub const PLACES: usize = 128;
+
+// octets of the store that belong to a place: place i, from 0, starts at ROOM times i
+pub const ROOM: usize = 384;
+
+// octets of the store
+pub const STORE: usize = 49152;
+
+// keys are 1 to 1,048,574
+pub const KEY_LEAST: u64 = 1;
+
+pub const KEY_MOST: u64 = 1048574;
+
+// the version is at most 2^64-2
+pub const VERSION_MOST: u64 = 18446744073709551614;
+
+// path lengths are multiples of 4 from 24 to ROOM
+pub const UNIT: usize = 4;
+
+pub const BODY_LEAST: usize = 24;
+
+// octets of an ERO before its body
+pub const HEADER: usize = 4;
