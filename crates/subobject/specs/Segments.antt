@@ -1,0 +1,87 @@
+-- A segment: what the octets of a subobject say, and the octets that a segment is written as
+-- (document 01, "The route object", "Writing a route").
+use Prim.Native.Nat.{ℕ, _+_, _*_}
+use mathlib.Core.Bool.{Bool, false, cond, not}
+use mathlib.Core.List.{List, [], _∷_, _++_}
+use lib.Dec.{eqb}
+use lib.ListN.{take, replicate}
+use Rattle.octets.specs.Octets.{be16, hi, lo, partOf}
+use Rattle.subobject.specs.declared.head.Head.{Head}
+use Rattle.subobject.specs.declared.segment.Segment.{Segment}
+use Rattle.subobject.specs.Layout.{srv6, naiLength, sidLength, expectedLength, sidPlace, naiPlace, structurePlace, headAt}
+use Rattle.subobject.specs.Rules.{flagF, hasStructure, sumAt}
+
+-- reading ------------------------------------------------------------------------------------------------------
+
+-- What the octets at a place say, by the head found there. "Octets kept for a part that is absent or shorter are 0."
+abbrev pub segmentBy : Head → List ℕ → ℕ → Segment
+segmentBy h s at =
+    record {
+      loose = eqb (h .l) 1;
+      verify = eqb (h .v) 1;
+      nt = h .nt;
+      behaviour = be16 s (at + 6);
+      hassid = eqb (h .s) 0;
+      sid = partOf s (sidPlace at) (sidLength (h .s)) 16;
+      nai = partOf s (naiPlace at (h .s)) (naiLength (h .nt)) 40;
+      structured = hasStructure h;
+      structure = partOf s (structurePlace at (h .nt)) (cond (hasStructure h) 4 0) 4;
+    }
+
+unfoldable pub segmentAt : Bool → List ℕ → ℕ → Segment
+segmentAt ero s at = segmentBy (headAt ero s at) s at
+
+-- The segment that comes with a refusal.
+abbrev pub noSegment : Segment
+noSegment =
+    record {
+      loose = false;
+      verify = false;
+      nt = 0;
+      behaviour = 0;
+      hassid = false;
+      sid = replicate 16 0;
+      nai = replicate 40 0;
+      structured = false;
+      structure = replicate 4 0;
+    }
+
+-- writing ------------------------------------------------------------------------------------------------------
+
+abbrev pub bit : Bool → ℕ
+bit b = cond b 1 0
+
+-- The head that a segment is written with: "F follows from NT"; the length is the expected one.
+unfoldable pub headOfSegment : Segment → Head
+headOfSegment g =
+    record {
+      kind = srv6;
+      size = expectedLength (g .nt) (bit (not (g .hassid))) (bit (g .structured));
+      nt = g .nt;
+      s = bit (not (g .hassid));
+      f = flagF (g .nt);
+      t = bit (g .structured);
+      v = bit (g .verify);
+      l = bit (g .loose);
+    }
+
+-- The first eight octets. "Padding, reserved octets and unassigned bits are written as 0."
+unfoldable pub fixedOctets : Head → ℕ → List ℕ
+fixedOctets h behaviour =
+    (h .l * 128 + h .kind) ∷ h .size ∷ (h .nt * 16) ∷ (h .v * 8 + h .t * 4 + h .f * 2 + h .s) ∷ 0 ∷ 0 ∷ hi behaviour ∷ lo behaviour ∷ []
+
+-- "SID structure, 8: four bit lengths, 3 reserved, 1 flags."
+abbrev pub structureOctets : List ℕ → List ℕ
+structureOctets bits = take 4 bits ++ 0 ∷ 0 ∷ 0 ∷ 0 ∷ []
+
+-- The octets of a segment: "SID, 16, if S is 0", NAI, "SID structure, 8, if T is 1 and S is 0".
+unfoldable pub subobjectOf : Segment → List ℕ
+subobjectOf g =
+    fixedOctets (headOfSegment g) (g .behaviour)
+    ++ (take (sidLength (headOfSegment g .s)) (g .sid)
+    ++ (take (naiLength (g .nt)) (g .nai)
+    ++ cond (hasStructure (headOfSegment g)) (structureOctets (g .structure)) []))
+
+-- The sum of a segment's four bit lengths.
+unfoldable pub bitsOf : Segment → ℕ
+bitsOf g = sumAt (g .structure) 0

@@ -1,0 +1,83 @@
+// The first four octets of a subobject as numbers; the flags are 0 or 1.
+ghost use mathlib.Core.Path.{_≡_};
+ghost use mathlib.Core.Bool.{cond};
+ghost use Prim.Native.Nat.{_+_, _≤_, _<_};
+ghost use lib.ListN.{length};
+ghost use Rattle.subobject.specs.Layout.{headAt, kindOf};
+ghost use Rattle.subobject.specs.Segments.{headOfSegment};
+use super::layout;
+use super::segment::Segment;
+
+pub struct Head {
+    pub kind: usize,
+    pub size: usize,
+    pub nt: usize,
+    pub s: usize,
+    pub f: usize,
+    pub t: usize,
+    pub v: usize,
+    pub l: usize,
+}
+
+// A bit as a number.
+fn bit(b: bool) -> usize
+    ensures bit { λ r. ⌜ (r ≡ cond b 1 0) × (r ≤ 1) ⌝ }
+{
+    if b { 1 } else { 0 }
+}
+
+// The type in a first octet: in an RRO all 8 bits.
+pub fn kind(ero: bool, x: usize) -> usize
+    ensures kind { λ r. ⌜ r ≡ kindOf ero x ⌝ }
+{
+    if ero { x % 128 } else { x }
+}
+
+// A flag that an RRO ignores.
+fn only(ero: bool, x: usize) -> usize
+    ensures only { λ r. ⌜ r ≡ cond ero x 0 ⌝ }
+{
+    if ero { x } else { 0 }
+}
+
+// The head of the subobject at `at`.
+pub fn head_at(s: &[u8], at: usize, ero: bool) -> Head
+    requires { ⌜ at + 4 ≤ length (now s) ⌝ }
+    ensures read { λ r. ⌜ r ≡ headAt ero (now (s .entry)) at ⌝ }
+    ensures small { λ r. ⌜ (r .size < 256) × (r .nt < 16) ⌝ }
+{
+    let first = octets::wide(s[at]);
+    let size = octets::wide(s[at + 1]);
+    let high = octets::wide(s[at + 2]);
+    let low = octets::wide(s[at + 3]);
+    Head {
+        kind: kind(ero, first),
+        size: size,
+        nt: high / 16,
+        s: low % 2,
+        f: low / 2 % 2,
+        t: low / 4 % 2,
+        v: only(ero, low / 8 % 2),
+        l: only(ero, first / 128),
+    }
+}
+
+// The head that a segment is written with: F follows from NT, the length is the expected one.
+pub fn head_of(g: Segment) -> Head
+    ensures head { λ r. ⌜ r ≡ headOfSegment g ⌝ }
+    ensures bits { λ r. ⌜ (r .size ≤ 72) × (r .nt < 256) × (r .s ≤ 1) × (r .f ≤ 1) × (r .t ≤ 1) × (r .v ≤ 1) × (r .l ≤ 1) ⌝ }
+{
+    let nt = octets::wide(g.nt);
+    let s = bit(!g.hassid);
+    let t = bit(g.structured);
+    Head {
+        kind: layout::SRV6,
+        size: layout::expected(nt, s, t),
+        nt: nt,
+        s: s,
+        f: bit(nt == layout::NO_NAI),
+        t: t,
+        v: bit(g.verify),
+        l: bit(g.loose),
+    }
+}

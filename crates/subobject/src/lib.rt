@@ -1,0 +1,37 @@
+// One SRv6 subobject of a route (document 01, "The route object"; document 000, 4.3.1 and 5.2.1).
+//
+//   0      top bit L, low 7 bits the type 40        6-7   endpoint behaviour
+//   1      length of the whole subobject            then  SID, 16, if S is 0
+//   2-3    NT (4 bits), 12 flags; the last four     then  NAI: NT 0 none, 2 node 16, 4 adjacency 32, 6 link-local 40
+//          are V, T, F, S, with S lowest            then  SID structure, 8, if T is 1 and S is 0
+//   4-5    reserved
+//
+// Its rules refuse by 8, 9, 7, 10 and 11. In an RRO all 8 bits of the first octet are the type, V is ignored, and 10 isn't applied.
+mod head;
+mod layout;
+mod rule;
+mod segment;
+
+pub use head::Head;
+pub use head::head_at;
+pub use head::head_of;
+pub use head::kind;
+pub use layout::ADJACENCY;
+pub use layout::FIXED_LENGTH;
+pub use layout::LINK_LOCAL;
+pub use layout::MOST_BITS;
+pub use layout::NO_NAI;
+pub use layout::NODE;
+pub use layout::SID_LENGTH;
+pub use layout::SRV6;
+pub use layout::STRUCTURE_LENGTH;
+pub use layout::expected;
+pub use layout::nai_length;
+pub use rule::eight;
+pub use rule::eleven;
+pub use rule::nine;
+pub use rule::seven;
+pub use rule::structured;
+pub use rule::sum_at;
+pub use rule::ten;
+pub use segment::Segment;

@@ -1,0 +1,75 @@
+// The rules of one subobject, over its head (document 01, "Numbers answered").
+ghost use mathlib.Core.Path.{_≡_};
+ghost use Prim.Native.Nat.{_+_, _<_};
+ghost use lib.ListN.{length};
+ghost use Rattle.subobject.specs.Rules.{rule7, rule8, rule9, rule10, rule11, hasStructure, sumAt};
+use super::head::Head;
+use super::layout;
+
+// NT not 0, 2, 4, 6.
+pub fn eight(h: Head) -> bool
+    ensures broken { λ r. ⌜ r ≡ rule8 h ⌝ }
+{
+    !octets::either(
+        h.nt == layout::NO_NAI,
+        octets::either(
+            h.nt == layout::NODE,
+            octets::either(h.nt == layout::ADJACENCY, h.nt == layout::LINK_LOCAL),
+        ),
+    )
+}
+
+// S and F both 1.
+pub fn nine(h: Head) -> bool
+    ensures broken { λ r. ⌜ r ≡ rule9 h ⌝ }
+{
+    octets::both(h.s == 1, h.f == 1)
+}
+
+// F isn't 1 exactly for NT 0, or Length isn't as expected.
+pub fn seven(h: Head) -> bool
+    ensures broken { λ r. ⌜ r ≡ rule7 h ⌝ }
+{
+    octets::either(
+        h.f != octets::pick(h.nt == layout::NO_NAI, 1, 0),
+        h.size != layout::expected(h.nt, h.s, h.t),
+    )
+}
+
+// No SID, and the PCC's N is 0; not applied in an RRO.
+pub fn ten(h: Head, ero: bool, n: bool) -> bool
+    ensures broken { λ r. ⌜ r ≡ rule10 ero n h ⌝ }
+{
+    octets::both(ero, octets::both(h.s == 1, !n))
+}
+
+// Whether a SID structure is there.
+pub fn structured(h: Head) -> bool
+    ensures structured { λ r. ⌜ r ≡ hasStructure h ⌝ }
+{
+    layout::structure_there(h.s, h.t)
+}
+
+// Four bit lengths sum above 128.
+pub fn eleven(h: Head, sum: usize) -> bool
+    ensures broken { λ r. ⌜ r ≡ rule11 h sum ⌝ }
+{
+    octets::both(structured(h), sum > layout::MOST_BITS)
+}
+
+// The sum of four octets; past the end they are 0.
+pub fn sum_at(s: &[u8], at: usize) -> usize
+    requires { ⌜ at < length (now s) + 128 ⌝ }
+    ensures sum { λ r. ⌜ (r ≡ sumAt (now (s .entry)) at) × (r < 1024) ⌝ }
+{
+    if at + 4 <= s.len() {
+        return octets::wide(s[at])
+            + octets::wide(s[at + 1])
+            + octets::wide(s[at + 2])
+            + octets::wide(s[at + 3]);
+    }
+    octets::octet(s, at)
+        + octets::octet(s, at + 1)
+        + octets::octet(s, at + 2)
+        + octets::octet(s, at + 3)
+}
