@@ -15,9 +15,9 @@ impl Session {
     pub fn agree(pcc: &Answer<Open>, pce: &Answer<Open>) -> Session {
         let pcc = pcc.unwrap_or_default();
         let pce = pce.unwrap_or_default();
-        if !pcc.srv6 {
+        if !pcc.srv6 || !pce.srv6 {
             return Session::default();
         }
-        Session { agreed: pce.srv6, n: pcc.n, limit: pcc.limit }
+        Session { agreed: true, n: pcc.n, limit: pcc.limit }
     }
 }

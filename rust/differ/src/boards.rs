@@ -1,0 +1,463 @@
+//! Histories of a board kept by both sides: reports, removals, compactions, followers that come and go, and records that are no boards.
+
+use crate::objects;
+use crate::octets::{damage, hex};
+use crate::plain;
+use crate::random::Random;
+use crate::reading::{some_pst, some_session};
+use crate::tally::{Call, Tally};
+use reference::{Board, Change, Session, PLACES, PLACE_OCTETS, STORE_OCTETS};
+use std::collections::BTreeMap;
+use strundevi::raw;
+
+#[derive(Clone, Debug)]
+enum Step {
+    Report { key: u64, ero: Vec<u8>, session: Session, pst: u64 },
+    Remove { key: u64 },
+    Compact { c: u64 },
+    Body { key: u64 },
+    Next { s: u64, w: u64 },
+    /// The record gets another number at this place of one of its parts.
+    Set { part: usize, at: usize, value: u64 },
+    /// The record becomes this one.
+    Put { board: Box<Board> },
+    /// From here on the store is lent without its last octets.
+    Lend { size: usize },
+}
+
+struct Pair {
+    theirs: Board,
+    their_store: Vec<u8>,
+    ours: raw::Record,
+    our_store: Vec<u8>,
+    size: usize,
+}
+
+fn record(b: &Board) -> raw::Record {
+    raw::Record { keys: b.keys, versions: b.versions, lengths: b.lengths, version: b.version, floor: b.floor }
+}
+
+/// The record's numbers, a line for the board and one for each place in use.
+fn numbers(b: &raw::Record) -> Vec<String> {
+    let used = (0..PLACES).filter(|&i| (b.keys[i], b.versions[i], b.lengths[i]) != (0, 0, 0));
+    let places = used.map(|i| format!("place {i}: key {} version {} length {}", b.keys[i], b.versions[i], b.lengths[i]));
+    std::iter::once(format!("version {} floor {}", b.version, b.floor)).chain(places).collect()
+}
+
+fn only_left(name: &str, left: &[String], right: &[String]) -> String {
+    left.iter().filter(|line| !right.contains(line)).map(|line| format!("{name} {line}\n")).collect()
+}
+
+/// Number, kind of change, key, version, place, length.
+type Handed = (usize, usize, u64, u64, usize, usize);
+
+fn handed(answer: &reference::Answer<Change>) -> Handed {
+    match *answer {
+        Ok(Change::Path { key, version, place, length }) => (0, 1, key.into(), version, place, length),
+        Ok(Change::Removed { key, version }) => (0, 2, key.into(), version, 0, 0),
+        Ok(Change::Level { version }) => (0, 3, 0, version, 0, 0),
+        Err(refusal) => (refusal.number as usize, 0, 0, 0, 0, 0),
+    }
+}
+
+impl Pair {
+    fn new() -> Pair {
+        let store: Vec<u8> = (0..STORE_OCTETS + 8).map(|i| (i / 7) as u8).collect();
+        let mut ours = raw::Record { keys: [1; PLACES], versions: [1; PLACES], lengths: [1; PLACES], version: 1, floor: 1 };
+        raw::empty(&mut ours);
+        Pair { theirs: Board::default(), their_store: store.clone(), ours, our_store: store, size: STORE_OCTETS }
+    }
+
+    /// One step on both sides: call and number, or what differs.
+    fn step(&mut self, step: &Step) -> Result<Option<(Call, usize)>, String> {
+        let n = self.size;
+        let (call, ours, theirs) = match step {
+            Step::Report { key, ero, session, pst } => {
+                let answer = self.theirs.report(&mut self.their_store[..n], *key, ero, session, *pst);
+                let ours = raw::report(&mut self.ours, &mut self.our_store[..n], *key, ero, plain::session(session), *pst);
+                (Call::Report, plain::ours(ours), plain::theirs(&answer, |&count| count))
+            }
+            Step::Remove { key } => {
+                let answer = self.theirs.remove(&self.their_store[..n], *key);
+                (Call::Remove, plain::ours(raw::remove(&mut self.ours, &self.our_store[..n], *key)), plain::theirs(&answer, |_| 0))
+            }
+            Step::Compact { c } => {
+                let answer = self.theirs.compact(&self.their_store[..n], *c);
+                (Call::Compact, plain::ours(raw::compact(&mut self.ours, &self.our_store[..n], *c)), plain::theirs(&answer, |_| 0))
+            }
+            Step::Body { key } => {
+                let answer = self.theirs.body(&self.their_store[..n], *key);
+                let start = |body: &[u8]| body.as_ptr() as usize - self.their_store.as_ptr() as usize;
+                let theirs = answer.map_or_else(|e| (e.number as usize, 0, 0), |body| (0, start(body), body.len()));
+                let part = raw::body(&self.ours, &self.our_store[..n], *key);
+                (Call::Body, (part.number, part.start, part.length), theirs)
+            }
+            Step::Next { s, w } => {
+                let theirs = handed(&self.theirs.next(&self.their_store[..n], *s, *w));
+                let r = raw::next(&self.ours, &self.our_store[..n], *s, *w);
+                let ours = (r.number, r.kind, r.key, r.version, r.place, r.length);
+                if ours != theirs {
+                    return Err(format!("library   {ours:?}\nreference {theirs:?} (number, kind, key, version, place, length)"));
+                }
+                (Call::Next, (ours.0, 0, 0), (theirs.0, 0, 0))
+            }
+            Step::Set { part, at, value } => {
+                match part {
+                    0 => self.theirs.keys[*at] = *value as u32,
+                    1 => self.theirs.versions[*at] = *value,
+                    2 => self.theirs.lengths[*at] = *value as u16,
+                    3 => self.theirs.version = *value,
+                    _ => self.theirs.floor = *value,
+                }
+                self.ours = record(&self.theirs);
+                return Ok(None);
+            }
+            Step::Put { board } => {
+                self.theirs = **board;
+                self.ours = record(board);
+                return Ok(None);
+            }
+            Step::Lend { size } => {
+                self.size = *size;
+                return Ok(None);
+            }
+        };
+        if ours != theirs {
+            return Err(format!("library   {ours:?}\nreference {theirs:?} (number, place or start, count or length)"));
+        }
+        if self.ours != record(&self.theirs) {
+            let (ours, theirs) = (numbers(&self.ours), numbers(&record(&self.theirs)));
+            return Err(format!("the records differ\n{}", only_left("library  ", &ours, &theirs) + &only_left("reference", &theirs, &ours)));
+        }
+        if self.our_store != self.their_store {
+            let at = self.our_store.iter().zip(&self.their_store).position(|(a, b)| a != b).unwrap();
+            return Err(format!("octet {at} of the store\nlibrary   {:02X}\nreference {:02X}", self.our_store[at], self.their_store[at]));
+        }
+        Ok(Some((call, theirs.0)))
+    }
+}
+
+fn run(steps: &[Step]) -> Option<String> {
+    let mut pair = Pair::new();
+    steps.iter().find_map(|step| pair.step(step).err())
+}
+
+/// The fewest steps found that still differ.
+fn shown(mut steps: Vec<Step>) -> String {
+    let mut size = steps.len().div_ceil(2);
+    while size > 0 {
+        let mut at = 0;
+        while at < steps.len() {
+            let mut fewer = steps.clone();
+            fewer.drain(at..(at + size).min(steps.len()));
+            if run(&fewer).is_some() {
+                steps = fewer;
+            } else {
+                at += size;
+            }
+        }
+        size /= 2;
+    }
+    simplify(&mut steps);
+    let list: String = steps
+        .iter()
+        .map(|step| match step {
+            Step::Report { key, ero, session, pst } => format!("report {key} {pst} {} under {session:?}\n", hex(ero)),
+            Step::Put { board } => numbers(&record(board)).iter().map(|line| format!("  {line}\n")).collect(),
+            other => format!("{other:?}\n"),
+        })
+        .collect();
+    format!("a board\n{list}{}", run(&steps).unwrap_or_default())
+}
+
+/// The shortest route for each report, and the fewest places of a record, that still differ.
+fn simplify(steps: &mut [Step]) {
+    let short = [7, 0x10, 0, 28, 40, 24, 0, 2].into_iter().chain([0; 20]).collect::<Vec<u8>>();
+    for at in 0..steps.len() {
+        let held = steps[at].clone();
+        match &mut steps[at] {
+            Step::Report { ero, .. } => *ero = short.clone(),
+            Step::Put { .. } => {
+                for i in 0..PLACES {
+                    let held = steps[at].clone();
+                    if let Step::Put { board } = &mut steps[at] {
+                        (board.keys[i], board.versions[i], board.lengths[i]) = (0, 0, 0);
+                    }
+                    if run(steps).is_none() {
+                        steps[at] = held;
+                    }
+                }
+                continue;
+            }
+            _ => continue,
+        }
+        if run(steps).is_none() {
+            steps[at] = held;
+        }
+    }
+}
+
+/// A follower, what it holds, and whether its answers are lost now and then.
+struct Follower {
+    s: u64,
+    w: u64,
+    held: BTreeMap<u32, Vec<u8>>,
+    forgetful: bool,
+}
+
+impl Follower {
+    fn fresh(board: &Board) -> Follower {
+        let (s, w) = board.fresh_mark();
+        Follower { s, w, held: BTreeMap::new(), forgetful: false }
+    }
+
+    /// Takes what it was handed. When level it must hold what the board holds.
+    fn take(&mut self, change: &Change, pair: &Pair) -> Result<(), String> {
+        match *change {
+            Change::Path { key, version, place, length } => {
+                let start = place * PLACE_OCTETS;
+                self.held.insert(key, pair.our_store[start..start + length].to_vec());
+                self.w = version;
+            }
+            Change::Removed { key, version } => {
+                self.held.remove(&key);
+                self.w = version;
+            }
+            Change::Level { version } => {
+                let b = &pair.theirs;
+                let paths = (0..PLACES).filter(|&i| b.lengths[i] != 0);
+                let board: BTreeMap<u32, Vec<u8>> =
+                    paths.map(|i| (b.keys[i], pair.our_store[i * PLACE_OCTETS..][..b.lengths[i] as usize].to_vec())).collect();
+                if board != self.held {
+                    return Err(format!("a follower is level at {version} and does not hold what the board holds"));
+                }
+                (self.s, self.w) = (version, version);
+            }
+        }
+        Ok(())
+    }
+}
+
+/// A board that is proper, or nearly.
+fn some_board(r: &mut Random) -> Board {
+    let mut b = Board::default();
+    let top = match r.below(4) {
+        0 => 128 + r.below(100) as u64,
+        1 => u64::MAX - 1 - r.below(4) as u64,
+        _ => (r.next() >> r.below(56)).max(300) - 1,
+    };
+    b.version = top.min(u64::MAX - 1);
+    b.floor = b.version - (r.below(140) as u64).min(b.version);
+    let stride = r.of(&[1u32, 1, 256, 65_536, 7919]);
+    let mut version = b.version;
+    let filled = r.of(&[0, 1, 40, 127, 128, 128]);
+    for i in 0..filled {
+        let at = if stride == 7919 { i * 77 % PLACES } else { i };
+        b.keys[at] = 1 + (i as u32).wrapping_mul(stride) % 1_048_574;
+        b.versions[at] = version;
+        b.lengths[at] = if version > b.floor && r.one_in(3) { 0 } else { 24 + 4 * r.below(91) as u16 };
+        version -= 1 + r.below(2) as u64 * u64::from(version > 1000);
+        if version == 0 {
+            break;
+        }
+    }
+    // distinct keys also where the stride wraps round
+    for i in 0..PLACES {
+        while b.keys[i] != 0 && b.keys[..i].contains(&b.keys[i]) {
+            b.keys[i] = 1 + r.below(1_048_574) as u32;
+        }
+    }
+    b
+}
+
+fn some_set(r: &mut Random, b: &Board) -> Step {
+    let (part, at, other) = (r.below(5), r.below(PLACES), r.below(PLACES));
+    let value = match part {
+        0 => r.of(&[0, 1, 1_048_574, 1_048_575, u64::from(u32::MAX), u64::from(b.keys[other])]),
+        1 => r.of(&[0, 1, b.version, b.version.wrapping_add(1), b.floor, b.floor + 1, b.versions[other], u64::MAX]),
+        2 => r.of(&[0, 4, 20, 22, 24, 25, 380, 384, 386, 388, 65_535]),
+        3 => r.of(&[0, b.version.wrapping_sub(1), b.floor, b.floor.wrapping_sub(1), u64::MAX, u64::MAX - 1, b.versions[other]]),
+        _ => r.of(&[0, b.version, b.version.wrapping_add(1), b.versions[at], b.versions[other], u64::MAX]),
+    };
+    Step::Set { part, at, value }
+}
+
+struct History {
+    pair: Pair,
+    steps: Vec<Step>,
+    calls: usize,
+}
+
+impl History {
+    fn step(&mut self, tally: &mut Tally, step: Step) -> Result<(), String> {
+        self.steps.push(step);
+        let floor = self.pair.theirs.floor;
+        match self.pair.step(self.steps.last().unwrap()) {
+            Ok(Some((call, number))) => {
+                tally.count(call, number);
+                tally.evictions += u64::from(matches!(call, Call::Report) && self.pair.theirs.floor != floor);
+                self.calls += 1;
+                Ok(())
+            }
+            Ok(None) => Ok(()),
+            Err(_) => Err(shown(std::mem::take(&mut self.steps))),
+        }
+    }
+}
+
+fn some_key(r: &mut Random, keys: usize) -> u64 {
+    match r.below(60) {
+        0 => r.of(&[0, 1_048_575, 1_048_574, 1 << 32, (1 << 32) + 1, u64::MAX]),
+        1 => r.number(),
+        _ => 1 + (r.below(keys) as u64 * 8191) % 1_048_574,
+    }
+}
+
+/// A board's life from the empty start.
+fn life(tally: &mut Tally, r: &mut Random, most: usize) -> Result<usize, String> {
+    let keys = r.of(&[3, 20, 125, 140, 300]);
+    let removals = r.of(&[2, 4, 12]);
+    let agreed = Session { agreed: true, n: true, limit: None };
+    let mut h = History { pair: Pair::new(), steps: Vec::new(), calls: 0 };
+    let mut followers: Vec<Follower> = Vec::new();
+    while h.calls < most {
+        match r.below(24) {
+            0..=9 => {
+                let key = some_key(r, keys);
+                let most = if r.one_in(40) { 800 } else { PLACE_OCTETS };
+                let mut ero = objects::good_ero(r, most);
+                let (mut session, mut pst) = (agreed, 3);
+                if r.one_in(8) {
+                    damage(r, &mut ero);
+                }
+                if r.one_in(12) {
+                    (session, pst) = (some_session(r), some_pst(r));
+                    if r.one_in(2) {
+                        let n = r.below(6);
+                        ero = objects::route(r, true, n, 3);
+                    }
+                }
+                h.step(tally, Step::Report { key, ero, session, pst })?;
+            }
+            10..=13 if !r.one_in(removals) => {
+                let key = some_key(r, keys);
+                h.step(tally, Step::Remove { key })?;
+            }
+            14 if r.one_in(5) => {
+                let version = h.pair.theirs.version;
+                let c = match r.below(3) {
+                    0 => version.wrapping_add(r.below(3) as u64).wrapping_sub(1),
+                    1 => r.number(),
+                    _ => version - (r.below(40) as u64).min(version),
+                };
+                h.step(tally, Step::Compact { c })?;
+            }
+            15 | 16 => {
+                let key = some_key(r, keys);
+                h.step(tally, Step::Body { key })?;
+            }
+            17 if followers.len() < 4 => {
+                let mut follower = Follower::fresh(&h.pair.theirs);
+                follower.forgetful = r.one_in(2);
+                followers.push(follower);
+            }
+            18 if r.one_in(12) && !followers.is_empty() => {
+                let gone = r.below(followers.len());
+                followers.swap_remove(gone);
+            }
+            19 => {
+                let version = h.pair.theirs.version as usize;
+                let mut near = || (version + 2).saturating_sub(r.below(12)) as u64;
+                let (s, w) = (near(), near());
+                h.step(tally, Step::Next { s, w })?;
+            }
+            20 if r.one_in(40) => {
+                h.step(tally, Step::Lend { size: r.of(&[0, 1, STORE_OCTETS - 1, STORE_OCTETS - 384]) })?;
+                let key = some_key(r, keys);
+                let step = r.below(5);
+                let ero = objects::good_ero(r, PLACE_OCTETS);
+                h.step(
+                    tally,
+                    match step {
+                        0 => Step::Report { key, ero, session: agreed, pst: 3 },
+                        1 => Step::Remove { key },
+                        2 => Step::Compact { c: 0 },
+                        3 => Step::Body { key },
+                        _ => Step::Next { s: 0, w: 0 },
+                    },
+                )?;
+                h.step(tally, Step::Lend { size: STORE_OCTETS + r.of(&[0, 0, 1, 8]) })?;
+            }
+            _ if !followers.is_empty() => {
+                let at = r.below(followers.len());
+                for _ in 0..r.of(&[1, 3, 140]) {
+                    let (s, w) = (followers[at].s, followers[at].w);
+                    h.step(tally, Step::Next { s, w })?;
+                    match h.pair.theirs.next(&h.pair.their_store, s, w) {
+                        Ok(change) => {
+                            if followers[at].forgetful && r.one_in(20) {
+                                break;
+                            }
+                            followers[at].take(&change, &h.pair).map_err(|text| format!("{text}\n{}", shown(std::mem::take(&mut h.steps))))?;
+                            if matches!(change, Change::Level { .. }) {
+                                tally.level += 1;
+                                break;
+                            }
+                        }
+                        Err(_) => {
+                            followers[at] = Follower::fresh(&h.pair.theirs);
+                            break;
+                        }
+                    }
+                }
+            }
+            _ => {}
+        }
+    }
+    Ok(h.calls)
+}
+
+/// Records made up, and each call on them.
+fn records(tally: &mut Tally, r: &mut Random) -> Result<usize, String> {
+    let mut h = History { pair: Pair::new(), steps: Vec::new(), calls: 0 };
+    let board = some_board(r);
+    h.step(tally, Step::Put { board: Box::new(board) })?;
+    for _ in 0..r.of(&[0, 0, 1, 1, 2]) {
+        let set = some_set(r, &h.pair.theirs);
+        h.step(tally, set)?;
+    }
+    let agreed = Session { agreed: true, n: true, limit: None };
+    for _ in 0..6 {
+        let b = h.pair.theirs;
+        let known = u64::from(b.keys[r.below(PLACES)]);
+        let key = if r.one_in(3) { some_key(r, 300) } else { known };
+        let near = |r: &mut Random| match r.below(4) {
+            0 => b.versions[r.below(PLACES)],
+            1 => b.floor.wrapping_add(r.below(3) as u64).wrapping_sub(1),
+            2 => b.version.wrapping_add(r.below(3) as u64).wrapping_sub(1),
+            _ => r.number(),
+        };
+        let step = match r.below(6) {
+            0 | 1 => Step::Report { key, ero: objects::good_ero(r, PLACE_OCTETS), session: agreed, pst: 3 },
+            2 => Step::Remove { key },
+            3 => Step::Compact { c: near(r) },
+            4 => Step::Body { key },
+            _ => Step::Next { s: near(r), w: near(r) },
+        };
+        h.step(tally, step)?;
+    }
+    Ok(h.calls)
+}
+
+/// So many calls of a board.
+pub fn calls(tally: &mut Tally, r: &mut Random, n: usize) -> Result<(), String> {
+    let mut done = 0;
+    while done < n {
+        let most = r.of(&[40, 400, 3000]);
+        done += life(tally, r, most)?;
+        for _ in 0..200 {
+            done += records(tally, r)?;
+        }
+    }
+    Ok(())
+}

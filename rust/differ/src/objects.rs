@@ -1,0 +1,157 @@
+//! Made-up OPEN and route objects: good ones, and ones in which a rule is broken on purpose.
+
+use crate::octets::seal;
+use crate::random::Random;
+
+/// An item with its padding.
+fn item(kind: u16, value: &[u8], padding: impl FnMut() -> u8) -> Vec<u8> {
+    let mut octets = kind.to_be_bytes().to_vec();
+    octets.extend_from_slice(&(value.len() as u16).to_be_bytes());
+    octets.extend_from_slice(value);
+    let missing = (4 - value.len() % 4) % 4;
+    octets.extend(std::iter::repeat_with(padding).take(missing));
+    octets
+}
+
+fn capability(r: &mut Random) -> Vec<u8> {
+    let mut value = r.octets(4);
+    value[3] &= if r.one_in(4) { 0xff } else { 0xfe };
+    for _ in 0..r.of(&[0, 1, 1, 1, 2, 3, 8]) {
+        let kind = if r.one_in(12) { r.octet() } else { r.of(&[41, 42, 44, 45]) };
+        let value_of = if r.one_in(4) { r.octet() } else { r.below(12) as u8 };
+        value.extend_from_slice(&[kind, value_of]);
+    }
+    if r.one_in(20) {
+        value.truncate(r.below(value.len() + 1));
+    }
+    value
+}
+
+fn setup(r: &mut Random) -> Vec<u8> {
+    let mut value = r.octets(3);
+    let count = if r.one_in(50) { r.below(256) } else { r.below(7) };
+    value.push(count as u8);
+    let mut types: Vec<u8> = (0..count).map(|_| r.of(&[0, 1, 2, 4])).collect();
+    if count > 0 && !r.one_in(5) {
+        let at = r.below(count);
+        types[at] = 3;
+    }
+    types.resize(count.div_ceil(4) * 4, if r.one_in(4) { 3 } else { 0 });
+    value.extend_from_slice(&types);
+    let mut last = 0;
+    for _ in 0..r.of(&[0, 1, 1, 1, 2, 3]) {
+        let kind = if r.one_in(4) { r.of(&[26, 0, 34, 28, 0x1b00]) } else { 27 };
+        let inner = if kind == 27 || r.one_in(2) { capability(r) } else { r.octets(5) };
+        last = (4 - inner.len() % 4) % 4;
+        let fill = r.octet();
+        value.extend_from_slice(&item(kind, &inner, || fill));
+    }
+    if !r.one_in(3) {
+        let cut = r.below(last + 1);
+        value.truncate(value.len() - cut);
+    }
+    value
+}
+
+/// An OPEN object that keeps the outer rules.
+pub fn open(r: &mut Random) -> Vec<u8> {
+    let mut octets = vec![1, 0x10 | r.octet() & 15, 0, 0, 0x20 | r.octet() & 31, r.octet(), r.octet(), r.octet()];
+    let before = r.of(&[0, 0, 0, 1, 2]);
+    for _ in 0..before {
+        let size = r.below(9);
+        let kind = r.of(&[0, 9, 35, 27, 0x2200]);
+        let value = r.octets(size);
+        octets.extend_from_slice(&item(kind, &value, || 0));
+    }
+    if !r.one_in(12) {
+        let value = setup(r);
+        let fill = r.octet();
+        octets.extend_from_slice(&item(34, &value, || fill));
+    }
+    if r.one_in(4) {
+        let value = if r.one_in(2) { setup(r) } else { r.octets(7) };
+        octets.extend_from_slice(&item(r.of(&[34, 34, 16]), &value, || 0));
+    }
+    seal(&mut octets);
+    octets
+}
+
+/// A subobject; one in `faults` has something wrong with it.
+fn subobject(r: &mut Random, ero: bool, faults: usize) -> Vec<u8> {
+    let nt = r.of(&[0u8, 0, 2, 4, 6]);
+    let mut s = nt != 0 && r.one_in(4);
+    let mut f = nt == 0;
+    let t = r.one_in(3);
+    let (mut kind, mut named) = (40u8, nt);
+    if ero && r.one_in(6) {
+        kind |= 0x80;
+    }
+    let mut length_off = 0i32;
+    let mut bits = [r.below(40) as u8, r.below(33) as u8, r.below(33) as u8, r.below(25) as u8];
+    if r.one_in(faults) {
+        match r.below(8) {
+            0 => named = r.below(16) as u8,
+            1 => (s, f) = (true, true),
+            2 => f = !f,
+            3 => length_off = r.of(&[-16, -8, -4, 4, 8, 16, 1, 2]),
+            4 => bits = [r.octet(), r.octet(), r.octet(), r.octet()],
+            5 => bits = r.of(&[[64; 4], [128, 0, 0, 0], [128, 0, 0, 1], [255, 255, 255, 255], [40, 24, 16, 48], [40, 24, 16, 49], [0, 0, 0, 129]]),
+            6 => kind = r.of(&[1, 2, 32, 36, 39, 41, 0xa8, 0xa4]),
+            _ => s = true,
+        }
+    }
+    let ignored = r.of(&[0, 0, 0xf0, 0xff]);
+    let flags = s as u8 | (f as u8) << 1 | (t as u8) << 2 | (r.one_in(4) as u8) << 3 | r.octet() & ignored & 0xf0;
+    let mut octets = vec![kind, 0, named << 4 | r.octet() & ignored & 15, flags, r.octet() & ignored, r.octet() & ignored, r.octet(), r.octet()];
+    if !s {
+        octets.extend_from_slice(&r.octets(16));
+    }
+    let nai = match nt {
+        0 => 0,
+        2 => 16,
+        4 => 32,
+        _ => 40,
+    };
+    octets.extend_from_slice(&r.octets(nai));
+    if t && !s {
+        octets.extend_from_slice(&bits);
+        octets.extend(r.octets(4).into_iter().map(|o| o & ignored));
+    }
+    octets[1] = (octets.len() as i32 + length_off) as u8;
+    if length_off != 0 && r.one_in(2) {
+        octets.resize(octets[1] as usize, 0);
+    }
+    octets
+}
+
+/// A route object of `n` subobjects.
+pub fn route(r: &mut Random, ero: bool, n: usize, faults: usize) -> Vec<u8> {
+    let mut octets = vec![if ero { 7 } else { 8 }, 0x10 | r.octet() & 15, 0, 0];
+    for _ in 0..n {
+        let sub = subobject(r, ero, faults);
+        if octets.len() + sub.len() > 65_532 {
+            break;
+        }
+        octets.extend_from_slice(&sub);
+    }
+    if faults != usize::MAX && r.one_in(30) {
+        let mut at = 4;
+        while at + 1 < octets.len() {
+            octets[at] = r.of(&[1, 32, 36]);
+            at += (octets[at + 1] as usize).max(1);
+        }
+    }
+    seal(&mut octets);
+    octets
+}
+
+/// An ERO that breaks no rule under an agreed session without a limit, with a body of at most `most` octets.
+pub fn good_ero(r: &mut Random, most: usize) -> Vec<u8> {
+    loop {
+        let n = 1 + r.below(8);
+        let octets = route(r, true, n, usize::MAX);
+        if octets.len() - 4 <= most {
+            return octets;
+        }
+    }
+}

@@ -1,0 +1,294 @@
+//! OPEN and route objects, read by both sides.
+
+use crate::objects;
+use crate::octets::{damage, hex, seal, shrink};
+use crate::plain;
+use crate::random::Random;
+use crate::tally::{Call, Tally};
+use reference::{Answer, Open, Session};
+use strundevi::raw;
+
+const O: &str = "01100020201E7807002200120000000103000000001B0006000000002C040000";
+const E: &str = "0710001C281800020000000120010DB8000000010000000000000001";
+
+fn octets(hex: &str) -> Vec<u8> {
+    (0..hex.len()).step_by(2).map(|i| u8::from_str_radix(&hex[i..i + 2], 16).unwrap()).collect()
+}
+
+// ---- OPEN
+
+type OpenFacts = (usize, u8, u8, u8, usize);
+
+fn our_open(s: &[u8]) -> OpenFacts {
+    let r = raw::read_open(s);
+    (r.number, r.srv6, r.n, r.limited, r.limit)
+}
+
+fn their_open(s: &[u8]) -> OpenFacts {
+    match reference::read_open(s) {
+        Ok(o) => (0, o.srv6 as u8, o.n as u8, o.limit.is_some() as u8, o.limit.unwrap_or(0)),
+        Err(refusal) => (refusal.number as usize, 0, 0, 0, 0),
+    }
+}
+
+pub fn check_open(tally: &mut Tally, s: &[u8]) -> Result<(), String> {
+    let theirs = their_open(s);
+    tally.count(Call::Open, theirs.0);
+    if our_open(s) == theirs {
+        return Ok(());
+    }
+    let small = shrink(s.to_vec(), |s| our_open(s) != their_open(s));
+    Err(format!("pcc {}\nlibrary   {:?}\nreference {:?} (number, SRv6, N, limited, limit)", hex(&small), our_open(&small), their_open(&small)))
+}
+
+fn raw_opened(o: &Answer<Open>) -> raw::Opened {
+    match o {
+        Ok(o) => raw::Opened { number: 0, srv6: o.srv6 as u8, n: o.n as u8, limited: o.limit.is_some() as u8, limit: o.limit.unwrap_or(0) },
+        Err(refusal) => raw::Opened { number: refusal.number as usize, srv6: 0, n: 0, limited: 0, limit: 0 },
+    }
+}
+
+/// The session of two answers, and the same with the refused side's other fields filled with what must not count.
+fn check_session(r: &mut Random, pcc: &Answer<Open>, pce: &Answer<Open>) -> Result<(), String> {
+    let theirs = Session::agree(pcc, pce);
+    let mut ours = [raw_opened(pcc), raw_opened(pce)];
+    if r.one_in(2) {
+        for side in &mut ours {
+            if side.number != 0 {
+                *side = raw::Opened { number: side.number, srv6: r.octet(), n: r.octet(), limited: r.octet(), limit: r.below(9) };
+            }
+            if side.limited == 0 {
+                side.limit = r.below(9);
+            }
+        }
+    }
+    let agreed = raw::agree(ours[0], ours[1]);
+    let expected = plain::session(&theirs);
+    if (agreed.agreed, agreed.n, agreed.limited, agreed.limit) != (expected.agreed, expected.n, expected.limited, expected.limit) {
+        return Err(format!("session of {pcc:?} and {pce:?}\nlibrary   {} {} {} {}\nreference {theirs:?}", agreed.agreed, agreed.n, agreed.limited, agreed.limit));
+    }
+    Ok(())
+}
+
+// ---- routes
+
+#[derive(Clone, Copy)]
+pub struct Question {
+    pub ero: bool,
+    pub session: Session,
+    pub pst: u64,
+    pub i: u64,
+}
+
+pub fn some_session(r: &mut Random) -> Session {
+    if r.one_in(12) {
+        return Session::default();
+    }
+    let limit = match r.below(6) {
+        0..=2 => None,
+        3 => Some(r.below(4)),
+        4 => Some(r.below(256)),
+        _ => Some(r.number() as usize),
+    };
+    Session { agreed: !r.one_in(20), n: !r.one_in(3), limit }
+}
+
+pub fn some_pst(r: &mut Random) -> u64 {
+    if r.one_in(16) {
+        return r.of(&[0, 1, 2, 4, 3 << 8, 3 + (1 << 32), 3 + (1 << 8), u64::MAX, 1 << 63]);
+    }
+    3
+}
+
+fn question(r: &mut Random, ero: bool) -> Question {
+    let i = match r.below(3) {
+        0 => 0,
+        1 => r.below(8) as u64,
+        _ => r.number(),
+    };
+    Question { ero, session: some_session(r), pst: some_pst(r), i }
+}
+
+fn our_judge(s: &[u8], q: &Question) -> plain::Verdict {
+    plain::ours(raw::judge(s, q.ero as u8, plain::session(&q.session), q.pst))
+}
+
+fn their_judge(s: &[u8], q: &Question) -> plain::Verdict {
+    plain::theirs(&reference::judge(s, plain::kind(q.ero), &q.session, q.pst), |&count| count)
+}
+
+type Picked = (plain::Verdict, Option<reference::Segment>);
+
+fn our_segment(s: &[u8], q: &Question) -> Picked {
+    let r = raw::segment(s, q.ero as u8, plain::session(&q.session), q.pst, q.i);
+    (plain::ours(r.verdict), plain::segment_back(&r.segment))
+}
+
+/// A refusal hands back the segment that says nothing; an acceptance carries the number of segments.
+fn their_segment(s: &[u8], q: &Question) -> Picked {
+    let r = reference::segment(s, plain::kind(q.ero), &q.session, q.pst, q.i);
+    let (_, _, count) = their_judge(s, q);
+    (plain::theirs(&r, |_| count), Some(r.unwrap_or_default()))
+}
+
+fn shown(s: &[u8], q: &Question) -> String {
+    format!("{} {} {} under {:?}, segment {}", if q.ero { "ero" } else { "rro" }, q.pst, hex(s), q.session, q.i)
+}
+
+pub fn check_route(tally: &mut Tally, s: &[u8], q: &Question) -> Result<(), String> {
+    let theirs = their_judge(s, q);
+    tally.count(if q.ero { Call::Ero } else { Call::Rro }, theirs.0);
+    if our_judge(s, q) != theirs {
+        let small = shrink(s.to_vec(), |s| our_judge(s, q) != their_judge(s, q));
+        let (ours, theirs) = (our_judge(&small, q), their_judge(&small, q));
+        return Err(format!("{}\nlibrary   {ours:?}\nreference {theirs:?} (number, place, count)", shown(&small, q)));
+    }
+    let picked = their_segment(s, q);
+    tally.count(Call::Segment, picked.0 .0);
+    if our_segment(s, q) != picked {
+        let small = shrink(s.to_vec(), |s| our_segment(s, q) != their_segment(s, q));
+        let (ours, theirs) = (our_segment(&small, q), their_segment(&small, q));
+        return Err(format!("{}\nlibrary   {ours:?}\nreference {theirs:?}", shown(&small, q)));
+    }
+    Ok(())
+}
+
+/// The wrapper says what the archive says.
+fn check_wrapper(s: &[u8], q: &Question) -> Result<(), String> {
+    let (kind, session) = (plain::safe_kind(q.ero), plain::safe_session(&q.session));
+    let plainly = |r: strundevi::Result<usize>| r.map_or_else(|e| (e.number as usize, e.place, 0), |count| (0, 0, count));
+    let judged = plainly(strundevi::judge(s, kind, &session, q.pst));
+    if judged != their_judge(s, q) {
+        return Err(format!("{}\nwrapper   {judged:?}\nreference {:?}", shown(s, q), their_judge(s, q)));
+    }
+    let picked = strundevi::segment(s, kind, &session, q.pst, q.i);
+    let theirs = reference::segment(s, plain::kind(q.ero), &q.session, q.pst, q.i);
+    let same = match (&picked, &theirs) {
+        (Ok(a), Ok(b)) => *a == plain::safe_segment(b),
+        (Err(a), Err(b)) => (a.number as u8, a.place) == (b.number, b.place),
+        _ => false,
+    };
+    if !same {
+        return Err(format!("{}\nwrapper   {picked:?}\nreference {theirs:?}", shown(s, q)));
+    }
+    Ok(())
+}
+
+// ---- every prefix, every octet, every inner length
+
+/// The object with its first n octets only; with each octet at each value; with each pair of octets at each small number; header mended or not.
+fn around(sample: &[u8], mut look: impl FnMut(&[u8]) -> Result<(), String>) -> Result<(), String> {
+    for n in 0..=sample.len() {
+        let mut part = sample[..n].to_vec();
+        look(&part)?;
+        seal(&mut part);
+        look(&part)?;
+    }
+    let mut object = sample.to_vec();
+    for at in 0..object.len().min(160) {
+        let held = object[at];
+        for value in 0..=255 {
+            object[at] = value;
+            look(&object)?;
+        }
+        object[at] = held;
+    }
+    for at in 0..object.len().saturating_sub(1).min(160) {
+        let held = [object[at], object[at + 1]];
+        for value in (0..72u16).chain([255, 256, 0x7fff, 0xffff]) {
+            object[at..at + 2].copy_from_slice(&value.to_be_bytes());
+            look(&object)?;
+        }
+        object[at..at + 2].copy_from_slice(&held);
+    }
+    Ok(())
+}
+
+fn sample_routes(r: &mut Random) -> Vec<(bool, Vec<u8>)> {
+    let e = octets(E);
+    let mut samples = vec![(true, e.clone())];
+    let mut rro = e;
+    rro[0] = 8;
+    samples.push((false, rro));
+    for n in [1, 1, 2, 2, 3, 5] {
+        for ero in [true, false] {
+            samples.push((ero, objects::route(r, ero, n, usize::MAX)));
+        }
+    }
+    samples
+}
+
+/// All the objects on either side of good samples.
+pub fn exhaust(tally: &mut Tally, r: &mut Random) -> Result<(), String> {
+    let mut opens = vec![octets(O)];
+    while opens.len() < 8 {
+        let open = objects::open(r);
+        if reference::read_open(&open).is_ok_and(|o| o.srv6) {
+            opens.push(open);
+        }
+    }
+    for sample in &opens {
+        around(sample, |s| check_open(tally, s))?;
+    }
+    let free = Session { agreed: true, n: true, limit: None };
+    for (ero, sample) in sample_routes(r) {
+        for session in [free, Session { n: false, limit: Some(1), ..free }] {
+            around(&sample, |s| check_route(tally, s, &Question { ero, session, pst: 3, i: 1 }))?;
+        }
+    }
+    Ok(())
+}
+
+/// So many OPEN objects made up, and the sessions of each with the one before it.
+pub fn opens(tally: &mut Tally, r: &mut Random, n: usize) -> Result<(), String> {
+    let mut before = reference::read_open(&octets(O));
+    for _ in 0..n {
+        let mut object = if r.one_in(10) {
+            let size = r.below(64);
+            r.octets(size)
+        } else {
+            objects::open(r)
+        };
+        if r.one_in(2) {
+            for _ in 0..r.of(&[1, 1, 2, 3]) {
+                damage(r, &mut object);
+            }
+        }
+        check_open(tally, &object)?;
+        let answer = reference::read_open(&object);
+        check_session(r, &answer, &before)?;
+        before = answer;
+    }
+    Ok(())
+}
+
+/// So many routes made up.
+pub fn routes(tally: &mut Tally, r: &mut Random, n: usize) -> Result<(), String> {
+    for turn in 0..n {
+        let ero = !r.one_in(3);
+        let count = match r.below(1000) {
+            0 => 2729,
+            1..=10 => r.below(200),
+            _ => r.of(&[0, 1, 1, 1, 2, 2, 3, 4, 5, 6, 9, 17]),
+        };
+        let mut object = if r.one_in(20) {
+            let size = r.below(80);
+            r.octets(size)
+        } else {
+            let faults = r.of(&[4, 12, 60, usize::MAX]);
+            objects::route(r, ero, count, faults)
+        };
+        if r.one_in(3) {
+            for _ in 0..r.of(&[1, 1, 2, 3]) {
+                damage(r, &mut object);
+            }
+        }
+        let asked = if r.one_in(30) { !ero } else { ero };
+        let q = question(r, asked);
+        check_route(tally, &object, &q)?;
+        if turn % 16 == 0 {
+            check_wrapper(&object, &q)?;
+        }
+    }
+    Ok(())
+}

@@ -1,0 +1,80 @@
+//! How often each call answered each number. A number that a call can answer and never did is a hole in the generator.
+
+use std::fmt;
+
+#[derive(Clone, Copy)]
+pub enum Call {
+    Open,
+    Ero,
+    Rro,
+    Segment,
+    Begin,
+    Add,
+    Finish,
+    Report,
+    Remove,
+    Compact,
+    Body,
+    Next,
+}
+
+const CALLS: [(&str, &[usize]); 12] = [
+    ("open", &[0, 1, 2, 3]),
+    ("ero", &[0, 4, 5, 6, 7, 8, 9, 10, 11, 12, 13, 14]),
+    ("rro", &[0, 4, 5, 6, 7, 8, 9, 11, 13, 14]),
+    ("segment", &[0, 4, 5, 6, 7, 8, 9, 10, 11, 12, 13, 14, 15]),
+    ("begin", &[0, 16]),
+    ("add", &[0, 7, 8, 9, 11, 16]),
+    ("finish", &[0, 5, 16]),
+    ("report", &[0, 4, 5, 6, 7, 8, 9, 10, 11, 12, 13, 14, 17, 18, 19, 20, 21]),
+    ("remove", &[0, 17, 18, 20, 22]),
+    ("compact", &[0, 17, 24]),
+    ("body", &[0, 17, 18, 22]),
+    ("next", &[0, 17, 23, 24]),
+];
+
+#[derive(Default)]
+pub struct Tally {
+    counts: [[u64; 25]; CALLS.len()],
+    /// Reports that took the place of the oldest removal.
+    pub evictions: u64,
+    /// Times that a follower was level, and held what the board held.
+    pub level: u64,
+}
+
+impl Tally {
+    pub fn count(&mut self, call: Call, number: usize) {
+        self.counts[call as usize][number] += 1;
+    }
+
+    pub fn calls(&self, calls: &[Call]) -> u64 {
+        calls.iter().flat_map(|&call| self.counts[call as usize].iter()).sum()
+    }
+
+    /// Answers that never came up.
+    pub fn missing(&self) -> Vec<String> {
+        let never = |&(i, n): &(usize, usize)| self.counts[i][n] == 0;
+        let all = CALLS.iter().enumerate().flat_map(|(i, (_, numbers))| numbers.iter().map(move |&n| (i, n)));
+        let mut missing: Vec<String> = all.filter(never).map(|(i, n)| format!("{} {n}", CALLS[i].0)).collect();
+        if self.evictions == 0 {
+            missing.push("a report in a removal's place".to_string());
+        }
+        if self.level == 0 {
+            missing.push("a follower that is level".to_string());
+        }
+        missing
+    }
+}
+
+impl fmt::Display for Tally {
+    fn fmt(&self, f: &mut fmt::Formatter<'_>) -> fmt::Result {
+        for (counts, (name, _)) in self.counts.iter().zip(CALLS) {
+            write!(f, "{name:8}")?;
+            for (number, count) in counts.iter().enumerate().filter(|(_, &count)| count > 0) {
+                write!(f, " {number}:{count}")?;
+            }
+            writeln!(f)?;
+        }
+        writeln!(f, "{} reports in a removal's place, {} times a follower was level", self.evictions, self.level)
+    }
+}

@@ -1,0 +1,180 @@
+//! Routes written by both sides into equal buffers.
+
+use crate::octets::hex;
+use crate::plain;
+use crate::random::Random;
+use crate::tally::{Call, Tally};
+use reference::{Kind, Segment, Writer};
+use strundevi::raw;
+
+#[derive(Clone, Debug)]
+enum Step {
+    Begin { ero: bool },
+    Add { segment: Segment, flag: u8 },
+    Finish,
+    /// The caller comes back with another state.
+    Resume { ero: bool, at: usize },
+}
+
+fn some_segment(r: &mut Random, ero: bool) -> Segment {
+    let nt = if r.one_in(25) { r.octet() } else { r.of(&[0, 0, 2, 4, 6]) };
+    let nai = match nt {
+        2 => 16,
+        4 => 32,
+        6 => 40,
+        _ => 0,
+    };
+    let has_sid = if nt == 0 { !r.one_in(25) } else { !r.one_in(4) };
+    let structured = if has_sid { r.one_in(3) } else { r.one_in(25) };
+    let mut s = Segment {
+        loose: ero && r.one_in(3) || r.one_in(25),
+        verify: ero && r.one_in(3) || r.one_in(25),
+        nt,
+        behaviour: r.next() as u16,
+        has_sid,
+        structured,
+        ..Segment::default()
+    };
+    if has_sid {
+        s.sid.copy_from_slice(&r.octets(16));
+    } else if r.one_in(20) {
+        s.sid[r.below(16)] = 1;
+    }
+    s.nai[..nai].copy_from_slice(&r.octets(nai));
+    if nai < 40 && r.one_in(20) {
+        s.nai[nai + r.below(40 - nai)] = 128;
+    }
+    if structured {
+        s.structure = match r.below(6) {
+            0 => r.of(&[[64; 4], [40, 24, 16, 48], [40, 24, 16, 49], [255; 4], [128, 0, 0, 0], [0, 0, 0, 129]]),
+            1 => [r.octet() / 2, r.octet() / 4, r.octet() / 8, r.octet() / 8],
+            _ => [r.below(33) as u8, r.below(33) as u8, r.below(33) as u8, r.below(33) as u8],
+        };
+    } else if r.one_in(25) {
+        s.structure[r.below(4)] = 1;
+    }
+    s
+}
+
+fn some_step(r: &mut Random, ero: bool, size: usize) -> Step {
+    match r.below(20) {
+        0 => Step::Begin { ero: r.one_in(2) },
+        1 | 2 => Step::Finish,
+        3 => {
+            let at = match r.below(5) {
+                0 => r.below(10),
+                1 => size.wrapping_add(r.below(9)).wrapping_sub(4),
+                2 => 65_520 + r.below(24),
+                3 => r.number() as usize,
+                _ => r.below(size + 8) / 4 * 4,
+            };
+            Step::Resume { ero: r.one_in(2), at }
+        }
+        _ => {
+            let segment = some_segment(r, ero);
+            Step::Add { segment, flag: r.of(&[1, 1, 1, 2, 128, 255]) }
+        }
+    }
+}
+
+/// The two sides' writers and buffers.
+struct Pair {
+    theirs: Writer,
+    their_buffer: Vec<u8>,
+    ours: raw::Writer,
+    our_buffer: Vec<u8>,
+}
+
+impl Pair {
+    fn new(size: usize) -> Pair {
+        let buffer: Vec<u8> = (0..size).map(|i| 0xEE ^ i as u8).collect();
+        Pair { theirs: Writer { kind: Kind::Ero, at: 0 }, their_buffer: buffer.clone(), ours: raw::Writer { ero: 1, at: 0 }, our_buffer: buffer }
+    }
+
+    /// One step on both sides: the number, or what differs.
+    fn step(&mut self, step: &Step) -> Result<usize, String> {
+        let (answer, written) = match step {
+            Step::Resume { ero, at } => {
+                self.theirs = Writer { kind: plain::kind(*ero), at: *at };
+                self.ours = raw::Writer { ero: *ero as u8, at: *at };
+                return Ok(0);
+            }
+            Step::Begin { ero } => (Writer::begin(&mut self.their_buffer, plain::kind(*ero)), raw::begin(&mut self.our_buffer, self.ours, *ero as u8)),
+            Step::Add { segment, flag } => {
+                let mut s = plain::segment(segment);
+                s.loose *= flag;
+                s.verify *= flag;
+                s.hassid *= flag;
+                s.structured *= flag;
+                (self.theirs.add(&mut self.their_buffer, segment), raw::add(&mut self.our_buffer, self.ours, s))
+            }
+            Step::Finish => (self.theirs.finish(&mut self.their_buffer), raw::finish(&mut self.our_buffer, self.ours)),
+        };
+        let verdict = plain::theirs(&answer, |_| 0);
+        self.theirs = answer.unwrap_or(self.theirs);
+        self.ours = written.writer;
+        let expected = ((self.theirs.kind == Kind::Ero) as u8, self.theirs.at);
+        let ours = plain::ours(written.verdict);
+        if ours != verdict || (self.ours.ero, self.ours.at) != expected {
+            return Err(format!("library   {ours:?}, writer {} {}\nreference {verdict:?}, writer {} {}", self.ours.ero, self.ours.at, expected.0, expected.1));
+        }
+        if self.our_buffer != self.their_buffer {
+            let at = self.our_buffer.iter().zip(&self.their_buffer).position(|(a, b)| a != b).unwrap();
+            let end = (at + 48).min(self.our_buffer.len());
+            return Err(format!("octet {at} of the buffer\nlibrary   {}\nreference {}", hex(&self.our_buffer[at..end]), hex(&self.their_buffer[at..end])));
+        }
+        Ok(verdict.0)
+    }
+}
+
+fn run(size: usize, steps: &[Step]) -> Option<String> {
+    let mut pair = Pair::new(size);
+    steps.iter().find_map(|step| pair.step(step).err())
+}
+
+/// The fewest steps found that still differ.
+fn shown(size: usize, mut steps: Vec<Step>) -> String {
+    let mut at = 0;
+    while at < steps.len() {
+        let mut fewer = steps.clone();
+        fewer.remove(at);
+        if run(size, &fewer).is_some() {
+            steps = fewer;
+        } else {
+            at += 1;
+        }
+    }
+    let list: String = steps.iter().map(|step| format!("{step:?}\n")).collect();
+    format!("a buffer of {size} octets\n{list}{}", run(size, &steps).unwrap_or_default())
+}
+
+/// So many steps, in runs over buffers of all sizes.
+pub fn steps(tally: &mut Tally, r: &mut Random, n: usize) -> Result<(), String> {
+    let mut done = 0;
+    while done < n {
+        let size = match r.below(40) {
+            0 => 65_480 + r.below(70),
+            1..=4 => r.below(8),
+            _ => r.below(700),
+        };
+        let mut ero = r.one_in(2);
+        let mut pair = Pair::new(size);
+        let mut steps = Vec::new();
+        for turn in 0..r.below(40) {
+            let step = if turn == 0 { Step::Begin { ero } } else { some_step(r, ero, size) };
+            if let Step::Begin { ero: kind } | Step::Resume { ero: kind, .. } = step {
+                ero = kind;
+            }
+            steps.push(step.clone());
+            let number = pair.step(&step).map_err(|_| shown(size, steps.clone()))?;
+            match step {
+                Step::Begin { .. } => tally.count(Call::Begin, number),
+                Step::Add { .. } => tally.count(Call::Add, number),
+                Step::Finish => tally.count(Call::Finish, number),
+                Step::Resume { .. } => {}
+            }
+            done += 1;
+        }
+    }
+    Ok(())
+}

@@ -1,0 +1,263 @@
+//! The archive's own functions and records, and the only unsafe code of this crate.
+//!
+//! What the archive asks of a caller, and how it is kept here: every pointer is that of a reference or a slice, so it is not null, it is good for
+//! the length given, and no two that a call may write through overlap; every record is laid out as in include/strundevi.h. Flags are octets:
+//! 0 is no and every other number yes, so no value of a record is out of range.
+#![allow(unsafe_code)]
+
+pub const PLACES: usize = 128;
+
+#[repr(C)]
+#[derive(Clone, Copy)]
+pub struct Verdict {
+    pub number: usize,
+    pub place: usize,
+    pub count: usize,
+}
+
+#[repr(C)]
+#[derive(Clone, Copy)]
+pub struct Opened {
+    pub number: usize,
+    pub srv6: u8,
+    pub n: u8,
+    pub limited: u8,
+    pub limit: usize,
+}
+
+#[repr(C)]
+#[derive(Clone, Copy)]
+pub struct Session {
+    pub agreed: u8,
+    pub n: u8,
+    pub limited: u8,
+    pub limit: usize,
+}
+
+#[repr(C)]
+#[derive(Clone, Copy)]
+pub struct Segment {
+    pub loose: u8,
+    pub verify: u8,
+    pub nt: u8,
+    pub behaviour: u16,
+    pub hassid: u8,
+    pub sid: [u8; 16],
+    pub nai: [u8; 40],
+    pub structured: u8,
+    pub structure: [u8; 4],
+}
+
+#[repr(C)]
+#[derive(Clone, Copy)]
+pub struct Picked {
+    pub verdict: Verdict,
+    pub segment: Segment,
+}
+
+#[repr(C)]
+#[derive(Clone, Copy)]
+pub struct Writer {
+    pub ero: u8,
+    pub at: usize,
+}
+
+#[repr(C)]
+#[derive(Clone, Copy)]
+pub struct Written {
+    pub verdict: Verdict,
+    pub writer: Writer,
+}
+
+#[repr(C)]
+#[derive(Clone, Copy)]
+pub struct Part {
+    pub number: usize,
+    pub start: usize,
+    pub length: usize,
+}
+
+#[repr(C)]
+#[derive(Clone, Copy)]
+pub struct Next {
+    pub number: usize,
+    pub kind: usize,
+    pub key: u64,
+    pub version: u64,
+    pub place: usize,
+    pub length: usize,
+}
+
+#[repr(C)]
+#[derive(Clone, Copy)]
+pub struct Mark {
+    pub s: u64,
+    pub w: u64,
+}
+
+/// The board's record, lent to the archive part by part.
+#[repr(C)]
+#[derive(Clone, Copy, Debug, PartialEq, Eq)]
+pub struct Record {
+    pub keys: [u32; PLACES],
+    pub versions: [u64; PLACES],
+    pub lengths: [u16; PLACES],
+    pub version: u64,
+    pub floor: u64,
+}
+
+type Keys = [u32; PLACES];
+type Versions = [u64; PLACES];
+type Lengths = [u16; PLACES];
+
+extern "C" {
+    fn strundevi_raw_read_open(octets: *const u8, length: usize) -> Opened;
+    fn strundevi_raw_agree(pcc: Opened, pce: Opened) -> Session;
+    fn strundevi_raw_judge(octets: *const u8, length: usize, ero: u8, session: Session, pst: u64) -> Verdict;
+    fn strundevi_raw_segment_at(octets: *const u8, length: usize, ero: u8, session: Session, pst: u64, i: u64) -> Picked;
+    fn strundevi_raw_begin(buffer: *mut u8, size: usize, writer: Writer, ero: u8) -> Written;
+    fn strundevi_raw_add(buffer: *mut u8, size: usize, writer: Writer, segment: Segment) -> Written;
+    fn strundevi_raw_finish(buffer: *mut u8, size: usize, writer: Writer) -> Written;
+    fn strundevi_raw_empty(keys: *mut Keys, versions: *mut Versions, lengths: *mut Lengths, version: *mut u64, floor: *mut u64);
+    fn strundevi_raw_report(
+        keys: *mut Keys,
+        versions: *mut Versions,
+        lengths: *mut Lengths,
+        version: *mut u64,
+        floor: *mut u64,
+        store: *mut u8,
+        size: usize,
+        key: u64,
+        ero: *const u8,
+        length: usize,
+        session: Session,
+        pst: u64,
+    ) -> Verdict;
+    fn strundevi_raw_remove(
+        keys: *mut Keys,
+        versions: *mut Versions,
+        lengths: *mut Lengths,
+        version: *mut u64,
+        floor: *mut u64,
+        store: *const u8,
+        size: usize,
+        key: u64,
+    ) -> Verdict;
+    fn strundevi_raw_compact(
+        keys: *mut Keys,
+        versions: *mut Versions,
+        lengths: *mut Lengths,
+        version: *mut u64,
+        floor: *mut u64,
+        store: *const u8,
+        size: usize,
+        c: u64,
+    ) -> Verdict;
+    fn strundevi_raw_body(
+        keys: *const Keys,
+        versions: *const Versions,
+        lengths: *const Lengths,
+        version: u64,
+        floor: u64,
+        store: *const u8,
+        size: usize,
+        key: u64,
+    ) -> Part;
+    fn strundevi_raw_next(
+        keys: *const Keys,
+        versions: *const Versions,
+        lengths: *const Lengths,
+        version: u64,
+        floor: u64,
+        store: *const u8,
+        size: usize,
+        s: u64,
+        w: u64,
+    ) -> Next;
+    fn strundevi_raw_fresh_mark(version: u64) -> Mark;
+}
+
+#[inline]
+pub fn read_open(octets: &[u8]) -> Opened {
+    unsafe { strundevi_raw_read_open(octets.as_ptr(), octets.len()) }
+}
+
+#[inline]
+pub fn agree(pcc: Opened, pce: Opened) -> Session {
+    unsafe { strundevi_raw_agree(pcc, pce) }
+}
+
+#[inline]
+pub fn judge(octets: &[u8], ero: u8, session: Session, pst: u64) -> Verdict {
+    unsafe { strundevi_raw_judge(octets.as_ptr(), octets.len(), ero, session, pst) }
+}
+
+#[inline]
+pub fn segment(octets: &[u8], ero: u8, session: Session, pst: u64, i: u64) -> Picked {
+    unsafe { strundevi_raw_segment_at(octets.as_ptr(), octets.len(), ero, session, pst, i) }
+}
+
+#[inline]
+pub fn begin(buffer: &mut [u8], writer: Writer, ero: u8) -> Written {
+    unsafe { strundevi_raw_begin(buffer.as_mut_ptr(), buffer.len(), writer, ero) }
+}
+
+#[inline]
+pub fn add(buffer: &mut [u8], writer: Writer, segment: Segment) -> Written {
+    unsafe { strundevi_raw_add(buffer.as_mut_ptr(), buffer.len(), writer, segment) }
+}
+
+#[inline]
+pub fn finish(buffer: &mut [u8], writer: Writer) -> Written {
+    unsafe { strundevi_raw_finish(buffer.as_mut_ptr(), buffer.len(), writer) }
+}
+
+#[inline]
+pub fn empty(b: &mut Record) {
+    unsafe { strundevi_raw_empty(&mut b.keys, &mut b.versions, &mut b.lengths, &mut b.version, &mut b.floor) }
+}
+
+#[inline]
+pub fn report(b: &mut Record, store: &mut [u8], key: u64, ero: &[u8], session: Session, pst: u64) -> Verdict {
+    unsafe {
+        strundevi_raw_report(
+            &mut b.keys,
+            &mut b.versions,
+            &mut b.lengths,
+            &mut b.version,
+            &mut b.floor,
+            store.as_mut_ptr(),
+            store.len(),
+            key,
+            ero.as_ptr(),
+            ero.len(),
+            session,
+            pst,
+        )
+    }
+}
+
+#[inline]
+pub fn remove(b: &mut Record, store: &[u8], key: u64) -> Verdict {
+    unsafe { strundevi_raw_remove(&mut b.keys, &mut b.versions, &mut b.lengths, &mut b.version, &mut b.floor, store.as_ptr(), store.len(), key) }
+}
+
+#[inline]
+pub fn compact(b: &mut Record, store: &[u8], c: u64) -> Verdict {
+    unsafe { strundevi_raw_compact(&mut b.keys, &mut b.versions, &mut b.lengths, &mut b.version, &mut b.floor, store.as_ptr(), store.len(), c) }
+}
+
+#[inline]
+pub fn body(b: &Record, store: &[u8], key: u64) -> Part {
+    unsafe { strundevi_raw_body(&b.keys, &b.versions, &b.lengths, b.version, b.floor, store.as_ptr(), store.len(), key) }
+}
+
+#[inline]
+pub fn next(b: &Record, store: &[u8], s: u64, w: u64) -> Next {
+    unsafe { strundevi_raw_next(&b.keys, &b.versions, &b.lengths, b.version, b.floor, store.as_ptr(), store.len(), s, w) }
+}
+
+#[inline]
+pub fn fresh_mark(version: u64) -> Mark {
+    unsafe { strundevi_raw_fresh_mark(version) }
+}

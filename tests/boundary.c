@@ -1,0 +1,124 @@
+/* The border in C: null, empty and impossible buffers, numbers out of range, records that are no boards. Each is refused by its number and
+ * changes nothing. Prints the first thing that is otherwise, and ends with status 1. */
+#include <stdio.h>
+#include <string.h>
+
+#include "strundevi.h"
+
+static int wrong;
+
+static void expect(int line, int holds, const char *what) {
+    if (!holds) {
+        printf("line %d: %s\n", line, what);
+        wrong = 1;
+    }
+}
+
+#define EXPECT(holds) expect(__LINE__, (holds), #holds)
+
+static int refused(strundevi_verdict verdict, size_t number) {
+    return verdict.number == number && verdict.place == 0 && verdict.count == 0;
+}
+
+static const uint8_t route[] = {0x07, 0x10, 0x00, 0x1C, 0x28, 0x18, 0x00, 0x02, 0x00, 0x00, 0x00, 0x01, 0x20, 0x01,
+                                0x0D, 0xB8, 0x00, 0x00, 0x00, 0x01, 0x00, 0x00, 0x00, 0x00, 0x00, 0x00, 0x00, 0x01};
+static uint8_t store[STRUNDEVI_STORE_OCTETS], store_before[STRUNDEVI_STORE_OCTETS];
+static strundevi_board board, before;
+
+static int kept(void) {
+    return memcmp(&board, &before, sizeof board) == 0 && memcmp(store, store_before, sizeof store) == 0;
+}
+
+int main(void) {
+    const strundevi_session session = {.agreed = 1, .n = 1};
+    const strundevi_session yes = {.agreed = 200, .n = 7, .limited = 255, .limit = 1};
+    const size_t lengths[] = {0, 1, 4, 28, 49152, PTRDIFF_MAX, SIZE_MAX};
+
+    /* null, at every length, is a buffer of no octets */
+    for (size_t i = 0; i < sizeof lengths / sizeof *lengths; i++) {
+        size_t n = lengths[i];
+        strundevi_writer writer = {STRUNDEVI_ERO, 4};
+        strundevi_segment segment = {.hassid = 1};
+        strundevi_mark mark = {0, 0};
+        EXPECT(strundevi_read_open(NULL, n).number == STRUNDEVI_OPEN_MALFORMED);
+        EXPECT(refused(strundevi_judge(NULL, n, STRUNDEVI_ERO, session, 3), STRUNDEVI_FRAME_BROKEN));
+        EXPECT(refused(strundevi_segment_at(NULL, n, STRUNDEVI_RRO, session, 3, 0).verdict, STRUNDEVI_FRAME_BROKEN));
+        EXPECT(refused(strundevi_begin(NULL, n, writer, STRUNDEVI_RRO).verdict, STRUNDEVI_BUFFER_FULL));
+        EXPECT(refused(strundevi_add(NULL, n, writer, segment).verdict, STRUNDEVI_BUFFER_FULL));
+        EXPECT(refused(strundevi_finish(NULL, n, writer).verdict, STRUNDEVI_BUFFER_FULL));
+        EXPECT(strundevi_begin(NULL, n, writer, STRUNDEVI_RRO).writer.at == 4);
+        EXPECT(strundevi_begin(NULL, n, writer, STRUNDEVI_RRO).writer.ero == 1);
+        EXPECT(refused(strundevi_report(&board, NULL, n, 1, route, sizeof route, session, 3), STRUNDEVI_NOT_A_BOARD));
+        EXPECT(refused(strundevi_report(NULL, store, n, 1, route, sizeof route, session, 3), STRUNDEVI_NOT_A_BOARD));
+        EXPECT(refused(strundevi_report(&board, store, sizeof store, 1, NULL, n, session, 3), STRUNDEVI_FRAME_BROKEN));
+        EXPECT(refused(strundevi_remove(&board, NULL, n, 1), STRUNDEVI_NOT_A_BOARD));
+        EXPECT(refused(strundevi_remove(NULL, store, n, 1), STRUNDEVI_NOT_A_BOARD));
+        EXPECT(refused(strundevi_compact(&board, NULL, n, 0), STRUNDEVI_NOT_A_BOARD));
+        EXPECT(refused(strundevi_compact(NULL, store, n, 0), STRUNDEVI_NOT_A_BOARD));
+        EXPECT(strundevi_body(&board, NULL, n, 1).number == STRUNDEVI_NOT_A_BOARD);
+        EXPECT(strundevi_body(NULL, store, n, 1).number == STRUNDEVI_NOT_A_BOARD);
+        EXPECT(strundevi_next(&board, NULL, n, mark).number == STRUNDEVI_NOT_A_BOARD);
+        EXPECT(strundevi_next(NULL, store, n, mark).number == STRUNDEVI_NOT_A_BOARD);
+        EXPECT(kept());
+    }
+    strundevi_empty(NULL);
+    EXPECT(strundevi_fresh_mark(NULL).s == 0);
+
+    /* a length that no buffer has */
+    EXPECT(strundevi_read_open(route, SIZE_MAX).number == STRUNDEVI_OPEN_MALFORMED);
+    EXPECT(refused(strundevi_judge(route, (size_t)PTRDIFF_MAX + 1, STRUNDEVI_ERO, session, 3), STRUNDEVI_FRAME_BROKEN));
+
+    /* every flag but 0 is yes */
+    EXPECT(strundevi_judge(route, sizeof route, STRUNDEVI_ERO, yes, 3).count == 1);
+    EXPECT(refused(strundevi_judge(route, sizeof route, STRUNDEVI_ERO, session, 1), STRUNDEVI_NOT_AGREED));
+
+    /* keys, places and marks that are none */
+    const uint64_t keys[] = {0, STRUNDEVI_KEY_MOST + 1, (uint64_t)1 << 32, ((uint64_t)1 << 32) + 1, UINT64_MAX};
+    for (size_t i = 0; i < sizeof keys / sizeof *keys; i++) {
+        EXPECT(refused(strundevi_report(&board, store, sizeof store, keys[i], route, sizeof route, session, 3), STRUNDEVI_KEY_OUT_OF_RANGE));
+        EXPECT(refused(strundevi_remove(&board, store, sizeof store, keys[i]), STRUNDEVI_KEY_OUT_OF_RANGE));
+        EXPECT(strundevi_body(&board, store, sizeof store, keys[i]).number == STRUNDEVI_KEY_OUT_OF_RANGE);
+    }
+    const size_t places[] = {0, 3, 5, 6, 68, 65532, 65536, SIZE_MAX, SIZE_MAX - 3};
+    for (size_t i = 0; i < sizeof places / sizeof *places; i++) {
+        uint8_t buffer[64] = {0}, zeros[64] = {0};
+        strundevi_writer writer = {STRUNDEVI_ERO, places[i]};
+        strundevi_segment segment = {.hassid = 1};
+        EXPECT(refused(strundevi_add(buffer, sizeof buffer, writer, segment).verdict, STRUNDEVI_BUFFER_FULL));
+        EXPECT(refused(strundevi_finish(buffer, sizeof buffer, writer).verdict, STRUNDEVI_BUFFER_FULL));
+        EXPECT(memcmp(buffer, zeros, sizeof buffer) == 0);
+    }
+    EXPECT(refused(strundevi_compact(&board, store, sizeof store, 1), STRUNDEVI_MARK_AHEAD));
+    EXPECT(strundevi_next(&board, store, sizeof store, (strundevi_mark){UINT64_MAX, 0}).number == STRUNDEVI_MARK_AHEAD);
+    EXPECT(strundevi_next(&board, store, sizeof store, (strundevi_mark){0, UINT64_MAX}).number == STRUNDEVI_MARK_AHEAD);
+    EXPECT(kept());
+
+    /* a store that is an octet short, and records that are no boards */
+    EXPECT(refused(strundevi_report(&board, store, sizeof store - 1, 1, route, sizeof route, session, 3), STRUNDEVI_NOT_A_BOARD));
+    for (int i = 0; i < 6; i++) {
+        memset(&board, 0, sizeof board);
+        switch (i) {
+        case 0: board.keys[127] = 1; break;
+        case 1: board.versions[127] = 1; break;
+        case 2: board.lengths[0] = 24; break;
+        case 3: board.floor = 1; break;
+        case 4: board.version = UINT64_MAX; break;
+        default: memset(&board, 0xFF, sizeof board); break;
+        }
+        before = board;
+        EXPECT(refused(strundevi_report(&board, store, sizeof store, 1, route, sizeof route, session, 3), STRUNDEVI_NOT_A_BOARD));
+        EXPECT(refused(strundevi_remove(&board, store, sizeof store, 1), STRUNDEVI_NOT_A_BOARD));
+        EXPECT(refused(strundevi_compact(&board, store, sizeof store, 0), STRUNDEVI_NOT_A_BOARD));
+        EXPECT(strundevi_body(&board, store, sizeof store, 1).number == STRUNDEVI_NOT_A_BOARD);
+        EXPECT(strundevi_next(&board, store, sizeof store, (strundevi_mark){0, 0}).number == STRUNDEVI_NOT_A_BOARD);
+        EXPECT(kept());
+    }
+
+    /* the border is no wall: what is good is taken */
+    strundevi_empty(&board);
+    EXPECT(strundevi_report(&board, store, sizeof store, STRUNDEVI_KEY_MOST, route, sizeof route, session, 3).count == 1);
+    EXPECT(strundevi_body(&board, store, sizeof store, STRUNDEVI_KEY_MOST).length == 24);
+    EXPECT(memcmp(store, route + 4, 24) == 0);
+    EXPECT(strundevi_fresh_mark(&board).s == 1 && strundevi_fresh_mark(&board).w == 0);
+    return wrong;
+}
