@@ -1,0 +1,57 @@
+-- Laws of the octet-by-octet and pair-by-pair loops, in the order of the definitions.
+use Prim.Native.Nat.{ℕ, suc, _+_, _-_, _≤_, _<_, min}
+use native.Mathlib.Nat.{min-comm}
+use native.Mathlib.Numerals.{add-one, add-two}
+use native.Mathlib.Omega.{arith}
+use mathlib.Core.Path.{_≡_, refl, sym, _∙_, ap}
+use mathlib.Core.List.{List, [], _∷_}
+use mathlib.Core.Bool.{Bool, true, false, not, _||_}
+use lib.ListN.{length, getD, drop, length-drop, drop-of-length-le}
+use lib.Seq.{drop-cons}
+use borrow.Author.Tests.{eq-eqb, ne-eqb}
+use Rattle.session.specs.declared.Limit.{Limit}
+use Rattle.session.specs.declared.Limit.the-variants.{Free, Most}
+use Rattle.capability.specs.SetupTypes.{hasOf}
+use Rattle.capability.specs.Msd.{Pair, pairsIn, wrongIn, knownMsd, leastOf, limitIn}
+
+-- setup types --------------------------------------------------------------------------------------------------
+
+module _ (x : ℕ) (p : List ℕ) (i : ℕ) where
+  pub has-end : length p ≤ i → false ≡ hasOf x (drop i p)
+  has-end h = rw (drop-of-length-le p h)
+
+  pub has-hit : i < length p → getD p i 0 ≡ x → true ≡ hasOf x (drop i p)
+  has-hit h e = rw (drop-cons p i 0 h, eq-eqb (getD p i 0) x e)
+
+  pub has-miss : i < length p → (getD p i 0 ≡ x → ⊥) → hasOf x (drop (i + 1) p) ≡ hasOf x (drop i p)
+  has-miss h e = rw (add-one, drop-cons p i 0 h, ne-eqb (getD p i 0) x e)
+
+-- pairs --------------------------------------------------------------------------------------------------------
+
+short : (q : List ℕ) → length q ≤ 1 → pairsIn q ≡ []
+short [] h = refl
+short (a ∷ []) h = refl
+short (a ∷ b ∷ r) h = absurd (omega arith)
+
+module _ (p : List ℕ) (i : ℕ) where
+  pub pairs-end : length p ≤ i + 1 → pairsIn (drop i p) ≡ []
+  pairs-end h = short (drop i p) (simp length-drop (omega arith))
+
+  pub pairs-next : i + 1 < length p → pairsIn (drop i p) ≡ record { kind = getD p i 0; value = getD p (i + 1) 0 } ∷ pairsIn (drop (i + 2) p)
+  pairs-next h = rw (drop-cons p i 0 (omega arith), drop-cons p (suc i) 0 (omega arith), add-one, add-two)
+
+-- limits -------------------------------------------------------------------------------------------------------
+
+-- The smaller one of two limits.
+abbrev pub lower : Limit → Limit → Limit
+lower Free l = l
+lower (Most v) l = leastOf v l
+
+pub lower-free : (l : Limit) → lower l Free ≡ l
+lower-free Free = refl
+lower-free (Most v) = refl
+
+pub lower-least : (got l : Limit) (v : ℕ) → lower (leastOf v got) l ≡ lower got (leastOf v l)
+lower-least Free l v = refl
+lower-least (Most m) Free v = ap Most (min-comm v m)
+lower-least (Most m) (Most n) v = ap Most (omega arith)

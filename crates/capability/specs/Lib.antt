@@ -1,0 +1,3 @@
+pub mod SetupTypes
+pub mod Msd
+pub mod Srv6

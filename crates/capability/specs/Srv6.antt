@@ -1,0 +1,45 @@
+-- "Sub-TLV 27 holds 2 reserved octets, 2 flag octets, then pairs of MSD type and MSD value" (document 01, "The OPEN object").
+use Prim.Native.Nat.{ℕ, _/_, _%_}
+use mathlib.Core.List.{List}
+use mathlib.Core.Bool.{Bool, true, false, cond, not, _&&_}
+use lib.ListN.{length, drop}
+use lib.Dec.{eqb, leb}
+use Rattle.octets.specs.Octets.{octetOf}
+use Rattle.answers.specs.Numbers.{openMalformed, wrongMsd}
+use Rattle.session.specs.declared.Limit.{Limit}
+use Rattle.session.specs.declared.Limit.the-variants.{Free, Most}
+use Rattle.session.specs.declared.Opened.{Opened}
+use Rattle.session.specs.Sessions.{openRefused, openCarries}
+use Rattle.capability.specs.Msd.{Pair, pairsIn, wrongIn, limitIn}
+
+-- The type of the sub-TLV.
+abbrev pub srv6Capability : ℕ
+srv6Capability = 27
+
+-- "an even length of at least 4"
+unfoldable pub sizedOf : List ℕ → Bool
+sizedOf w = eqb (length w % 2) 0 && leb 4 (length w)
+
+-- "N is the bit worth 2 and X the bit worth 1 of the second flag octet."
+unfoldable pub nOf : List ℕ → Bool
+nOf w = eqb (octetOf w 3 / 2 % 2) 1
+
+unfoldable pub xOf : List ℕ → Bool
+xOf w = eqb (octetOf w 3 % 2) 1
+
+abbrev pub pairsOf : List ℕ → List Pair
+pairsOf w = pairsIn (drop 4 w)
+
+-- "X is 0 and a pair's type isn't 41, 42, 44 or 45"
+unfoldable pub wrongOf : List ℕ → Bool
+wrongOf w = not (xOf w) && wrongIn (pairsOf w)
+
+-- "The depth limit is the smallest value of all pairs; with X set, or with no pair, there is none."
+unfoldable pub limitOf : List ℕ → Limit
+limitOf w = cond (xOf w) Free (limitIn (pairsOf w))
+
+-- What a side that lists type 3 announces by the value of sub-TLV 27, in the order 1, 3.
+unfoldable pub announcedOf : List ℕ → Opened
+announcedOf w =
+    cond (not (sizedOf w)) (openRefused openMalformed)
+    (cond (wrongOf w) (openRefused wrongMsd) (openCarries true (nOf w) (limitOf w)))

@@ -1,0 +1,37 @@
+// Sub-TLV 27 holds 2 reserved octets, 2 flag octets, then pairs of MSD type and MSD value.
+// N is the bit worth 2 and X the bit worth 1 of the second flag octet.
+//
+// It must have an even length of at least 4: else 1. X is 0 and a pair's type is unknown: 3.
+// With X set the pairs are not looked at, and there is no limit.
+ghost use mathlib.Core.Path.{_≡_};
+ghost use Rattle.capability.specs.Srv6.{announcedOf};
+use answers::OPEN_MALFORMED;
+use answers::WRONG_MSD;
+use session::Limit;
+use session::Opened;
+
+// The type of the sub-TLV.
+pub const SRV6_CAPABILITY: usize = 27;
+
+// The place of the second flag octet, and of the first pair.
+const FLAGS: usize = 3;
+
+const PAIRS: usize = 4;
+
+// What a side that lists setup type 3 announces by the value of its sub-TLV 27.
+pub fn announced(w: &[u8]) -> Opened
+    ensures { λ r. ⌜ r ≡ announcedOf (now (w .entry)) ⌝ }
+{
+    if !octets::both(w.len() % 2 == 0, PAIRS <= w.len()) {
+        return session::refused_open(OPEN_MALFORMED);
+    }
+    let flags = octets::octet(w, FLAGS);
+    let n = flags / 2 % 2 == 1;
+    if flags % 2 == 1 {
+        return session::carried(true, n, Limit::Free);
+    }
+    if super::msd::wrong(&w[PAIRS..]) {
+        return session::refused_open(WRONG_MSD);
+    }
+    session::carried(true, n, super::msd::lowest(&w[PAIRS..]))
+}

@@ -1,0 +1,86 @@
+-- What a reader can cite of the answer to an OPEN object: accepted exactly if no rule is broken, refused by
+-- a number exactly if its rule is broken and none before it.
+use Prim.Native.Nat.{ℕ}
+use native.Mathlib.Omega.{arith}
+use mathlib.Core.Path.{_≡_, refl, sym, _∙_, ap}
+use mathlib.Core.Logic.{_↔_}
+use mathlib.Core.List.{List}
+use mathlib.Core.Bool.{Bool, true, false, cond}
+use Rattle.answers.specs.Numbers.{openMalformed, capabilityMissing, wrongMsd}
+use Rattle.answers.proofs.Determined.{determined}
+use Rattle.session.specs.declared.Opened.{Opened}
+use Rattle.session.specs.Sessions.{openRefused}
+use Rattle.open.specs.Open.{breaks1, breaks2, breaks3, carriesOf, openOf}
+
+-- The first broken one of three rules, else x.
+abbrev first : Bool → Bool → Bool → Opened → Opened
+first a b c x = cond a (openRefused openMalformed) (cond b (openRefused capabilityMissing) (cond c (openRefused wrongMsd) x))
+
+none-broken : (a b c : Bool) (x : Opened) → first a b c x .number ≡ 0 → (a ≡ false) × (b ≡ false) × (c ≡ false)
+none-broken true b c x e = absurd (omega arith)
+none-broken false true c x e = absurd (omega arith)
+none-broken false false true x e = absurd (omega arith)
+none-broken false false false x e = (refl, refl, refl)
+
+broken-1 : (a b c : Bool) (x : Opened) → x .number ≡ 0 → first a b c x .number ≡ openMalformed → a ≡ true
+broken-1 true b c x z e = refl
+broken-1 false true c x z e = absurd (omega arith)
+broken-1 false false true x z e = absurd (omega arith)
+broken-1 false false false x z e = absurd (omega arith)
+
+broken-2 : (a b c : Bool) (x : Opened) → x .number ≡ 0 → first a b c x .number ≡ capabilityMissing → (a ≡ false) × (b ≡ true)
+broken-2 true b c x z e = absurd (omega arith)
+broken-2 false true c x z e = (refl, refl)
+broken-2 false false true x z e = absurd (omega arith)
+broken-2 false false false x z e = absurd (omega arith)
+
+broken-3 : (a b c : Bool) (x : Opened) → x .number ≡ 0 → first a b c x .number ≡ wrongMsd → (a ≡ false) × (b ≡ false) × (c ≡ true)
+broken-3 true b c x z e = absurd (omega arith)
+broken-3 false true c x z e = absurd (omega arith)
+broken-3 false false true x z e = (refl, refl, refl)
+broken-3 false false false x z e = absurd (omega arith)
+
+module _ (s : List ℕ) where
+  is-first : openOf s ≡ first (breaks1 s) (breaks2 s) (breaks3 s) (carriesOf s)
+  unfolding openOf
+  is-first = refl
+
+  carries-zero : carriesOf s .number ≡ 0
+  unfolding carriesOf
+  carries-zero = refl
+
+  -- "Otherwise accepted": accepted exactly if no rule is broken.
+  pub accepted-exactly : (openOf s .number ≡ 0) ↔ ((breaks1 s ≡ false) × (breaks2 s ≡ false) × (breaks3 s ≡ false))
+  accepted-exactly = (
+    λ e. none-broken (breaks1 s) (breaks2 s) (breaks3 s) (carriesOf s) (rw is-first at e),
+    λ h. rw (is-first, h .0, h .1, h .2) carries-zero,
+  )
+
+  -- and then it carries what its values say.
+  pub accepted-carries : openOf s .number ≡ 0 → openOf s ≡ carriesOf s
+  accepted-carries e = let h = accepted-exactly .0 e in rw (is-first, h .0, h .1, h .2)
+
+  -- Refused by 1 exactly if rule 1 is broken,
+  pub refused-by-1 : (openOf s ≡ openRefused openMalformed) ↔ (breaks1 s ≡ true)
+  refused-by-1 = (
+    λ e. broken-1 (breaks1 s) (breaks2 s) (breaks3 s) (carriesOf s) carries-zero (rw is-first at (ap (λ (o : Opened). o .number) e)),
+    λ h. rw (is-first, h),
+  )
+
+  -- by 2 exactly if rule 2 is broken and rule 1 is not,
+  pub refused-by-2 : (openOf s ≡ openRefused capabilityMissing) ↔ ((breaks1 s ≡ false) × (breaks2 s ≡ true))
+  refused-by-2 = (
+    λ e. broken-2 (breaks1 s) (breaks2 s) (breaks3 s) (carriesOf s) carries-zero (rw is-first at (ap (λ (o : Opened). o .number) e)),
+    λ h. rw (is-first, h .0, h .1),
+  )
+
+  -- by 3 exactly if rule 3 is broken and neither of the others is.
+  pub refused-by-3 : (openOf s ≡ openRefused wrongMsd) ↔ ((breaks1 s ≡ false) × (breaks2 s ≡ false) × (breaks3 s ≡ true))
+  refused-by-3 = (
+    λ e. broken-3 (breaks1 s) (breaks2 s) (breaks3 s) (carriesOf s) carries-zero (rw is-first at (ap (λ (o : Opened). o .number) e)),
+    λ h. rw (is-first, h .0, h .1, h .2),
+  )
+
+  -- Any two answers that fit the contract of `read_open` are equal.
+  pub read_open-determined : (x y : Opened) → x ≡ openOf s → y ≡ openOf s → x ≡ y
+  read_open-determined x y = determined

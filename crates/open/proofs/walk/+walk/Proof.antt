@@ -1,0 +1,752 @@
+use Rattle.open.proofs.Laws
+use Rattle.open.specs.Walk.{Sight, torn, seen, valueAt, missingOf, keepOf, Inside, Listed, sightOf, insideOf, onward, walkOf}
+use Rattle.open.specs.Open.{absent}
+use Rattle.open.specs.declared.walk.Place.the-variants.{Missing, At}
+use Rattle.open.specs.declared.walk.Place.{Place}
+use Rattle.capability.specs.SetupTypes.{pathSetup, listSize, holdsList}
+use Rattle.items.proofs.Laws.{drop-part}
+use Rattle.items.specs.declared.Item.the-variants.{Whole, Broken}
+use Rattle.items.specs.Places.{Within}
+use Rattle.items.specs.Tlvs.{Tlvs, tlv, wholeOf}
+use Rattle.octets.proofs.Laws.{length-part}
+use Rattle.octets.specs.Octets.{part}
+use lib.Dec.{eqb}
+use lib.ListN.{length, drop}
+use borrow.Author.Tests.{eq-eqb, ne-eqb, lt-ltb, le-ltb, le-leb, lt-leb}
+use borrow.Author.Needs.{needs}
+use native.Mathlib.Omega.{arith}
+use mathlib.Core.Option.{Option, none, some}
+use mathlib.Core.Bool.{Bool, true, false, cond, _&&_}
+use mathlib.Core.Path.{_≡_, refl, sym, _∙_}
+use Prim.Native.Nat.{ℕ, suc, pred, _+_, _-_, _≤_, _<_}
+use Prim.Native.Nat.{ℕ, _<_}
+use borrow.Fn.Kinds.{In}
+use borrow.Fn.PlainCycle.{Measures, is, falls, and}
+use Rattle.open.proofs.walk.walk.Reads as walk
+use Rattle.open.proofs.walk.walk.Kinds as walk-kinds
+use Rattle.open.proofs.walk.+walk.Lts-walk as walk-lts
+use Rattle.capability.proofs.list_size.Reads as list-size-reads
+use Rattle.items.proofs.item_at.Reads as item-at-reads
+use Rattle.octets.proofs.both.Reads as both-reads
+use Rattle.open.proofs.walk.keep.Reads as keep-reads
+use Rattle.open.proofs.walk.missing.Reads as missing-reads
+use Rattle.open.proofs.walk.+walk.{statement}
+use Rattle.open.proofs.walk.+walk.Tie.{close}
+
+abbrev μ-walk : Measures 1 walk-kinds.ps ℕ
+μ-walk κs a = a .1 .1 .0 - a .1 .0
+
+abbrev walk-at : ℕ → In 1 walk-kinds.ps
+walk-at t = and 1 walk-kinds.ps (is 1 walk-kinds.ps μ-walk t) walk.Pre
+
+abbrev walk-below : ℕ → In 1 walk-kinds.ps
+walk-below t = and 1 walk-kinds.ps (falls 1 walk-kinds.ps _<_ μ-walk t) walk.Pre
+
+abbrev walk-Inv-loop : walk-lts.InvT-loop
+walk-Inv-loop s start end inner want at₀ list₀ sub₀ at list sub = (start ≤ at) × (at ≤ end) × (end ≤ length s) × Listed s list × Inside (length s) sub
+    × Laws.Left inner want s at end (valueAt s list) (valueAt s sub) (walkOf inner want (part s start (end - start)))
+
+abbrev walk-μ-loop : walk-lts.MeasureT-loop
+walk-μ-loop s start end inner want at₀ list₀ sub₀ at list sub = end - at
+
+-- where an item has been read: what is known of it, and the invariant after it
+abbrev Read : ℕ → Type 0
+Read t = walk-lts.After-known-told (
+  item-at-reads.Asked,
+  item-at-reads.Learnt,
+  keep-reads.Asked,
+  keep-reads.Learnt,
+  missing-reads.Asked,
+  missing-reads.Learnt,
+  both-reads.Asked,
+  both-reads.Learnt,
+  list-size-reads.Asked,
+  list-size-reads.Learnt,
+  walk-below t,
+  walk.Post,
+) (walk-at t) walk.Post walk-Inv-loop walk-μ-loop
+
+within : (t : ℕ) (c : Read t)
+    → Within (c .before .before .before .before .before .loop .at) (c .before .before .before .before .before .before .before .args .end)
+    (Whole (c .before .kind .given .0 .0) (c .before .kind .given .0 .1 .0) (c .before .kind .given .0 .1 .1 .0) (c .before .kind .given .0 .1 .1 .1 .0))
+within t c = rw (c .before .kind .given .1) at (c .before .before .before .item-at .ensures .1)
+
+-- the walk is at the item read, with `rest` behind it
+abbrev Here : (t : ℕ) → Read t → Tlvs → Sight
+Here t c rest =
+    let a = c .before .before .before .before .before .before .before .args in
+    let l = c .before .before .before .before .before .loop in
+    let v = c .before .kind .given .0 in
+    onward (a .inner) (a .want) (valueAt (a .s .now) (l .list)) (valueAt (a .s .now) (l .sub)) (tlv (v .0) (part (a .s .now) (v .1 .0) (v .1 .1 .0)) rest)
+
+stepped : (t : ℕ) (c : Read t) (list sub : Place)
+    → (let a = c .before .before .before .before .before .before .before .args in
+    let v = c .before .kind .given .0 in
+    Listed (a .s .now) list → Inside (length (a .s .now)) sub
+    → ((rest : Tlvs) → Here t c rest ≡ onward (a .inner) (a .want) (valueAt (a .s .now) list) (valueAt (a .s .now) sub) rest)
+    → walk-Inv-loop (a .s .now) (a .start) (a .end) (a .inner) (a .want) (a .start) Missing Missing (v .1 .1 .1 .0) list sub)
+stepped t c list sub i j e =
+    let l = c .before .before .before .before .before .loop in
+    let b = within t c in (
+      omega arith,
+      omega arith,
+      omega arith,
+      i,
+      j,
+      Laws.left-next (l .inv .5) (omega arith) (omega arith) (c .before .before .before .before .loop-test .taken)
+          (sym (c .before .before .before .item-at .ensures .0) ∙ c .before .kind .given .1) (omega arith) (omega arith) e,
+    )
+
+stopped : (t : ℕ) (c : Read t)
+    → (let a = c .before .before .before .before .before .before .before .args in
+    ((rest : Tlvs) → Here t c rest ≡ torn) → torn ≡ walkOf (a .inner) (a .want) (part (a .s .now) (a .start) (a .end - a .start)))
+stopped t c e =
+    let l = c .before .before .before .before .before .loop in
+    Laws.left-torn (l .inv .5) (omega arith) (omega arith) (c .before .before .before .before .loop-test .taken)
+    (sym (c .before .before .before .item-at .ensures .0) ∙ c .before .kind .given .1) e
+
+-- where the first TLV 34 has been read
+abbrev Enter : ℕ → Type 0
+Enter t = walk-lts.Then2 (
+  item-at-reads.Asked,
+  item-at-reads.Learnt,
+  keep-reads.Asked,
+  keep-reads.Learnt,
+  missing-reads.Asked,
+  missing-reads.Learnt,
+  both-reads.Asked,
+  both-reads.Learnt,
+  list-size-reads.Asked,
+  list-size-reads.Learnt,
+  walk-below t,
+  walk.Post,
+) (walk-at t) walk.Post walk-Inv-loop walk-μ-loop
+
+entered : (t : ℕ) (c : Enter t) (rest : Tlvs)
+    → (let r = c .before .before .before .before in
+    let a = r .before .before .before .before .before .before .before .args in
+    let l = r .before .before .before .before .before .loop in
+    let v = r .before .kind .given .0 in
+    Here t r rest ≡ cond (wholeOf rest) (insideOf (a .want) (valueAt (a .s .now) (l .sub)) (some (part (a .s .now) (v .1 .0) (v .1 .1 .0)))) torn)
+entered t c rest =
+    let r = c .before .before .before .before in
+    let a = r .before .before .before .before .before .before .before .args in
+    let l = r .before .before .before .before .before .loop in
+    let v = r .before .kind .given .0 in
+    let f = sym (c .before .both .ensures) ∙ c .if2 .taken in
+    let m = sym (c .before .before .missing .ensures) ∙ Laws.and-left (c .before .before .missing .result) (eqb (v .0) pathSetup) f in
+    rw (c .before .before .before .if1 .left)
+    (Laws.onward-enter (a .want) (v .0) (part (a .s .now) (v .1 .0) (v .1 .1 .0)) rest (valueAt (a .s .now) (l .list)) (valueAt (a .s .now) (l .sub))
+    (Laws.value-missing (a .s .now) (l .list) m)
+    (Laws.and-right (c .before .before .missing .result) (eqb (v .0) pathSetup) f))
+
+-- where its list has been measured
+abbrev Sized : ℕ → Type 0
+Sized t = walk-lts.After-list-size (
+  item-at-reads.Asked,
+  item-at-reads.Learnt,
+  keep-reads.Asked,
+  keep-reads.Learnt,
+  missing-reads.Asked,
+  missing-reads.Learnt,
+  both-reads.Asked,
+  both-reads.Learnt,
+  list-size-reads.Asked,
+  list-size-reads.Learnt,
+  walk-below t,
+  walk.Post,
+) (walk-at t) walk.Post walk-Inv-loop walk-μ-loop
+
+size-same : (t : ℕ) (c : Sized t)
+    → (let r = c .before .before .before .before .before .before in
+    c .list-size .result ≡ listSize (part (r .before .before .before .before .before .before .before .args .s .now) (r .before .kind .given .0 .1 .0) (r .before .kind .given .0 .1 .1 .0)))
+size-same t c =
+    let r = c .before .before .before .before .before .before in
+    rw (Laws.part-lent (r .before .before .before .before .before .before .before .args .s .now) (r .before .kind .given .0 .1 .0) (r .before .kind .given .0 .1 .1 .0)) at (c .list-size .ensures .0)
+
+value-long : (t : ℕ) (c : Sized t)
+    → (let r = c .before .before .before .before .before .before in
+    length (part (r .before .before .before .before .before .before .before .args .s .now) (r .before .kind .given .0 .1 .0) (r .before .kind .given .0 .1 .1 .0)) ≡ r .before .kind .given .0 .1 .1 .0)
+value-long t c =
+    let r = c .before .before .before .before .before .before in
+    let b = within t r in
+    length-part (r .before .before .before .before .before .before .before .args .s .now) (r .before .kind .given .0 .1 .0) (r .before .kind .given .0 .1 .1 .0) (omega arith)
+
+-- where it holds its list
+abbrev Held : ℕ → Type 0
+Held t = walk-lts.Else3 (
+  item-at-reads.Asked,
+  item-at-reads.Learnt,
+  keep-reads.Asked,
+  keep-reads.Learnt,
+  missing-reads.Asked,
+  missing-reads.Learnt,
+  both-reads.Asked,
+  both-reads.Learnt,
+  list-size-reads.Asked,
+  list-size-reads.Learnt,
+  walk-below t,
+  walk.Post,
+) (walk-at t) walk.Post walk-Inv-loop walk-μ-loop
+
+held : (t : ℕ) (c : Held t)
+    → (let r = c .before .before .before .before .before .before .before in
+    holdsList (part (r .before .before .before .before .before .before .before .args .s .now) (r .before .kind .given .0 .1 .0) (r .before .kind .given .0 .1 .1 .0)) ≡ true)
+held t c =
+    let r = c .before .before .before .before .before .before .before in
+    let v = part (r .before .before .before .before .before .before .before .args .s .now) (r .before .kind .given .0 .1 .0) (r .before .kind .given .0 .1 .1 .0) in
+    le-leb (listSize v) (length v) (omega (arith, size-same t (c .before), value-long t (c .before), c .if3 .left))
+
+-- where the list inside it has been walked
+abbrev Walked : ℕ → Type 0
+Walked t = walk-lts.After-walk (
+  item-at-reads.Asked,
+  item-at-reads.Learnt,
+  keep-reads.Asked,
+  keep-reads.Learnt,
+  missing-reads.Asked,
+  missing-reads.Learnt,
+  both-reads.Asked,
+  both-reads.Learnt,
+  list-size-reads.Asked,
+  list-size-reads.Learnt,
+  walk-below t,
+  walk.Post,
+) (walk-at t) walk.Post walk-Inv-loop walk-μ-loop
+
+walked : (t : ℕ) (c : Walked t)
+    → (let r = c .before .before .before .before .before .before .before .before in
+    let a = r .before .before .before .before .before .before .before .args in
+    let v = part (a .s .now) (r .before .kind .given .0 .1 .0) (r .before .kind .given .0 .1 .1 .0) in
+    sightOf (a .s .now) (c .walk .result) ≡ walkOf true (a .want) (drop (listSize v) v))
+walked t c =
+    let r = c .before .before .before .before .before .before .before .before in
+    let v = r .before .kind .given .0 in
+    let b = within t r in
+    rw (Laws.subs-part (r .before .before .before .before .before .before .before .args .s .now) (v .1 .0) (v .1 .1 .0) (c .before .before .list-size .result) (size-same t (c .before .before)) (c .before .if3 .left) (omega arith)) at (c .walk .ensures .0)
+
+-- src/walk.rt:58:5
+walk-loop-holds : (t : ℕ) → walk-lts.Need-loop-holds (
+  item-at-reads.Asked,
+  item-at-reads.Learnt,
+  keep-reads.Asked,
+  keep-reads.Learnt,
+  missing-reads.Asked,
+  missing-reads.Learnt,
+  both-reads.Asked,
+  both-reads.Learnt,
+  list-size-reads.Asked,
+  list-size-reads.Learnt,
+  walk-below t,
+  walk.Post,
+) (walk-at t) walk.Post walk-Inv-loop walk-μ-loop
+walk-loop-holds t c = let a = c .before .args in
+    (search needs, search needs, search needs, tt, tt, Laws.left-start (a .inner) (a .want) (a .s .now) (a .start) (a .end) (omega arith) (omega arith))
+
+-- src/walk.rt:59:15
+walk-item-at-requires : (t : ℕ) → walk-lts.Need-item-at-requires (
+  item-at-reads.Asked,
+  item-at-reads.Learnt,
+  keep-reads.Asked,
+  keep-reads.Learnt,
+  missing-reads.Asked,
+  missing-reads.Learnt,
+  both-reads.Asked,
+  both-reads.Learnt,
+  list-size-reads.Asked,
+  list-size-reads.Learnt,
+  walk-below t,
+  walk.Post,
+) (walk-at t) walk.Post walk-Inv-loop walk-μ-loop
+walk-item-at-requires t c κs = search needs
+
+-- src/walk.rt:61:17
+walk-enum-told : (t : ℕ) → walk-lts.Need-enum-told (
+  item-at-reads.Asked,
+  item-at-reads.Learnt,
+  keep-reads.Asked,
+  keep-reads.Learnt,
+  missing-reads.Asked,
+  missing-reads.Learnt,
+  both-reads.Asked,
+  both-reads.Learnt,
+  list-size-reads.Asked,
+  list-size-reads.Learnt,
+  walk-below t,
+  walk.Post,
+) (walk-at t) walk.Post walk-Inv-loop walk-μ-loop
+walk-enum-told t c = search needs
+
+-- src/walk.rt:61:17
+walk-returns : (t : ℕ) → walk-lts.Need-returns (
+  item-at-reads.Asked,
+  item-at-reads.Learnt,
+  keep-reads.Asked,
+  keep-reads.Learnt,
+  missing-reads.Asked,
+  missing-reads.Learnt,
+  both-reads.Asked,
+  both-reads.Learnt,
+  list-size-reads.Asked,
+  list-size-reads.Learnt,
+  walk-below t,
+  walk.Post,
+) (walk-at t) walk.Post walk-Inv-loop walk-μ-loop
+walk-returns t c = let l = c .before .before .before .before .loop in
+    (Laws.left-broken (l .inv .5) (omega arith) (omega arith) (c .before .before .before .loop-test .taken) (sym (c .before .before .item-at .ensures .0) ∙ c .enum-told .given .1), tt)
+
+-- src/walk.rt:64:17
+walk-enum-known-kind : (t : ℕ) → walk-lts.Need-enum-known-kind (
+  item-at-reads.Asked,
+  item-at-reads.Learnt,
+  keep-reads.Asked,
+  keep-reads.Learnt,
+  missing-reads.Asked,
+  missing-reads.Learnt,
+  both-reads.Asked,
+  both-reads.Learnt,
+  list-size-reads.Asked,
+  list-size-reads.Learnt,
+  walk-below t,
+  walk.Post,
+) (walk-at t) walk.Post walk-Inv-loop walk-μ-loop
+walk-enum-known-kind t c = search needs
+
+-- src/walk.rt:70:21
+walk-keep-requires : (t : ℕ) → walk-lts.Need-keep-requires (
+  item-at-reads.Asked,
+  item-at-reads.Learnt,
+  keep-reads.Asked,
+  keep-reads.Learnt,
+  missing-reads.Asked,
+  missing-reads.Learnt,
+  both-reads.Asked,
+  both-reads.Learnt,
+  list-size-reads.Asked,
+  list-size-reads.Learnt,
+  walk-below t,
+  walk.Post,
+) (walk-at t) walk.Post walk-Inv-loop walk-μ-loop
+walk-keep-requires t c κs = search needs
+
+-- src/walk.rt:71:40
+walk-missing-requires : (t : ℕ) → walk-lts.Need-missing-requires (
+  item-at-reads.Asked,
+  item-at-reads.Learnt,
+  keep-reads.Asked,
+  keep-reads.Learnt,
+  missing-reads.Asked,
+  missing-reads.Learnt,
+  both-reads.Asked,
+  both-reads.Learnt,
+  list-size-reads.Asked,
+  list-size-reads.Learnt,
+  walk-below t,
+  walk.Post,
+) (walk-at t) walk.Post walk-Inv-loop walk-μ-loop
+walk-missing-requires t c κs = search needs
+
+-- src/walk.rt:71:27
+walk-both-requires : (t : ℕ) → walk-lts.Need-both-requires (
+  item-at-reads.Asked,
+  item-at-reads.Learnt,
+  keep-reads.Asked,
+  keep-reads.Learnt,
+  missing-reads.Asked,
+  missing-reads.Learnt,
+  both-reads.Asked,
+  both-reads.Learnt,
+  list-size-reads.Asked,
+  list-size-reads.Learnt,
+  walk-below t,
+  walk.Post,
+) (walk-at t) walk.Post walk-Inv-loop walk-μ-loop
+walk-both-requires t c κs = search needs
+
+-- src/walk.rt:72:32
+walk-add-stop : (t : ℕ) → walk-lts.Need-add-stop (
+  item-at-reads.Asked,
+  item-at-reads.Learnt,
+  keep-reads.Asked,
+  keep-reads.Learnt,
+  missing-reads.Asked,
+  missing-reads.Learnt,
+  both-reads.Asked,
+  both-reads.Learnt,
+  list-size-reads.Asked,
+  list-size-reads.Learnt,
+  walk-below t,
+  walk.Post,
+) (walk-at t) walk.Post walk-Inv-loop walk-μ-loop
+walk-add-stop t c = let b = within t (c .before .before .before .before) in omega arith
+
+-- src/walk.rt:73:54
+walk-sub-list-size : (t : ℕ) → walk-lts.Need-sub-list-size (
+  item-at-reads.Asked,
+  item-at-reads.Learnt,
+  keep-reads.Asked,
+  keep-reads.Learnt,
+  missing-reads.Asked,
+  missing-reads.Learnt,
+  both-reads.Asked,
+  both-reads.Learnt,
+  list-size-reads.Asked,
+  list-size-reads.Learnt,
+  walk-below t,
+  walk.Post,
+) (walk-at t) walk.Post walk-Inv-loop walk-μ-loop
+walk-sub-list-size t c = search needs
+
+-- src/walk.rt:73:54
+walk-part-list-size-start : (t : ℕ) → walk-lts.Need-part-list-size-start (
+  item-at-reads.Asked,
+  item-at-reads.Learnt,
+  keep-reads.Asked,
+  keep-reads.Learnt,
+  missing-reads.Asked,
+  missing-reads.Learnt,
+  both-reads.Asked,
+  both-reads.Learnt,
+  list-size-reads.Asked,
+  list-size-reads.Learnt,
+  walk-below t,
+  walk.Post,
+) (walk-at t) walk.Post walk-Inv-loop walk-μ-loop
+walk-part-list-size-start t c = search needs
+
+-- src/walk.rt:73:54
+walk-part-list-size-end : (t : ℕ) → walk-lts.Need-part-list-size-end (
+  item-at-reads.Asked,
+  item-at-reads.Learnt,
+  keep-reads.Asked,
+  keep-reads.Learnt,
+  missing-reads.Asked,
+  missing-reads.Learnt,
+  both-reads.Asked,
+  both-reads.Learnt,
+  list-size-reads.Asked,
+  list-size-reads.Learnt,
+  walk-below t,
+  walk.Post,
+) (walk-at t) walk.Post walk-Inv-loop walk-μ-loop
+walk-part-list-size-end t c = let b = within t (c .before .before .before .before) in omega arith
+
+-- src/walk.rt:73:25
+walk-list-size-requires : (t : ℕ) → walk-lts.Need-list-size-requires (
+  item-at-reads.Asked,
+  item-at-reads.Learnt,
+  keep-reads.Asked,
+  keep-reads.Learnt,
+  missing-reads.Asked,
+  missing-reads.Learnt,
+  both-reads.Asked,
+  both-reads.Learnt,
+  list-size-reads.Asked,
+  list-size-reads.Learnt,
+  walk-below t,
+  walk.Post,
+) (walk-at t) walk.Post walk-Inv-loop walk-μ-loop
+walk-list-size-requires t c κs = search needs
+
+-- src/walk.rt:75:25
+walk-returns-2 : (t : ℕ) → walk-lts.Need-returns-2 (
+  item-at-reads.Asked,
+  item-at-reads.Learnt,
+  keep-reads.Asked,
+  keep-reads.Learnt,
+  missing-reads.Asked,
+  missing-reads.Learnt,
+  both-reads.Asked,
+  both-reads.Learnt,
+  list-size-reads.Asked,
+  list-size-reads.Learnt,
+  walk-below t,
+  walk.Post,
+) (walk-at t) walk.Post walk-Inv-loop walk-μ-loop
+walk-returns-2 t c = let r = c .before .before .before .before .before .before .before in
+    let a = r .before .before .before .before .before .before .before .args in
+    let v = part (a .s .now) (r .before .kind .given .0 .1 .0) (r .before .kind .given .0 .1 .1 .0) in
+    let e : holdsList v ≡ false = lt-leb (listSize v) (length v) (omega (arith, size-same t (c .before), value-long t (c .before), c .if3 .taken)) in
+    (stopped t r (λ rest. entered t (c .before .before .before) rest ∙ Laws.inside-unheld (a .want) (valueAt (a .s .now) (r .before .before .before .before .before .loop .sub)) v (wholeOf rest) e), tt)
+
+-- src/walk.rt:77:35
+walk-add-walk : (t : ℕ) → walk-lts.Need-add-walk (
+  item-at-reads.Asked,
+  item-at-reads.Learnt,
+  keep-reads.Asked,
+  keep-reads.Learnt,
+  missing-reads.Asked,
+  missing-reads.Learnt,
+  both-reads.Asked,
+  both-reads.Learnt,
+  list-size-reads.Asked,
+  list-size-reads.Learnt,
+  walk-below t,
+  walk.Post,
+) (walk-at t) walk.Post walk-Inv-loop walk-μ-loop
+walk-add-walk t c = let b = within t (c .before .before .before .before .before .before .before) in omega arith
+
+-- src/walk.rt:77:27
+walk-walk-requires : (t : ℕ) → walk-lts.Need-walk-requires (
+  item-at-reads.Asked,
+  item-at-reads.Learnt,
+  keep-reads.Asked,
+  keep-reads.Learnt,
+  missing-reads.Asked,
+  missing-reads.Learnt,
+  both-reads.Asked,
+  both-reads.Learnt,
+  list-size-reads.Asked,
+  list-size-reads.Learnt,
+  walk-below t,
+  walk.Post,
+) (walk-at t) walk.Post walk-Inv-loop walk-μ-loop
+walk-walk-requires t c κs = let b = within t (c .before .before .before .before .before .before .before) in (rw (← c .before .before .before .before .before .before .before .before .before .before .before .before .before .before .pre .0) (omega arith), omega arith)
+
+-- src/walk.rt:79:29
+walk-enum-told-2 : (t : ℕ) → walk-lts.Need-enum-told-2 (
+  item-at-reads.Asked,
+  item-at-reads.Learnt,
+  keep-reads.Asked,
+  keep-reads.Learnt,
+  missing-reads.Asked,
+  missing-reads.Learnt,
+  both-reads.Asked,
+  both-reads.Learnt,
+  list-size-reads.Asked,
+  list-size-reads.Learnt,
+  walk-below t,
+  walk.Post,
+) (walk-at t) walk.Post walk-Inv-loop walk-μ-loop
+walk-enum-told-2 t c = search needs
+
+-- src/walk.rt:79:29
+walk-returns-3 : (t : ℕ) → walk-lts.Need-returns-3 (
+  item-at-reads.Asked,
+  item-at-reads.Learnt,
+  keep-reads.Asked,
+  keep-reads.Learnt,
+  missing-reads.Asked,
+  missing-reads.Learnt,
+  both-reads.Asked,
+  both-reads.Learnt,
+  list-size-reads.Asked,
+  list-size-reads.Learnt,
+  walk-below t,
+  walk.Post,
+) (walk-at t) walk.Post walk-Inv-loop walk-μ-loop
+walk-returns-3 t c = let r = c .before .before .before .before .before .before .before .before .before .before in
+    let a = r .before .before .before .before .before .before .before .args in
+    let v = part (a .s .now) (r .before .kind .given .0 .1 .0) (r .before .kind .given .0 .1 .1 .0) in
+    let w = rw (c .enum-told2 .given .1) at (walked t (c .before .before)) in
+    (stopped t r (λ rest. entered t (c .before .before .before .before .before .before) rest ∙ Laws.inside-torn (a .want) (valueAt (a .s .now) (r .before .before .before .before .before .loop .sub)) v (wholeOf rest) (held t (c .before .before .before)) w), tt)
+
+-- src/walk.rt:81:38
+walk-enum-known-outer : (t : ℕ) → walk-lts.Need-enum-known-outer (
+  item-at-reads.Asked,
+  item-at-reads.Learnt,
+  keep-reads.Asked,
+  keep-reads.Learnt,
+  missing-reads.Asked,
+  missing-reads.Learnt,
+  both-reads.Asked,
+  both-reads.Learnt,
+  list-size-reads.Asked,
+  list-size-reads.Learnt,
+  walk-below t,
+  walk.Post,
+) (walk-at t) walk.Post walk-Inv-loop walk-μ-loop
+walk-enum-known-outer t c = search needs
+
+-- src/walk.rt:58:5
+walk-loop-less : (t : ℕ) → walk-lts.Need-loop-less (
+  item-at-reads.Asked,
+  item-at-reads.Learnt,
+  keep-reads.Asked,
+  keep-reads.Learnt,
+  missing-reads.Asked,
+  missing-reads.Learnt,
+  both-reads.Asked,
+  both-reads.Learnt,
+  list-size-reads.Asked,
+  list-size-reads.Learnt,
+  walk-below t,
+  walk.Post,
+) (walk-at t) walk.Post walk-Inv-loop walk-μ-loop
+walk-loop-less t c = let b = within t (c .before .before) in omega arith
+
+-- src/walk.rt:58:5
+walk-loop-again : (t : ℕ) → walk-lts.Need-loop-again (
+  item-at-reads.Asked,
+  item-at-reads.Learnt,
+  keep-reads.Asked,
+  keep-reads.Learnt,
+  missing-reads.Asked,
+  missing-reads.Learnt,
+  both-reads.Asked,
+  both-reads.Learnt,
+  list-size-reads.Asked,
+  list-size-reads.Learnt,
+  walk-below t,
+  walk.Post,
+) (walk-at t) walk.Post walk-Inv-loop walk-μ-loop
+walk-loop-again t c = let r = c .before .before in
+    let a = r .before .before .before .before .before .before .before .args in
+    let l = r .before .before .before .before .before .loop in
+    let v = r .before .kind .given .0 in
+    let b = within t r in
+    rw (c .keep .ensures)
+    (stepped t r (l .list) (keepOf (l .sub) (eqb (v .0) (a .want)) (v .1 .0) (v .1 .1 .0)) (l .inv .3)
+    (Laws.kept-inside (length (a .s .now)) (l .sub) (eqb (v .0) (a .want)) (v .1 .0) (v .1 .1 .0) (l .inv .4) (omega arith))
+    (λ rest. rw (c .before .if1 .taken, ← Laws.value-kept (a .s .now) (l .sub) (eqb (v .0) (a .want)) (v .1 .0) (v .1 .1 .0))
+    (Laws.onward-inner (a .want) (v .0) (part (a .s .now) (v .1 .0) (v .1 .1 .0)) rest (valueAt (a .s .now) (l .list)) (valueAt (a .s .now) (l .sub)))))
+
+-- src/walk.rt:58:5
+walk-loop-less-2 : (t : ℕ) → walk-lts.Need-loop-less-2 (
+  item-at-reads.Asked,
+  item-at-reads.Learnt,
+  keep-reads.Asked,
+  keep-reads.Learnt,
+  missing-reads.Asked,
+  missing-reads.Learnt,
+  both-reads.Asked,
+  both-reads.Learnt,
+  list-size-reads.Asked,
+  list-size-reads.Learnt,
+  walk-below t,
+  walk.Post,
+) (walk-at t) walk.Post walk-Inv-loop walk-μ-loop
+walk-loop-less-2 t c = let b = within t (c .before .before .before .before .before .before .before .before .before .before .before) in omega arith
+
+-- src/walk.rt:58:5
+walk-loop-again-2 : (t : ℕ) → walk-lts.Need-loop-again-2 (
+  item-at-reads.Asked,
+  item-at-reads.Learnt,
+  keep-reads.Asked,
+  keep-reads.Learnt,
+  missing-reads.Asked,
+  missing-reads.Learnt,
+  both-reads.Asked,
+  both-reads.Learnt,
+  list-size-reads.Asked,
+  list-size-reads.Learnt,
+  walk-below t,
+  walk.Post,
+) (walk-at t) walk.Post walk-Inv-loop walk-μ-loop
+walk-loop-again-2 t c = let r = c .before .before .before .before .before .before .before .before .before .before .before in
+    let a = r .before .before .before .before .before .before .before .args in
+    let v = r .before .kind .given .0 in
+    let p = part (a .s .now) (v .1 .0) (v .1 .1 .0) in
+    let inside = c .before .outer .given .0 .1 .0 in
+    let b = within t r in
+    let w = rw (c .before .outer .given .1) at (walked t (c .before .before .before)) in
+    let i = rw (c .before .outer .given .1) at (c .before .before .before .walk .ensures .1) in
+    stepped t r (At (v .1 .0) (v .1 .1 .0)) inside (omega arith, rw (← size-same t (c .before .before .before .before .before)) (c .before .before .before .before .if3 .left)) (i .1)
+    (λ rest. entered t (c .before .before .before .before .before .before .before) rest
+    ∙ Laws.inside-seen (a .want) (valueAt (a .s .now) (r .before .before .before .before .before .loop .sub)) p (wholeOf rest) (held t (c .before .before .before .before)) w
+    ∙ Laws.onward-found (a .inner) (a .want) p (valueAt (a .s .now) inside) rest (c .before .before .before .before .before .before .before .before .before .before .if1 .left))
+
+-- src/walk.rt:58:5
+walk-loop-less-3 : (t : ℕ) → walk-lts.Need-loop-less-3 (
+  item-at-reads.Asked,
+  item-at-reads.Learnt,
+  keep-reads.Asked,
+  keep-reads.Learnt,
+  missing-reads.Asked,
+  missing-reads.Learnt,
+  both-reads.Asked,
+  both-reads.Learnt,
+  list-size-reads.Asked,
+  list-size-reads.Learnt,
+  walk-below t,
+  walk.Post,
+) (walk-at t) walk.Post walk-Inv-loop walk-μ-loop
+walk-loop-less-3 t c = let b = within t (c .before .before .before .before) in omega arith
+
+-- src/walk.rt:58:5
+walk-loop-again-3 : (t : ℕ) → walk-lts.Need-loop-again-3 (
+  item-at-reads.Asked,
+  item-at-reads.Learnt,
+  keep-reads.Asked,
+  keep-reads.Learnt,
+  missing-reads.Asked,
+  missing-reads.Learnt,
+  both-reads.Asked,
+  both-reads.Learnt,
+  list-size-reads.Asked,
+  list-size-reads.Learnt,
+  walk-below t,
+  walk.Post,
+) (walk-at t) walk.Post walk-Inv-loop walk-μ-loop
+walk-loop-again-3 t c = let r = c .before .before .before .before in
+    let a = r .before .before .before .before .before .before .before .args in
+    let l = r .before .before .before .before .before .loop in
+    let v = r .before .kind .given .0 in
+    let f = sym (c .before .both .ensures) ∙ c .if2 .left in
+    stepped t r (l .list) (l .sub) (l .inv .3) (l .inv .4)
+    (λ rest. rw (c .before .before .before .if1 .left)
+    (Laws.onward-past (a .want) (v .0) (part (a .s .now) (v .1 .0) (v .1 .1 .0)) rest (valueAt (a .s .now) (l .list)) (valueAt (a .s .now) (l .sub))
+    (rw (Laws.absent-missing (a .s .now) (l .list), ← c .before .before .missing .ensures) f)))
+
+-- src/walk.rt:50:1
+walk-returns-4 : (t : ℕ) → walk-lts.Need-returns-4 (
+  item-at-reads.Asked,
+  item-at-reads.Learnt,
+  keep-reads.Asked,
+  keep-reads.Learnt,
+  missing-reads.Asked,
+  missing-reads.Learnt,
+  both-reads.Asked,
+  both-reads.Learnt,
+  list-size-reads.Asked,
+  list-size-reads.Learnt,
+  walk-below t,
+  walk.Post,
+) (walk-at t) walk.Post walk-Inv-loop walk-μ-loop
+walk-returns-4 t c = let l = c .before .loop in (Laws.left-end (l .inv .5) (c .loop-test .left), (l .inv .3, l .inv .4))
+
+pub +walk-spec : {M : Type 1} → statement M
++walk-spec = close μ-walk λ t. walk-lts.spec (
+  item-at-reads.Asked,
+  item-at-reads.Learnt,
+  keep-reads.Asked,
+  keep-reads.Learnt,
+  missing-reads.Asked,
+  missing-reads.Learnt,
+  both-reads.Asked,
+  both-reads.Learnt,
+  list-size-reads.Asked,
+  list-size-reads.Learnt,
+  walk-below t,
+  walk.Post,
+)
+    (walk-at t)
+    walk.Post
+    walk-Inv-loop
+    walk-μ-loop
+    (walk-loop-holds t)
+    (walk-item-at-requires t)
+    (walk-enum-told t)
+    (walk-returns t)
+    (walk-enum-known-kind t)
+    (walk-keep-requires t)
+    (walk-missing-requires t)
+    (walk-both-requires t)
+    (walk-add-stop t)
+    (walk-sub-list-size t)
+    (walk-part-list-size-start t)
+    (walk-part-list-size-end t)
+    (walk-list-size-requires t)
+    (walk-returns-2 t)
+    (walk-add-walk t)
+    (walk-walk-requires t)
+    (walk-enum-told-2 t)
+    (walk-returns-3 t)
+    (walk-enum-known-outer t)
+    (walk-loop-less t)
+    (walk-loop-again t)
+    (walk-loop-less-2 t)
+    (walk-loop-again-2 t)
+    (walk-loop-less-3 t)
+    (walk-loop-again-3 t)
+    (walk-returns-4 t)

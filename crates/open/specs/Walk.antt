@@ -1,0 +1,90 @@
+-- What the walk over the TLVs answers, by places in the octets and by the values that lie there.
+use Prim.Native.Nat.{ℕ, _+_, _≤_}
+use mathlib.Core.List.{List}
+use mathlib.Core.Bool.{Bool, true, false, cond, _&&_}
+use mathlib.Core.Option.{Option, none, some}
+use lib.ListN.{length}
+use Rattle.octets.specs.Octets.{part}
+use Rattle.answers.specs.Numbers.{capabilityMissing}
+use Rattle.session.specs.declared.Limit.the-variants.{Free, Most}
+use Rattle.session.specs.declared.Opened.{Opened}
+use Rattle.session.specs.Sessions.{openRefused, openCarries}
+use Rattle.items.specs.Tlvs.{Tlvs, tlvsOf, wholeOf, firstOf}
+use Rattle.capability.specs.SetupTypes.{pathSetup, listSize, holdsList, subsOf, listsSrv6}
+use Rattle.capability.specs.Srv6.{announcedOf}
+use Rattle.open.specs.declared.walk.Place.{Place}
+use Rattle.open.specs.declared.walk.Place.the-variants.{Missing, At}
+use Rattle.open.specs.declared.walk.Found.{Found}
+use Rattle.open.specs.declared.walk.Found.the-variants.{Cut, Whole}
+
+-- places -------------------------------------------------------------------------------------------------------
+
+abbrev pub missingOf : Place → Bool
+missingOf Missing = true
+missingOf (At from len) = false
+
+-- The first hit is kept.
+abbrev pub keepOf : Place → Bool → ℕ → ℕ → Place
+keepOf Missing hit from len = cond hit (At from len) Missing
+keepOf (At f n) hit from len = At f n
+
+abbrev pub valueAt : List ℕ → Place → Option (List ℕ)
+valueAt s Missing = none
+valueAt s (At from len) = some (part s from len)
+
+-- A place lies within n octets.
+abbrev pub Inside : ℕ → Place → Type 0
+Inside n Missing = Unit
+Inside n (At from len) = from + len ≤ n
+
+-- So does that of TLV 34, which holds its padded list.
+abbrev pub Listed : List ℕ → Place → Type 0
+Listed s Missing = Unit
+Listed s (At from len) = (from + len ≤ length s) × (listSize (part s from len) ≤ len)
+
+abbrev pub Bounds : List ℕ → Found → Type 0
+Bounds s Cut = Unit
+Bounds s (Whole list sub) = Listed s list × Inside (length s) sub
+
+-- values -------------------------------------------------------------------------------------------------------
+
+-- What a walk found: the value of the first TLV 34, and that of the first wanted sub-TLV in it.
+pub data Sight : Type 0 where
+  torn : Sight
+  seen : Option (List ℕ) → Option (List ℕ) → Sight
+
+abbrev pub sightOf : List ℕ → Found → Sight
+sightOf s Cut = torn
+sightOf s (Whole list sub) = seen (valueAt s list) (valueAt s sub)
+
+abbrev pub orElse : Option (List ℕ) → Option (List ℕ) → Option (List ℕ)
+orElse (some v) o = some v
+orElse none o = o
+
+-- What the first TLV 34 gives, if there is one.
+abbrev pub insideOf : ℕ → Option (List ℕ) → Option (List ℕ) → Sight
+insideOf want sub none = seen none sub
+insideOf want sub (some v) = cond (holdsList v && wholeOf (subsOf v)) (seen (some v) (firstOf want (subsOf v))) torn
+
+-- What TLVs that all fit give, after `list` and `sub` were found before them.
+abbrev pub levelOf : Bool → ℕ → Option (List ℕ) → Option (List ℕ) → Tlvs → Sight
+levelOf true want list sub ts = seen list (orElse sub (firstOf want ts))
+levelOf false want (some v) sub ts = seen (some v) sub
+levelOf false want none sub ts = insideOf want sub (firstOf pathSetup ts)
+
+abbrev pub onward : Bool → ℕ → Option (List ℕ) → Option (List ℕ) → Tlvs → Sight
+onward inner want list sub ts = cond (wholeOf ts) (levelOf inner want list sub ts) torn
+
+-- The walk over the octets given.
+unfoldable pub walkOf : Bool → ℕ → List ℕ → Sight
+walkOf inner want s = onward inner want none none (tlvsOf inner s)
+
+-- what the values found carry ----------------------------------------------------------------------------------
+
+abbrev pub announcedBy : Option (List ℕ) → Opened
+announcedBy none = openRefused capabilityMissing
+announcedBy (some w) = announcedOf w
+
+abbrev pub carriedBy : Option (List ℕ) → Option (List ℕ) → Opened
+carriedBy none sub = openCarries false false Free
+carriedBy (some v) sub = cond (listsSrv6 v) (announcedBy sub) (openCarries false false Free)

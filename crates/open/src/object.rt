@@ -1,0 +1,78 @@
+// An object starts with class (1 octet), type in the high 4 bits of the next octet (the low 4 are
+// ignored), and a 2-octet length that counts the 4 header octets. OPEN is class 1, type 1; its body is an
+// octet whose top 3 bits are the version, which must be 1, then keepalive, dead timer, session number,
+// then TLVs.
+//
+// 1: ill formed. 2: setup type 3 listed and no sub-TLV 27. 3: X is 0 and a pair's type is unknown.
+// The order is 1, 2, 3, and all of rule 1, to the last TLV, goes before 2 and 3.
+ghost use mathlib.Core.Path.{_≡_};
+ghost use lib.ListN.{length};
+ghost use Rattle.open.specs.Walk.{Listed, Inside, valueAt, carriedBy};
+ghost use Rattle.open.specs.Open.{framed, openOf};
+use super::walk::Found;
+use super::walk::Place;
+use answers::CAPABILITY_MISSING;
+use answers::OPEN_MALFORMED;
+use capability::SRV6_CAPABILITY;
+use session::Limit;
+use session::Opened;
+
+const OPEN_CLASS: usize = 1;
+
+const OPEN_TYPE: usize = 1;
+
+const VERSION: usize = 1;
+
+// The place of the first TLV.
+const TLVS: usize = 8;
+
+// Class, type, version and length are an OPEN's.
+fn is_framed(s: &[u8]) -> bool
+    ensures { λ r. ⌜ r ≡ framed (now (s .entry)) ⌝ }
+{
+    if s.len() < TLVS {
+        return false;
+    }
+    let class = octets::octet(s, 0) == OPEN_CLASS;
+    let kind = octets::octet(s, 1) / 16 == OPEN_TYPE;
+    let version = octets::octet(s, 4) / 32 == VERSION;
+    let same = octets::read16(s, 2) == s.len();
+    let headed = octets::both(octets::both(class, kind), version);
+    octets::both(headed, octets::both(same, s.len() % 4 == 0))
+}
+
+// What the values found carry: SRv6 only where setup type 3 is listed.
+fn carried_by(s: &[u8], list: Place, sub: Place) -> Opened
+    requires { ⌜ Listed (now s) list × Inside (length (now s)) sub ⌝ }
+    ensures { λ r. ⌜ r ≡ carriedBy (valueAt (now (s .entry)) list) (valueAt (now (s .entry)) sub) ⌝ }
+{
+    match list {
+        Place::Missing => session::carried(false, false, Limit::Free),
+        Place::At(from, len) => {
+            let stop = from + len;
+            if !capability::lists_srv6(&s[from..stop]) {
+                return session::carried(false, false, Limit::Free);
+            }
+            match sub {
+                Place::Missing => session::refused_open(CAPABILITY_MISSING),
+                Place::At(first, size) => {
+                    let last = first + size;
+                    capability::announced(&s[first..last])
+                }
+            }
+        }
+    }
+}
+
+// The answer to an OPEN object: what it carries, or 1, 2 or 3.
+pub fn read_open(s: &[u8]) -> Opened
+    ensures read { λ r. ⌜ r ≡ openOf (now (s .entry)) ⌝ }
+{
+    if !is_framed(s) {
+        return session::refused_open(OPEN_MALFORMED);
+    }
+    match super::walk::walk(s, TLVS, s.len(), false, SRV6_CAPABILITY) {
+        Found::Cut => session::refused_open(OPEN_MALFORMED),
+        Found::Whole(list, sub) => carried_by(s, list, sub),
+    }
+}
