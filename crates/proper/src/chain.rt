@@ -5,12 +5,6 @@ ghost use Prim.Native.Nat.{_<_, _≤_};
 ghost use Rattle.table.specs.Proper.{freshB};
 ghost use Rattle.proper.specs.Chain.{slotOf, Links, Walking};
 
-pub fn wide32(x: u32) -> u64
-    ensures same { λ r. ⌜ r ≡ x ⌝ }
-{
-    x as u64
-}
-
 // The hash of a number.
 pub fn slot(k: u64) -> usize
     ensures slot { λ r. ⌜ (r ≡ slotOf k) × (r < 256) ⌝ }

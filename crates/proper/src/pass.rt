@@ -6,11 +6,11 @@ ghost use Rattle.table.specs.Proper.{properB};
 use super::chain::fresh32;
 use super::chain::fresh64;
 use super::chain::slot;
-use super::chain::wide32;
 use super::place::place_ok;
 use octets::wide;
 use table::PLACES;
 use table::VERSION_MOST;
+use table::wide32;
 
 pub fn is_proper<'a>(
     keys: &'a [u32; 128],

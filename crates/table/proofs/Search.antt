@@ -11,8 +11,8 @@ use borrow.Author.Tests.{eq-eqb, ne-eqb, eqb-true, eqb-false, lt-ltb, le-ltb, lt
 use borrow.Author.Count.{below-more}
 use Rattle.table.specs.declared.board.Board.{Board}
 use Rattle.table.specs.Sizes.{places}
-use Rattle.table.specs.Table.{keyAt, versionAt, lengthAt, Empty, Used, Removal, Path, New, emptyB, removalB}
-use Rattle.table.specs.Search.{firstWhere, leastWhere, KeyPlace, placeOf, LowestEmpty, emptyOf, OldestRemoval, oldestOf, ReportPlace, keeps, takes, drops, targetOf, floorAfter, Wanted, path, removal, NextChange, wantedB, nextOf}
+use Rattle.table.specs.Table.{keyAt, versionAt, lengthAt, Empty, Used, Removal, Path, New, removalB}
+use Rattle.table.specs.Search.{firstWhere, leastWhere, KeyPlace, placeIn, placeOf, LowestEmpty, emptyOf, OldestRemoval, oldestOf, ReportPlace, keeps, takes, drops, targetOf, floorAfter, Wanted, path, removal, NextChange, wantedB, nextOf}
 use Rattle.table.specs.Proper.{Proper}
 use Rattle.table.proofs.Logic.{true≢false, and-true, same?, from?}
 
@@ -123,18 +123,18 @@ wanted-used b s w i (removal r l m) = r .used
 
 -- ---- the place of a key
 pub key-place-is : (b : Board) (k : ℕ) → placeOf b k < places → KeyPlace b k (placeOf b k)
-unfolding placeOf
+unfolding placeIn
 key-place-is b k l = record { here = l; key = eqb-true (keyAt b (firstWhere (λ i. eqb (keyAt b i) k) 128)) k (first-hit (λ i. eqb (keyAt b i) k) 128 l) }
 
 pub key-place-none : (b : Board) (k : ℕ) → places ≤ placeOf b k → New b k
-unfolding placeOf
+unfolding placeIn
 key-place-none b k l j m = eqb-false (keyAt b j) k (first-before (λ i. eqb (keyAt b i) k) 128 j m (omega arith))
 
 pub key-place-one : (b : Board) → Proper b → (k i j : ℕ) → (k ≡ 0 → ⊥) → KeyPlace b k i → KeyPlace b k j → i ≡ j
 key-place-one b p k i j z x y = p .keys-distinct i j (x .here) (y .here) (λ e. z (sym (x .key) ∙ e)) (x .key ∙ sym (y .key))
 
 pub place-most : (b : Board) (k : ℕ) → placeOf b k ≤ places
-unfolding placeOf
+unfolding placeIn
 place-most b k = go (firstWhere (λ i. eqb (keyAt b i) k) 128) (first-is (λ i. eqb (keyAt b i) k) 128)
   where
     go : (i : ℕ) → IsFirst (λ i. eqb (keyAt b i) k) 128 i → i ≤ 128
@@ -148,17 +148,17 @@ key-place-found b p k i z x =
 
 -- ---- the lowest empty place
 pub lowest-is : (b : Board) → emptyOf b < places → LowestEmpty b (emptyOf b)
-unfolding emptyOf emptyB
+unfolding placeIn
 lowest-is b l =
     record {
       here = l;
-      empty = eqb-true (keyAt b (firstWhere (emptyB b) 128)) 0 (first-hit (emptyB b) 128 l);
-      lowest = λ j m. eqb-false (keyAt b j) 0 (first-before (emptyB b) 128 j (omega arith) m);
+      empty = eqb-true (keyAt b (firstWhere (λ i. eqb (keyAt b i) 0) 128)) 0 (first-hit (λ i. eqb (keyAt b i) 0) 128 l);
+      lowest = λ j m. eqb-false (keyAt b j) 0 (first-before (λ i. eqb (keyAt b i) 0) 128 j (omega arith) m);
     }
 
 pub lowest-none : (b : Board) → places ≤ emptyOf b → (j : ℕ) → j < places → Used b j
-unfolding emptyOf emptyB
-lowest-none b l j m = eqb-false (keyAt b j) 0 (first-before (emptyB b) 128 j m (omega arith))
+unfolding placeIn
+lowest-none b l j m = eqb-false (keyAt b j) 0 (first-before (λ i. eqb (keyAt b i) 0) 128 j m (omega arith))
 
 pub lowest-one : (b : Board) (i j : ℕ) → LowestEmpty b i → LowestEmpty b j → i ≡ j
 lowest-one b i j x y =

@@ -4,10 +4,12 @@
 use Prim.Native.Nat.{ℕ, zero, suc, _<_, _≤_}
 use mathlib.Core.Path.{_≡_}
 use mathlib.Core.Bool.{Bool, true, false, not, cond, _&&_, _||_}
+use mathlib.Core.List.{List}
+use lib.ListN.{getD}
 use lib.Dec.{eqb, ltb, leb}
 use Rattle.table.specs.declared.board.Board.{Board}
 use Rattle.table.specs.Sizes.{places}
-use Rattle.table.specs.Table.{keyAt, versionAt, lengthAt, Empty, Used, Removal, Path, New, emptyB, removalB}
+use Rattle.table.specs.Table.{keyAt, versionAt, lengthAt, Empty, Used, Removal, Path, New, removalB}
 
 -- the first number below n that passes the test; n where none does
 unfoldable pub firstWhere : (ℕ → Bool) → ℕ → ℕ
@@ -24,8 +26,12 @@ pub record KeyPlace (b : Board) (k i : ℕ) : Type 0 where
   pub here : i < places
   pub key : keyAt b i ≡ k
 
-unfoldable pub placeOf : Board → ℕ → ℕ
-placeOf b k = firstWhere (λ i. eqb (keyAt b i) k) places
+-- the first place of a list of keys that has k
+unfoldable pub placeIn : List ℕ → ℕ → ℕ
+placeIn keys k = firstWhere (λ i. eqb (getD keys i 0) k) places
+
+abbrev pub placeOf : Board → ℕ → ℕ
+placeOf b k = placeIn (b .keys) k
 
 -- ---- "the lowest empty place"
 pub record LowestEmpty (b : Board) (i : ℕ) : Type 0 where
@@ -33,8 +39,8 @@ pub record LowestEmpty (b : Board) (i : ℕ) : Type 0 where
   pub empty : Empty b i
   pub lowest : (j : ℕ) → j < i → Empty b j → ⊥
 
-unfoldable pub emptyOf : Board → ℕ
-emptyOf b = firstWhere (emptyB b) places
+abbrev pub emptyOf : Board → ℕ
+emptyOf b = placeIn (b .keys) 0
 
 -- ---- "the oldest removal"
 pub record OldestRemoval (b : Board) (i : ℕ) : Type 0 where

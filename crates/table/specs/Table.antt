@@ -52,10 +52,7 @@ pub record Path (b : Board) (i : ℕ) : Type 0 where
 abbrev pub New : Board → ℕ → Type 0
 New b k = (j : ℕ) → j < places → keyAt b j ≡ k → ⊥
 
--- the same as tests
-unfoldable pub emptyB : Board → ℕ → Bool
-emptyB b i = eqb (keyAt b i) 0
-
+-- that a place is a removal, as a test
 unfoldable pub removalB : Board → ℕ → Bool
 removalB b i = not (eqb (keyAt b i) 0) && eqb (lengthAt b i) 0
 

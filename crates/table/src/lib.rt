@@ -2,6 +2,7 @@
 // a version and either a path body or the mark of a removal. Bodies lie in 49,152 lent octets, 384 a place.
 mod board;
 mod size;
+mod wide;
 
 pub use board::Board;
 pub use board::empty;
@@ -14,3 +15,5 @@ pub use size::ROOM;
 pub use size::STORE;
 pub use size::UNIT;
 pub use size::VERSION_MOST;
+pub use wide::wide16;
+pub use wide::wide32;

@@ -1,0 +1,4 @@
+pub mod Keys
+pub mod Tracks
+pub mod Targets
+pub mod Determined

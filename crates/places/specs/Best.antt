@@ -1,0 +1,22 @@
+-- A search for the smallest version keeps the best place so far; proofs/Tracks.antt shows that it ends at `leastWhere`.
+use Prim.Native.Nat.{ℕ}
+use mathlib.Core.Bool.{Bool, not, cond, _&&_, _||_}
+use lib.Dec.{eqb, ltb, leb}
+use Rattle.table.specs.Sizes.{places}
+use Rattle.places.specs.declared.best.Best.{Best}
+
+-- no place, with the largest number, which no board's version is
+abbrev pub noBest : Best
+noBest = record { at = places; version = 18446744073709551615 }
+
+-- the best with one place more, if it passes
+unfoldable pub betterOf : Best → Bool → ℕ → ℕ → Best
+betterOf best passes at v = cond (leb (best .version) v) best (cond passes (record { at = at; version = v }) best)
+
+-- on a board, the version and length of a removal
+unfoldable pub bare : ℕ → ℕ → Bool
+bare v l = eqb l 0 && not (eqb v 0)
+
+-- on a board, the version and length of a change that a follower at (s, w) wants
+unfoldable pub wantedOf : ℕ → ℕ → ℕ → ℕ → Bool
+wantedOf s w v l = ltb w v && (ltb s v || not (eqb l 0))

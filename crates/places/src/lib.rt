@@ -1,0 +1,11 @@
+// The places that the board's calls look for (document 01, "The board"): that of a key, the lowest empty one, that of the
+// oldest removal, where a report goes, and the next change for a mark.
+mod best;
+mod change;
+mod key;
+mod report;
+
+pub use change::next_place;
+pub use key::place_of;
+pub use report::floor_after;
+pub use report::target;
