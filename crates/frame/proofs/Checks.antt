@@ -1,0 +1,122 @@
+-- Laws about checks in order. Assumes nothing.
+use Prim.Native.Nat.{ℕ, zero, suc, _+_, _≤_, _<_}
+use mathlib.Core.Path.{_≡_, refl, sym, _∙_, ap}
+use mathlib.Core.List.{List, [], _∷_, _++_}
+use mathlib.Core.Bool.{Bool, true, false, cond}
+use lib.ListN.{length, getD}
+use native.Mathlib.Omega.{arith}
+use Rattle.answers.specs.declared.verdict.Verdict.{Verdict}
+use Rattle.answers.specs.Verdicts.{refusedBy, acceptedWith}
+use Rattle.frame.specs.Checks.{Check, check, firstBroken}
+
+-- one after the other ------------------------------------------------------------------------------------------
+
+pub first-append : (xs ys : List Check) (after : Verdict) → firstBroken (xs ++ ys) after ≡ firstBroken xs (firstBroken ys after)
+first-append [] ys after = refl
+first-append (c ∷ xs) ys after = rw (first-append xs ys after)
+
+-- No check of the list is broken.
+abbrev pub None : List Check → Type 0
+None [] = Unit {0}
+None (c ∷ cs) = (c .broken ≡ false) × None cs
+
+-- Every check of the list has a number.
+abbrev pub Numbered : List Check → Type 0
+Numbered [] = Unit {0}
+Numbered (c ∷ cs) = (0 < c .number) × Numbered cs
+
+pub none-first : (cs : List Check) (after : Verdict) → None cs → firstBroken cs after ≡ after
+none-first [] after h = refl
+none-first (c ∷ cs) after h = rw (h .0) (none-first cs after (h .1))
+
+pub none-append : (xs ys : List Check) → None xs → None ys → None (xs ++ ys)
+none-append [] ys h k = k
+none-append (c ∷ xs) ys h k = (h .0, none-append xs ys (h .1) k)
+
+pub none-split : (xs ys : List Check) → None (xs ++ ys) → None xs × None ys
+none-split [] ys h = (tt, h)
+none-split (c ∷ xs) ys h = let r = none-split xs ys (h .1) in ((h .0, r .0), r .1)
+
+pub numbered-append : (xs ys : List Check) → Numbered xs → Numbered ys → Numbered (xs ++ ys)
+numbered-append [] ys h k = k
+numbered-append (c ∷ xs) ys h k = (h .0, numbered-append xs ys (h .1) k)
+
+-- An answer without a number: no check was broken.
+pub first-none : (cs : List Check) (after : Verdict) → Numbered cs → firstBroken cs after .number ≡ 0 → None cs
+first-none [] after h e = tt
+first-none (c ∷ cs) after h e = go (c .broken) refl (λ r. first-none cs after (h .1) r)
+  where
+    go : (b : Bool) → c .broken ≡ b → (firstBroken cs after .number ≡ 0 → None cs) → None (c ∷ cs)
+    go true k rest = let z : c .number ≡ 0 = rw k at e in absurd (omega (arith, h .0))
+    go false k rest = (k, rest (rw k at e))
+
+-- An answer with a number: what comes after plays no part.
+pub first-some : (cs : List Check) (a b : Verdict) → a .number ≡ 0 → (firstBroken cs a .number ≡ 0 → ⊥) → firstBroken cs a ≡ firstBroken cs b
+first-some [] a b z n = absurd (n z)
+first-some (c ∷ cs) a b z n = go (c .broken) refl (λ r. first-some cs a b z r)
+  where
+    go : (x : Bool) → c .broken ≡ x → ((firstBroken cs a .number ≡ 0 → ⊥) → firstBroken cs a ≡ firstBroken cs b) → firstBroken (c ∷ cs) a ≡ firstBroken (c ∷ cs) b
+    go true k rest = rw k
+    go false k rest = rw k (rest (λ e. n (rw k e)))
+
+-- by rank ------------------------------------------------------------------------------------------------------
+
+-- The check of a rank, from 0.
+abbrev pub checkOf : List Check → ℕ → Check
+checkOf cs i = getD cs i (check 0 0 false)
+
+-- The check of rank i is broken, and none of a lower rank is.
+pub record First (cs : List Check) (i : ℕ) : Type 0 where
+  pub within : i < length cs
+  pub here : checkOf cs i .broken ≡ true
+  pub before : (j : ℕ) → j < i → checkOf cs j .broken ≡ false
+
+pub none-all : (cs : List Check) → None cs → (i : ℕ) → checkOf cs i .broken ≡ false
+none-all [] h i = refl
+none-all (c ∷ cs) h zero = h .0
+none-all (c ∷ cs) h (suc i) = none-all cs (h .1) i
+
+pub all-none : (cs : List Check) → ((i : ℕ) → i < length cs → checkOf cs i .broken ≡ false) → None cs
+all-none [] f = tt
+all-none (c ∷ cs) f = (f 0 (omega arith), all-none cs (λ i h. f (suc i) (omega arith)))
+
+pub first-answer : (cs : List Check) (after : Verdict) (i : ℕ) → First cs i
+    → firstBroken cs after ≡ refusedBy (checkOf cs i .number) (checkOf cs i .place)
+first-answer [] after i f = absurd (omega (arith, f .within))
+first-answer (c ∷ cs) after zero f = rw (f .here)
+first-answer (c ∷ cs) after (suc i) f =
+    let w : suc i < suc (length cs) = f .within in
+    rw (f .before 0 (omega arith))
+    (first-answer cs after i (record { within = omega arith; here = f .here; before = λ j h. f .before (suc j) (omega arith) }))
+
+-- The first broken check, with its number and place.
+pub record Found (cs : List Check) (n p : ℕ) : Type 0 where
+  pub rank : ℕ
+  pub first : First cs rank
+  pub number : checkOf cs rank .number ≡ n
+  pub place : checkOf cs rank .place ≡ p
+
+first-later : (c : Check) (cs : List Check) (i : ℕ) → c .broken ≡ false → First cs i → First (c ∷ cs) (suc i)
+first-later c cs i k f = record { within = let w = f .within in omega arith; here = f .here; before = below }
+  where
+    below : (j : ℕ) → j < suc i → checkOf (c ∷ cs) j .broken ≡ false
+    below zero h = k
+    below (suc j) h = f .before j (omega arith)
+
+-- A refusal is that of a first broken check.
+pub answer-first : (cs : List Check) (after : Verdict) (n p : ℕ) → (after .number ≡ n → ⊥) → firstBroken cs after ≡ refusedBy n p → Found cs n p
+answer-first [] after n p z e = absurd (z (ap (λ (v : Verdict). v .number) e))
+answer-first (c ∷ cs) after n p z e = go (c .broken) refl (λ r. answer-first cs after n p z r)
+  where
+    go : (b : Bool) → c .broken ≡ b → (firstBroken cs after ≡ refusedBy n p → Found cs n p) → Found (c ∷ cs) n p
+    go true k rest =
+        let q : refusedBy (c .number) (c .place) ≡ refusedBy n p = rw k at e in
+        record {
+          rank = 0;
+          first = record { within = omega arith; here = k; before = λ j h. absurd (omega arith) };
+          number = ap (λ (v : Verdict). v .number) q;
+          place = ap (λ (v : Verdict). v .place) q;
+        }
+    go false k rest =
+        let r = rest (rw k at e) in
+        record { rank = suc (r .rank); first = first-later c cs (r .rank) k (r .first); number = r .number; place = r .place }

@@ -1,0 +1,278 @@
+-- What is left of a walk over the frame, in the order of specs/Frames. Assumes nothing.
+use Prim.Native.Nat.{ℕ, zero, suc, pred, _+_, _-_, _*_, _/_, _%_, _≤_, _<_}
+use mathlib.Core.Path.{_≡_, refl, sym, _∙_, ap}
+use mathlib.Core.List.{List, [], _∷_}
+use mathlib.Core.Bool.{Bool, true, false, cond, not, _&&_, _||_}
+use lib.Dec.{ltb, leb, eqb}
+use lib.ListN.{length, getD}
+use native.Mathlib.Nat.{zero-add}
+use native.Mathlib.Omega.{arith}
+use borrow.Author.Tests.{eq-eqb, ne-eqb, le-ltb, ltb-false, leb-true, eqb-true, not-true, not-false}
+use Rattle.octets.specs.Octets.{octetOf, be16}
+use Rattle.subobject.specs.Layout.{kindOf}
+use Rattle.subobject.proofs.Laws.{both-true}
+use Rattle.answers.specs.declared.verdict.Verdict.{Verdict}
+use Rattle.answers.specs.Numbers.{frameBroken, routeEmpty, kindsMixed, noSrv6}
+use Rattle.answers.specs.Verdicts.{refusedBy, acceptedWith}
+use Rattle.frame.specs.declared.look.Facts.{Facts}
+use Rattle.frame.specs.Frames.{classOf, headed, fitsIn, Apart, ended, cut, from, step, apart, apartOf, kindAt, anyIs, otherThan, mixedAt, noFacts, seenOf, factsIn, factsOf, rule4, rule5, rule6, rule6Place, rule14, frameOf}
+
+-- the header ---------------------------------------------------------------------------------------------------
+
+-- What a sound header says of the octets' number.
+pub record Sized (s : List ℕ) : Type 0 where
+  pub low : 4 ≤ length s
+  pub four : length s % 4 ≡ 0
+  pub read : be16 s 2 ≡ length s
+
+pub headed-sized : (ero : Bool) (s : List ℕ) → headed ero s ≡ true → Sized s
+unfolding headed
+headed-sized ero s e =
+    let a = both-true (not (ltb (length s) 4)) _ e in
+    let b = both-true (eqb (octetOf s 0) (classOf ero)) _ (a .1) in
+    let c = both-true (eqb (octetOf s 1 / 16) 1) _ (b .1) in
+    let d = both-true (eqb (be16 s 2) (length s)) _ (c .1) in
+    record { low = ltb-false (length s) 4 (not-true _ (a .0)); four = eqb-true _ _ (d .1); read = eqb-true _ _ (d .0) }
+
+-- The last test of a header.
+pub headed-last : (ero : Bool) (s : List ℕ) → 4 ≤ length s → getD s 0 0 ≡ classOf ero → getD s 1 0 / 16 ≡ 1 → be16 s 2 ≡ length s
+    → eqb (length s % 4) 0 ≡ headed ero s
+unfolding headed octetOf
+headed-last ero s l c k n =
+    rw (le-ltb (length s) 4 l, eq-eqb (getD s 0 0) (classOf ero) c, eq-eqb (getD s 1 0 / 16) 1 k, eq-eqb (be16 s 2) (length s) n)
+
+-- one subobject ------------------------------------------------------------------------------------------------
+
+pub fits-true : (len room : ℕ) → fitsIn len room ≡ true → (4 ≤ len) × (len % 4 ≡ 0) × (len ≤ room)
+unfolding fitsIn
+fits-true len room e =
+    let h = both-true (not (ltb len 4)) (eqb (len % 4) 0 && leb len room) e in
+    let g = both-true (eqb (len % 4) 0) (leb len room) (h .1) in
+    (ltb-false len 4 (not-true _ (h .0)), eqb-true (len % 4) 0 (g .0), leb-true len room (g .1))
+
+-- the frame from a place on ------------------------------------------------------------------------------------
+
+pub parted : (f : ℕ) (s : List ℕ) (at : ℕ) → 0 < f
+    → apart f s at ≡ step (eqb at (length s)) (fitsIn (octetOf s (at + 1)) (length s - at)) (λ u. from at (apart (pred f) s (at + octetOf s (at + 1))))
+unfolding apart
+parted zero s at h = absurd (omega arith)
+parted (suc f) s at h = refl
+
+-- What F makes of the frame from `at` on is `whole`.
+pub record Over {A : Type 0} (F : Apart → A) (s : List ℕ) (at : ℕ) (whole : A) : Type 0 where
+  pub fuel : ℕ
+  pub enough : length s - at < fuel
+  pub same : F (apart fuel s at) ≡ whole
+
+pub over-starts : {A : Type 0} (F : Apart → A) (s : List ℕ) → Over F s 4 (F (apartOf s))
+unfolding apartOf
+over-starts F s = record { fuel = suc (length s); enough = omega arith; same = refl }
+
+module _ {A : Type 0} {F : Apart → A} {s : List ℕ} {at : ℕ} {whole : A} where
+  pub over-ends : Over F s at whole → at ≡ length s → F ended ≡ whole
+  over-ends l e = sym (rw (parted (l .fuel) s at (omega arith), eq-eqb at (length s) e)) ∙ l .same
+
+  pub over-cut : Over F s at whole → (at ≡ length s → ⊥) → fitsIn (octetOf s (at + 1)) (length s - at) ≡ false → F cut ≡ whole
+  over-cut l n h = sym (rw (parted (l .fuel) s at (omega arith), ne-eqb at (length s) n, h)) ∙ l .same
+
+  pub over-next : Over F s at whole → at < length s → fitsIn (octetOf s (at + 1)) (length s - at) ≡ true
+      → Over (λ a. F (from at a)) s (at + octetOf s (at + 1)) whole
+  over-next l n h = record {
+    fuel = pred (l .fuel);
+    enough = omega (arith, fits-true (octetOf s (at + 1)) (length s - at) h);
+    same = sym (rw (parted (l .fuel) s at (omega arith), ne-eqb at (length s) (omega arith), h)) ∙ l .same;
+  }
+
+  pub over-as : Over F s at whole → (G : Apart → A) → ((a : Apart) → F a ≡ G a) → Over G s at whole
+  over-as l G e = record { fuel = l .fuel; enough = l .enough; same = sym (e (apart (l .fuel) s at)) ∙ l .same }
+
+-- A whole frame,
+pub sound-starts : (s : List ℕ) → apartOf s .whole ≡ true → Over (λ a. a .whole) s 4 true
+sound-starts s e = let l = over-starts (λ a. a .whole) s in record { fuel = l .fuel; enough = l .enough; same = l .same ∙ e }
+
+-- in which each subobject fits.
+pub sound-fits : {s : List ℕ} {at : ℕ} → Over (λ a. a .whole) s at true → (at ≡ length s → ⊥) → fitsIn (octetOf s (at + 1)) (length s - at) ≡ true
+sound-fits {s} {at} l n = go (fitsIn (octetOf s (at + 1)) (length s - at)) refl
+  where
+    go : (b : Bool) → fitsIn (octetOf s (at + 1)) (length s - at) ≡ b → fitsIn (octetOf s (at + 1)) (length s - at) ≡ true
+    go true e = e
+    go false e = e ∙ over-cut l n e
+
+pub sound-room : {s : List ℕ} {at : ℕ} → Over (λ a. a .whole) s at true → (at ≡ length s → ⊥)
+    → (4 ≤ getD s (at + 1) 0) × (getD s (at + 1) 0 % 4 ≡ 0) × (getD s (at + 1) 0 ≤ length s - at)
+unfolding octetOf
+sound-room {s} {at} l n = fits-true (octetOf s (at + 1)) (length s - at) (sound-fits l n)
+
+-- The walk goes on by the length that was read.
+pub sound-next : {s : List ℕ} {at len : ℕ} → Over (λ a. a .whole) s at true → at < length s → len ≡ getD s (at + 1) 0
+    → Over (λ a. a .whole) s (at + len) true
+unfolding octetOf
+sound-next l n e = rw e (over-next l n (sound-fits l (omega arith)))
+
+pub next-by : {A : Type 0} {F : Apart → A} {s : List ℕ} {at len : ℕ} {whole : A} → Over (λ a. a .whole) s at true → Over F s at whole → at < length s
+    → len ≡ getD s (at + 1) 0 → Over (λ a. F (from at a)) s (at + len) whole
+unfolding octetOf
+next-by g l n e = rw e (over-next l n (sound-fits g (omega arith)))
+
+-- one pass over the frame --------------------------------------------------------------------------------------
+
+-- The facts gathered, with those of the places that are left.
+abbrev pub joined : (ℕ → ℕ) → ℕ → ℕ → Facts → List ℕ → Facts
+joined kinds kind first g ps =
+    record {
+      whole = g .whole;
+      count = g .count + length ps;
+      any = g .any || anyIs kinds kind ps;
+      other = cond (eqb (g .other) 0) (otherThan kinds first ps) (g .other);
+    }
+
+abbrev pub lookRest : (ℕ → ℕ) → ℕ → ℕ → Facts → Apart → Facts
+lookRest kinds kind first g a = cond (a .whole) (joined kinds kind first g (a .places)) (noFacts false)
+
+first-mixed : (kinds : ℕ → ℕ) (f : ℕ) (s : List ℕ) (at : ℕ) → otherThan kinds (kinds at) (apart f s at .places) ≡ mixedAt kinds (apart f s at .places)
+unfolding apart
+first-mixed kinds zero s at = refl
+first-mixed kinds (suc f) s at = go (eqb at (length s)) (fitsIn (octetOf s (at + 1)) (length s - at))
+  where
+    go : (x y : Bool) → otherThan kinds (kinds at) (step x y (λ u. from at (apart f s (at + octetOf s (at + 1)))) .places)
+        ≡ mixedAt kinds (step x y (λ u. from at (apart f s (at + octetOf s (at + 1)))) .places)
+    go true y = refl
+    go false false = refl
+    go false true = rw (eq-eqb (kinds at) (kinds at) refl)
+
+rest-starts : (s : List ℕ) (ero : Bool) (kind first : ℕ) → first ≡ kindAt ero s 4
+    → Over (lookRest (kindAt ero s) kind first (noFacts true)) s 4 (factsOf ero kind s)
+unfolding factsOf apartOf
+rest-starts s ero kind first e =
+    let a : Apart = apart (suc (length s)) s 4 in
+    let o : otherThan (kindAt ero s) first (a .places) ≡ mixedAt (kindAt ero s) (a .places) = rw e (first-mixed (kindAt ero s) (suc (length s)) s 4) in
+    record {
+      fuel = suc (length s);
+      enough = omega arith;
+      same =
+          λ i. cond (a .whole) (record { whole = true; count = zero-add (length (a .places)) i; any = anyIs (kindAt ero s) kind (a .places); other = o i }) (noFacts false);
+    }
+
+or-assoc : (a b c : Bool) → (a || (b || c)) ≡ ((a || b) || c)
+or-assoc true b c = refl
+or-assoc false b c = refl
+
+or-false : (a : Bool) → (a || false) ≡ a
+or-false true = refl
+or-false false = refl
+
+zero-self : (n : ℕ) → cond (eqb n 0) 0 n ≡ n
+zero-self n = go (eqb n 0) refl
+  where
+    go : (b : Bool) → eqb n 0 ≡ b → cond b 0 n ≡ n
+    go true e = sym (eqb-true n 0 e)
+    go false e = refl
+
+found-next : (o p rest : ℕ) (y : Bool) → 0 < p
+    → cond (eqb o 0) (cond y rest p) o ≡ cond (eqb (cond (eqb o 0 && not y) p o) 0) rest (cond (eqb o 0 && not y) p o)
+found-next o p rest y h = go (eqb o 0) y refl
+  where
+    go : (x z : Bool) → eqb o 0 ≡ x → cond x (cond z rest p) o ≡ cond (eqb (cond (x && not z) p o) 0) rest (cond (x && not z) p o)
+    go true true e = rw e
+    go true false e = rw (ne-eqb p 0 (omega arith))
+    go false z e = rw e
+
+-- A place less to come, and its subobject seen.
+joined-next : (kinds : ℕ → ℕ) (kind first p : ℕ) (g : Facts) (ps : List ℕ) → 0 < p
+    → joined kinds kind first g (p ∷ ps) ≡ joined kinds kind first (seenOf g p (kinds p) kind first) ps
+unfolding seenOf
+joined-next kinds kind first p g ps h =
+    let n : g .count + suc (length ps) ≡ g .count + 1 + length ps = omega arith in
+    let a = or-assoc (g .any) (eqb (kinds p) kind) (anyIs kinds kind ps) in
+    let o = found-next (g .other) p (otherThan kinds first ps) (eqb (kinds p) first) h in
+    λ i. record { whole = g .whole; count = n i; any = a i; other = o i }
+
+joined-all : (kinds : ℕ → ℕ) (kind first : ℕ) (g : Facts) → joined kinds kind first g [] ≡ g
+joined-all kinds kind first g =
+    let n : g .count + 0 ≡ g .count = omega arith in
+    let a = or-false (g .any) in
+    let o = zero-self (g .other) in
+    λ i. record { whole = g .whole; count = n i; any = a i; other = o i }
+
+-- The pass has come to `at` with the facts g.
+pub record Looking (s : List ℕ) (ero : Bool) (kind first at : ℕ) (g whole : Facts) : Type 0 where
+  pub rest : Over (lookRest (kindAt ero s) kind first g) s at whole
+
+pub look-starts : (s : List ℕ) (ero : Bool) (kind first : ℕ) → first ≡ kindAt ero s 4 → Looking s ero kind first 4 (noFacts true) (factsOf ero kind s)
+look-starts s ero kind first e = record { rest = rest-starts s ero kind first e }
+
+module _ {s : List ℕ} {ero : Bool} {kind first at : ℕ} {g whole : Facts} (l : Looking s ero kind first at g whole) where
+  pub look-ends : at ≡ length s → g ≡ whole
+  look-ends e = sym (joined-all (kindAt ero s) kind first g) ∙ over-ends (l .rest) e
+
+  pub look-cut : {len : ℕ} {r : Bool} → (at ≡ length s → ⊥) → len ≡ getD s (at + 1) 0 → r ≡ fitsIn len (length s - at) → not r ≡ true
+      → noFacts false ≡ whole
+  unfolding octetOf
+  look-cut {r = r} n e f t = over-cut (l .rest) n (rw e at (sym f ∙ not-true r t))
+
+  pub look-next : {len x k : ℕ} {r : Bool} {g′ : Facts} → 0 < at → at < length s → len ≡ getD s (at + 1) 0 → r ≡ fitsIn len (length s - at) → not r ≡ false
+      → x ≡ getD s at 0 → k ≡ kindOf ero x → g′ ≡ seenOf g at k kind first → Looking s ero kind first (at + len) g′ whole
+  unfolding octetOf
+  look-next {r = r} h n e f t ex ek eg =
+      rw (eg, ek, ex, e)
+      (record {
+        rest =
+            over-as (over-next (l .rest) n (rw e at (sym f ∙ not-false r t))) (lookRest (kindAt ero s) kind first (seenOf g at (kindAt ero s at) kind first))
+            (λ a. rw (joined-next (kindAt ero s) kind first at g (a .places) h));
+      })
+
+pub now-fits : (len room : ℕ) (r : Bool) → r ≡ fitsIn len room → not r ≡ false → (4 ≤ len) × (len % 4 ≡ 0) × (len ≤ room)
+now-fits len room r e n = fits-true len room (sym e ∙ not-false r n)
+
+pub seen-count : (g g′ : Facts) (at k kind first : ℕ) → g′ ≡ seenOf g at k kind first → g′ .count ≡ g .count + 1
+unfolding seenOf
+seen-count g g′ at k kind first e = ap (λ (x : Facts). x .count) e
+
+-- the place of a subobject -------------------------------------------------------------------------------------
+
+pub record Going (s : List ℕ) (at left whole : ℕ) : Type 0 where
+  pub good : Over (λ a. a .whole) s at true
+  pub rest : Over (λ a. getD (a .places) left 0) s at whole
+
+pub going-starts : (s : List ℕ) (i : ℕ) → apartOf s .whole ≡ true → Going s 4 i (getD (apartOf s .places) i 0)
+going-starts s i e = record { good = sound-starts s e; rest = over-starts (λ a. getD (a .places) i 0) s }
+
+module _ {s : List ℕ} {at left whole : ℕ} (l : Going s at left whole) where
+  pub going-ends : at ≡ length s → 0 ≡ whole
+  going-ends e = over-ends (l .rest) e
+
+  pub going-room : (at ≡ length s → ⊥) → (4 ≤ getD s (at + 1) 0) × (getD s (at + 1) 0 % 4 ≡ 0) × (getD s (at + 1) 0 ≤ length s - at)
+  going-room n = sound-room (l .good) n
+
+  pub going-here : at < length s → left ≡ 0 → at ≡ whole
+  going-here n e = over-next (over-as (l .rest) (λ a. getD (a .places) 0 0) (λ a. rw e)) n (sound-fits (l .good) (omega arith)) .same
+
+  pub going-on : {x : ℕ} → at < length s → (left ≡ 0 → ⊥) → x ≡ getD s (at + 1) 0 → Going s (at + x) (left - 1) whole
+  going-on n z e =
+      let q : left ≡ suc (left - 1) = omega arith in
+      record {
+        good = sound-next (l .good) n e;
+        rest = over-as (next-by (l .good) (l .rest) n e) (λ a. getD (a .places) (left - 1) 0) (λ a. ap (λ (y : ℕ). getD (at ∷ a .places) y 0) q);
+      }
+
+-- the frame's answer -------------------------------------------------------------------------------------------
+
+-- The answer by the facts that the pass has gathered.
+abbrev pub byFacts : Facts → Verdict
+byFacts g =
+    cond (not (g .whole)) (refusedBy frameBroken 0)
+    (cond (eqb (g .count) 0) (refusedBy routeEmpty 0)
+    (cond (g .any && not (eqb (g .other) 0)) (refusedBy kindsMixed (g .other)) (cond (not (g .any)) (refusedBy noSrv6 0) (acceptedWith (g .count)))))
+
+pub header-broken : (ero : Bool) (kind : ℕ) (s : List ℕ) (h : Bool) → h ≡ headed ero s → not h ≡ true → refusedBy frameBroken 0 ≡ frameOf ero kind s
+unfolding frameOf rule4
+header-broken ero kind s h e n = rw (sym e ∙ not-true h n)
+
+pub frame-by : (ero : Bool) (kind : ℕ) (s : List ℕ) (h : Bool) (g : Facts) → h ≡ headed ero s → not h ≡ false → g ≡ factsOf ero kind s
+    → byFacts g ≡ frameOf ero kind s
+unfolding frameOf factsOf rule4 rule5 rule6 rule6Place rule14
+frame-by ero kind s h g e n q = rw q (go (apartOf s .whole) refl)
+  where
+    go : (b : Bool) → apartOf s .whole ≡ b → byFacts (factsOf ero kind s) ≡ frameOf ero kind s
+    go true w = rw (w, sym e ∙ not-false h n)
+    go false w = rw (w, sym e ∙ not-false h n)
