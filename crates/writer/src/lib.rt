@@ -1,0 +1,14 @@
+// A route object written into a lent buffer: begun, given one segment at a time, and finished
+// (document 01, "Writing a route"). The writer's small state goes in by value and each call hands it
+// back, unchanged on refusal; a refusal changes no octet. Begin refuses by 16, add by 8, 9, 7, 11
+// and 16, finish by 16 and 5; the place in these answers is 0.
+mod place;
+mod refusal;
+mod route;
+mod state;
+
+pub use route::add;
+pub use route::begin;
+pub use route::finish;
+pub use state::Writer;
+pub use state::Written;
