@@ -6,12 +6,13 @@ use native.Mathlib.Omega.{arith}
 use mathlib.Core.Path.{_≡_, refl, sym, _∙_, ap}
 use mathlib.Core.List.{List, [], _∷_}
 use mathlib.Core.Bool.{Bool, true, false, not, _||_}
-use lib.ListN.{length, getD, drop, length-drop, drop-of-length-le}
+use lib.ListN.{length, getD, take, drop, length-drop, drop-of-length-le}
 use lib.Seq.{drop-cons}
 use borrow.Author.Tests.{eq-eqb, ne-eqb}
 use Rattle.session.specs.declared.Limit.{Limit}
 use Rattle.session.specs.declared.Limit.the-variants.{Free, Most}
-use Rattle.capability.specs.SetupTypes.{hasOf}
+use Rattle.octets.specs.Octets.{part}
+use Rattle.capability.specs.SetupTypes.{srv6, countOf, hasOf, listsSrv6}
 use Rattle.capability.specs.Msd.{Pair, pairsIn, wrongIn, knownMsd, leastOf, limitIn}
 
 -- setup types --------------------------------------------------------------------------------------------------
@@ -25,6 +26,11 @@ module _ (x : ℕ) (p : List ℕ) (i : ℕ) where
 
   pub has-miss : i < length p → (getD p i 0 ≡ x → ⊥) → hasOf x (drop (i + 1) p) ≡ hasOf x (drop i p)
   has-miss h e = rw (add-one, drop-cons p i 0 h, ne-eqb (getD p i 0) x e)
+
+-- The octets lent to the search are those that the count asks for.
+pub listed-lent : (v : List ℕ) (n : ℕ) {found : Bool} → found ≡ hasOf srv6 (take n (drop 4 v)) → n ≡ countOf v → found ≡ listsSrv6 v
+unfolding listsSrv6 part
+listed-lent v n e h = rw (← h) e
 
 -- pairs --------------------------------------------------------------------------------------------------------
 

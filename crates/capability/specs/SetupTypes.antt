@@ -15,15 +15,22 @@ pathSetup = 34
 abbrev pub srv6 : ℕ
 srv6 = 3
 
+-- The places of the count and of the first setup type.
+abbrev pub countAt : ℕ
+countAt = 3
+
+abbrev pub typesAt : ℕ
+typesAt = 4
+
 abbrev pub countOf : List ℕ → ℕ
-countOf v = octetOf v 3
+countOf v = octetOf v countAt
 
 abbrev pub typesOf : List ℕ → List ℕ
-typesOf v = part v 4 (countOf v)
+typesOf v = part v typesAt (countOf v)
 
 -- The octets up to the sub-TLVs.
 unfoldable pub listSize : List ℕ → ℕ
-listSize v = 4 + pad4 (countOf v)
+listSize v = typesAt + pad4 (countOf v)
 
 -- "must hold its padded list"
 abbrev pub holdsList : List ℕ → Bool

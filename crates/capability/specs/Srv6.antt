@@ -16,19 +16,29 @@ use Rattle.capability.specs.Msd.{Pair, pairsIn, wrongIn, limitIn}
 abbrev pub srv6Capability : ℕ
 srv6Capability = 27
 
+-- The places of the second flag octet and of the first pair.
+abbrev pub flagsAt : ℕ
+flagsAt = 3
+
+abbrev pub pairsAt : ℕ
+pairsAt = 4
+
 -- "an even length of at least 4"
 unfoldable pub sizedOf : List ℕ → Bool
-sizedOf w = eqb (length w % 2) 0 && leb 4 (length w)
+sizedOf w = eqb (length w % 2) 0 && leb pairsAt (length w)
 
 -- "N is the bit worth 2 and X the bit worth 1 of the second flag octet."
+abbrev pub flagIn : ℕ → List ℕ → Bool
+flagIn worth w = eqb (octetOf w flagsAt / worth % 2) 1
+
 unfoldable pub nOf : List ℕ → Bool
-nOf w = eqb (octetOf w 3 / 2 % 2) 1
+nOf w = flagIn 2 w
 
 unfoldable pub xOf : List ℕ → Bool
-xOf w = eqb (octetOf w 3 % 2) 1
+xOf w = flagIn 1 w
 
 abbrev pub pairsOf : List ℕ → List Pair
-pairsOf w = pairsIn (drop 4 w)
+pairsOf w = pairsIn (drop pairsAt w)
 
 -- "X is 0 and a pair's type isn't 41, 42, 44 or 45"
 unfoldable pub wrongOf : List ℕ → Bool

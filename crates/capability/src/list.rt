@@ -10,14 +10,15 @@ pub const PATH_SETUP: usize = 34;
 // The setup type of SRv6.
 const SRV6: u8 = 3;
 
-// The place of the count, and of the first setup type.
+// The place of the count.
 const COUNT: usize = 3;
 
+// The place of the first setup type.
 const TYPES: usize = 4;
 
 // Whether x is among the octets.
 fn has(p: &[u8], x: u8) -> bool
-    ensures { λ r. ⌜ r ≡ hasOf x (now (p .entry)) ⌝ }
+    ensures found { λ r. ⌜ r ≡ hasOf x (now (p .entry)) ⌝ }
 {
     let mut i = 0;
     while i < p.len() {
@@ -31,7 +32,7 @@ fn has(p: &[u8], x: u8) -> bool
 
 // The octets of a value of TLV 34 up to its sub-TLVs: as many as its count asks for, there or not.
 pub fn list_size(v: &[u8]) -> usize
-    ensures { λ r. ⌜ (r ≡ listSize (now (v .entry))) × (4 ≤ r) × (r < 264) ⌝ }
+    ensures size { λ r. ⌜ (r ≡ listSize (now (v .entry))) × (4 ≤ r) × (r < 264) ⌝ }
 {
     TYPES + octets::padded(octets::octet(v, COUNT))
 }
@@ -39,7 +40,7 @@ pub fn list_size(v: &[u8]) -> usize
 // Whether setup type 3 is listed. Padding is no setup type.
 pub fn lists_srv6(v: &[u8]) -> bool
     requires { ⌜ listSize (now v) ≤ length (now v) ⌝ }
-    ensures { λ r. ⌜ r ≡ listsSrv6 (now (v .entry)) ⌝ }
+    ensures listed { λ r. ⌜ r ≡ listsSrv6 (now (v .entry)) ⌝ }
 {
     let end = TYPES + octets::octet(v, COUNT);
     has(&v[TYPES..end], SRV6)

@@ -15,7 +15,7 @@ const MAX_H_ENCAPS: usize = 44;
 const MAX_END_D: usize = 45;
 
 fn known(kind: usize) -> bool
-    ensures { λ r. ⌜ r ≡ knownMsd kind ⌝ }
+    ensures known { λ r. ⌜ r ≡ knownMsd kind ⌝ }
 {
     let a = octets::either(kind == MAX_SEGMENTS_LEFT, kind == MAX_END_POP);
     let b = octets::either(kind == MAX_H_ENCAPS, kind == MAX_END_D);
@@ -24,7 +24,7 @@ fn known(kind: usize) -> bool
 
 // Whether a pair's type is none of the four.
 pub fn wrong(p: &[u8]) -> bool
-    ensures { λ r. ⌜ r ≡ wrongIn (pairsIn (now (p .entry))) ⌝ }
+    ensures wrong { λ r. ⌜ r ≡ wrongIn (pairsIn (now (p .entry))) ⌝ }
 {
     let mut i = 0;
     while i + 1 < p.len() {
@@ -38,7 +38,7 @@ pub fn wrong(p: &[u8]) -> bool
 
 // The smaller one of a limit and a value.
 fn least(got: Limit, v: usize) -> Limit
-    ensures { λ r. ⌜ r ≡ leastOf v got ⌝ }
+    ensures least { λ r. ⌜ r ≡ leastOf v got ⌝ }
 {
     match got {
         Limit::Free => Limit::Most(v),
@@ -52,7 +52,7 @@ fn least(got: Limit, v: usize) -> Limit
 
 // The smallest value of all pairs.
 pub fn lowest(p: &[u8]) -> Limit
-    ensures { λ r. ⌜ r ≡ limitIn (pairsIn (now (p .entry))) ⌝ }
+    ensures lowest { λ r. ⌜ r ≡ limitIn (pairsIn (now (p .entry))) ⌝ }
 {
     let mut got = Limit::Free;
     let mut i = 0;

@@ -13,21 +13,26 @@ use session::Opened;
 // The type of the sub-TLV.
 pub const SRV6_CAPABILITY: usize = 27;
 
-// The place of the second flag octet, and of the first pair.
+// The place of the second flag octet, and what N and X are worth in it.
 const FLAGS: usize = 3;
 
+const N: usize = 2;
+
+const X: usize = 1;
+
+// The place of the first pair.
 const PAIRS: usize = 4;
 
 // What a side that lists setup type 3 announces by the value of its sub-TLV 27.
 pub fn announced(w: &[u8]) -> Opened
-    ensures { λ r. ⌜ r ≡ announcedOf (now (w .entry)) ⌝ }
+    ensures announced { λ r. ⌜ r ≡ announcedOf (now (w .entry)) ⌝ }
 {
     if !octets::both(w.len() % 2 == 0, PAIRS <= w.len()) {
         return session::refused_open(OPEN_MALFORMED);
     }
     let flags = octets::octet(w, FLAGS);
-    let n = flags / 2 % 2 == 1;
-    if flags % 2 == 1 {
+    let n = flags / N % 2 == 1;
+    if flags / X % 2 == 1 {
         return session::carried(true, n, Limit::Free);
     }
     if super::msd::wrong(&w[PAIRS..]) {

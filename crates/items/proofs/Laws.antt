@@ -47,6 +47,25 @@ pub and-leb : (a : Bool) (x y : ℕ) → (a && leb x y) ≡ true → x ≤ y
 and-leb true x y e = leb-true x y e
 and-leb false x y e = leb-true x y (cc)
 
+-- an item, by what was read of it --------------------------------------------------------------------------------
+
+pub at-none : (s : List ℕ) (at stop : ℕ) (short : Bool) → stop - at < head → Broken ≡ itemAt s at stop short
+unfolding itemAt
+at-none s at stop short l = rw (lt-ltb (stop - at) head l)
+
+module _ (s : List ℕ) (at stop : ℕ) (short : Bool) {kind n padded : ℕ} (e0 : kind ≡ be16 s at) (e2 : n ≡ be16 s (at + 2)) (p : padded ≡ pad4 n) (l : head ≤ stop - at) where
+  pub at-full : head + padded ≤ stop - at → Whole kind (at + head) n (at + (head + padded)) ≡ itemAt s at stop short
+  unfolding itemAt
+  at-full f = rw (← e0, ← e2, ← p, le-ltb (stop - at) head l, le-leb (head + padded) (stop - at) f)
+
+  pub at-short : stop - at < head + padded → (short && leb (head + n) (stop - at)) ≡ true → Whole kind (at + head) n stop ≡ itemAt s at stop short
+  unfolding itemAt
+  at-short f g = rw (← e0, ← e2, ← p, le-ltb (stop - at) head l, lt-leb (head + padded) (stop - at) f, g)
+
+  pub at-torn : stop - at < head + padded → (short && leb (head + n) (stop - at)) ≡ false → Broken ≡ itemAt s at stop short
+  unfolding itemAt
+  at-torn f g = rw (← e0, ← e2, ← p, le-ltb (stop - at) head l, lt-leb (head + padded) (stop - at) f, g)
+
 -- the TLVs, by places ------------------------------------------------------------------------------------------
 
 -- One item and what follows it, as TLVs of the octets up to `stop`.

@@ -126,11 +126,16 @@ pub onward-found : (inner : Bool) (want : ℕ) (v : List ℕ) (sub : Option (Lis
 onward-found inner want v sub rest e = rw e
 
 -- Where the sub-TLVs lie in the whole.
-pub subs-part : (s : List ℕ) (from len size : ℕ) → size ≡ listSize (part s from len) → size ≤ len → from + len ≤ length s
+subs-part : (s : List ℕ) (from len size : ℕ) → size ≡ listSize (part s from len) → size ≤ len → from + len ≤ length s
     → part s (from + size) (from + len - (from + size)) ≡ drop (listSize (part s from len)) (part s from len)
 subs-part s from len size e h k =
     let m : from + len - (from + size) ≡ len - size = omega arith in
     rw (m, ← e) (sym (drop-part s from len size k h))
+
+pub inside-found : (s : List ℕ) (want from len size : ℕ) {found : Sight} → size ≡ listSize (part s from len) → size ≤ len → from + len ≤ length s
+    → found ≡ walkOf true want (part s (from + size) (from + len - (from + size)))
+    → found ≡ walkOf true want (drop (listSize (part s from len)) (part s from len))
+inside-found s want from len size e h k w = rw (subs-part s from len size e h k) at w
 
 -- the walk -----------------------------------------------------------------------------------------------------
 

@@ -22,8 +22,15 @@ use Rattle.capability.specs.Srv6.{srv6Capability, sizedOf, nOf, wrongOf, limitO
 abbrev pub classOf : List ℕ → ℕ
 classOf s = octetOf s 0
 
+-- What the lowest bits of type and version are worth in their octets.
+abbrev pub typeUnit : ℕ
+typeUnit = 16
+
+abbrev pub versionUnit : ℕ
+versionUnit = 32
+
 abbrev pub typeOf : List ℕ → ℕ
-typeOf s = octetOf s 1 / 16
+typeOf s = octetOf s 1 / typeUnit
 
 abbrev pub sizeOf : List ℕ → ℕ
 sizeOf s = be16 s 2
@@ -35,15 +42,18 @@ openClass = 1
 abbrev pub openType : ℕ
 openType = 1
 
-abbrev pub version : ℕ
-version = 1
+abbrev pub openVersion : ℕ
+openVersion = 1
 
 abbrev pub versionOf : List ℕ → ℕ
-versionOf s = octetOf s 4 / 32
+versionOf s = octetOf s 4 / versionUnit
 
 -- ".. then keepalive, dead timer, session number, then TLVs."
+abbrev pub tlvsAt : ℕ
+tlvsAt = 8
+
 abbrev pub openTlvs : List ℕ → Tlvs
-openTlvs s = tlvsOf false (drop 8 s)
+openTlvs s = tlvsOf false (drop tlvsAt s)
 
 -- "Of several TLVs 34, or sub-TLVs 27, the first is used and the others are only walked."
 unfoldable pub setupOf : List ℕ → Option (List ℕ)
@@ -68,7 +78,7 @@ listed s = listedIn (setupOf s)
 
 -- "Class, type and version as above;"
 abbrev pub headed : List ℕ → Bool
-headed s = (eqb (classOf s) openClass && eqb (typeOf s) openType) && eqb (versionOf s) version
+headed s = (eqb (classOf s) openClass && eqb (typeOf s) openType) && eqb (versionOf s) openVersion
 
 -- "object length must equal the octets given, be a multiple of 4 and at least 8;"
 abbrev pub measured : List ℕ → Bool

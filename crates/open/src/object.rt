@@ -21,22 +21,35 @@ const OPEN_CLASS: usize = 1;
 
 const OPEN_TYPE: usize = 1;
 
-const VERSION: usize = 1;
+const OPEN_VERSION: usize = 1;
 
-// The place of the first TLV.
+// The places of class, type, length, version and the first TLV.
+const CLASS: usize = 0;
+
+const TYPE: usize = 1;
+
+const LENGTH: usize = 2;
+
+const VERSION: usize = 4;
+
 const TLVS: usize = 8;
+
+// What the lowest bits of type and version are worth in their octets.
+const TYPE_UNIT: usize = 16;
+
+const VERSION_UNIT: usize = 32;
 
 // Class, type, version and length are an OPEN's.
 fn is_framed(s: &[u8]) -> bool
-    ensures { λ r. ⌜ r ≡ framed (now (s .entry)) ⌝ }
+    ensures framed { λ r. ⌜ r ≡ framed (now (s .entry)) ⌝ }
 {
     if s.len() < TLVS {
         return false;
     }
-    let class = octets::octet(s, 0) == OPEN_CLASS;
-    let kind = octets::octet(s, 1) / 16 == OPEN_TYPE;
-    let version = octets::octet(s, 4) / 32 == VERSION;
-    let same = octets::read16(s, 2) == s.len();
+    let class = octets::octet(s, CLASS) == OPEN_CLASS;
+    let kind = octets::octet(s, TYPE) / TYPE_UNIT == OPEN_TYPE;
+    let version = octets::octet(s, VERSION) / VERSION_UNIT == OPEN_VERSION;
+    let same = octets::read16(s, LENGTH) == s.len();
     let headed = octets::both(octets::both(class, kind), version);
     octets::both(headed, octets::both(same, s.len() % 4 == 0))
 }
@@ -44,7 +57,7 @@ fn is_framed(s: &[u8]) -> bool
 // What the values found carry: SRv6 only where setup type 3 is listed.
 fn carried_by(s: &[u8], list: Place, sub: Place) -> Opened
     requires { ⌜ Listed (now s) list × Inside (length (now s)) sub ⌝ }
-    ensures { λ r. ⌜ r ≡ carriedBy (valueAt (now (s .entry)) list) (valueAt (now (s .entry)) sub) ⌝ }
+    ensures carried { λ r. ⌜ r ≡ carriedBy (valueAt (now (s .entry)) list) (valueAt (now (s .entry)) sub) ⌝ }
 {
     match list {
         Place::Missing => session::carried(false, false, Limit::Free),

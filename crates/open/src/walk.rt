@@ -24,7 +24,7 @@ pub enum Found {
 }
 
 fn missing(p: Place) -> bool
-    ensures { λ r. ⌜ r ≡ missingOf p ⌝ }
+    ensures missing { λ r. ⌜ r ≡ missingOf p ⌝ }
 {
     match p {
         Place::Missing => true,
@@ -34,7 +34,7 @@ fn missing(p: Place) -> bool
 
 // The first hit is kept.
 fn keep(got: Place, hit: bool, from: usize, len: usize) -> Place
-    ensures { λ r. ⌜ r ≡ keepOf got hit from len ⌝ }
+    ensures kept { λ r. ⌜ r ≡ keepOf got hit from len ⌝ }
 {
     match got {
         Place::Missing => if hit {

@@ -1,6 +1,4 @@
-use Rattle.items.specs.Places.{itemAt}
-use Rattle.items.proofs.Laws.{and-leb}
-use borrow.Author.Tests.{le-ltb, lt-ltb, le-leb, lt-leb}
+use Rattle.items.proofs.Laws.{and-leb, at-none, at-full, at-short, at-torn}
 use mathlib.Core.Path.{refl, sym, _∙_}
 use native.Mathlib.Omega.{arith}
 use Prim.Native.Nat.{_+_}
@@ -19,8 +17,7 @@ sub-room c = search needs
 
 -- src/lib.rt:33:9
 returns : tie.Need-returns
-unfolding itemAt
-returns c = (simp (lt-ltb _ _ (c .if1 .taken)), tt)
+returns c = (at-none _ _ _ _ (c .if1 .taken), tt)
 
 -- src/lib.rt:35:9
 read16-requires : tie.Need-read16-requires
@@ -52,13 +49,11 @@ add-t12 c = search needs
 
 -- src/lib.rt:40:9
 returns-2 : tie.Need-returns-2
-unfolding itemAt
-returns-2 c = let r2 = c .before .before .read162 .ensures .0 in
-    let p = c .before .padded .ensures .0 in (
-      rw (← c .before .before .before .read16 .ensures .0, ← r2)
-          (simp (← p, le-ltb _ _ (c .before .before .before .before .if1 .left), le-leb _ _ (c .if2 .taken))),
-      omega arith,
-    )
+returns-2 c = let a = c .before .before .before .before .before .before .args in (
+  at-full (a .s .now) (a .at) (a .end) (a .short) (c .before .before .before .read16 .ensures .0) (c .before .before .read162 .ensures .0) (c .before .padded .ensures .0) (c .before .before .before .before .if1 .left)
+      (c .if2 .taken),
+  omega arith,
+)
 
 -- src/lib.rt:47:28
 add-both : tie.Need-add-both
@@ -70,23 +65,20 @@ both-requires c κs = search needs
 
 -- src/lib.rt:26:1
 returns-3 : tie.Need-returns-3
-unfolding itemAt
-returns-3 c = let b = sym (c .before .both .ensures) ∙ c .if3 .taken in
-    let p = c .before .before .before .padded .ensures .0 in (
-      rw (← c .before .before .before .before .before .read16 .ensures .0, ← c .before .before .before .before .read162 .ensures .0)
-          (simp (← p, le-ltb _ _ (c .before .before .before .before .before .before .if1 .left), lt-leb _ _ (c .before .before .if2 .left), b)),
-      (refl, omega arith, search needs, omega (arith, and-leb (c .before .before .before .before .before .before .before .before .args .short) (4 + c .before .before .before .before .read162 .result) _ b)),
+returns-3 c = let a = c .before .before .before .before .before .before .before .before .args in
+    let b = sym (c .before .both .ensures) ∙ c .if3 .taken in (
+      at-short (a .s .now) (a .at) (a .end) (a .short) (c .before .before .before .before .before .read16 .ensures .0) (c .before .before .before .before .read162 .ensures .0) (c .before .before .before .padded .ensures .0) (c .before .before .before .before .before .before .if1 .left)
+          (c .before .before .if2 .left) b,
+      (refl, omega arith, search needs, omega (arith, and-leb (a .short) (4 + c .before .before .before .before .read162 .result) _ b)),
     )
 
 -- src/lib.rt:26:1
 returns-4 : tie.Need-returns-4
-unfolding itemAt
-returns-4 c = let b = sym (c .before .both .ensures) ∙ c .if3 .left in
-    let p = c .before .before .before .padded .ensures .0 in (
-      rw (← c .before .before .before .before .before .read16 .ensures .0, ← c .before .before .before .before .read162 .ensures .0)
-          (simp (← p, le-ltb _ _ (c .before .before .before .before .before .before .if1 .left), lt-leb _ _ (c .before .before .if2 .left), b)),
-      tt,
-    )
+returns-4 c = let a = c .before .before .before .before .before .before .before .before .args in (
+  at-torn (a .s .now) (a .at) (a .end) (a .short) (c .before .before .before .before .before .read16 .ensures .0) (c .before .before .before .before .read162 .ensures .0) (c .before .before .before .padded .ensures .0) (c .before .before .before .before .before .before .if1 .left)
+      (c .before .before .if2 .left) (sym (c .before .both .ensures) ∙ c .if3 .left),
+  tt,
+)
 
 pub item-at-spec : {M : Type 1} → statement M
 item-at-spec =

@@ -1,8 +1,7 @@
-use Rattle.capability.specs.SetupTypes.{listSize, listsSrv6}
-use Rattle.octets.specs.Octets.{part}
-use mathlib.Core.Path.{ap, sym, _∙_}
-use native.Mathlib.Nat.{add-sub-cancel-left}
+use Rattle.capability.proofs.Laws.{listed-lent}
+use Rattle.capability.specs.SetupTypes.{listSize}
 use native.Mathlib.Omega.{arith}
+use Prim.Native.Nat.{_+_, _-_}
 use borrow.Author.Needs.{needs}
 use Rattle.capability.proofs.list.lists_srv6.Statement.{statement}
 use Rattle.capability.proofs.list.lists_srv6.Tie as tie
@@ -21,11 +20,13 @@ add-end c = search needs
 
 -- src/list.rt:45:9
 sub-has : tie.Need-sub-has
-sub-has c = search needs
+unfolding listSize
+sub-has c = omega arith
 
 -- src/list.rt:45:9
 part-has-start : tie.Need-part-has-start
-part-has-start c = search needs
+unfolding listSize
+part-has-start c = omega arith
 
 -- src/list.rt:45:9
 part-has-end : tie.Need-part-has-end
@@ -38,8 +39,8 @@ has-requires c κs = search needs
 
 -- src/list.rt:40:1
 returns : tie.Need-returns
-unfolding listsSrv6 part
-returns c = rw (← c .before .before .octet .ensures .0) (rw (add-sub-cancel-left 4 (c .before .before .octet .result)) at (c .has .ensures))
+returns c = let n = c .before .before .octet .result in
+    listed-lent (c .before .before .before .before .args .v .now) (4 + n - 4) (c .has .ensures) (omega (arith, c .before .before .octet .ensures .0))
 
 pub lists-srv6-spec : {M : Type 1} → statement M
 lists-srv6-spec =

@@ -21,7 +21,7 @@ either-requires-3 c κs = search needs
 -- src/msd.rt:17:1
 returns : tie.Need-returns
 unfolding knownMsd
-returns c = cc
+returns c = rw (c .either3 .ensures, c .before .either2 .ensures, c .before .before .either .ensures)
 
 pub known-spec : {M : Type 1} → statement M
 known-spec = tie.close (tie.spec either-requires either-requires-2 either-requires-3 returns)

@@ -47,8 +47,19 @@ both-requires-4 c κs = search needs
 
 -- src/object.rt:30:1
 returns-2 : tie.Need-returns-2
-returns-2 c = let s = c .before .before .before .before .before .before .before .before .before .before .args .s .now in
-    rw (framed-long s (c .before .before .before .before .before .before .before .before .if1 .left)) (cc)
+returns-2 c =
+    let s = c .before .before .before .before .before .before .before .before .before .before .args .s .now in
+    rw (
+      framed-long s (c .before .before .before .before .before .before .before .before .if1 .left),
+      c .both4 .ensures,
+      c .before .both3 .ensures,
+      c .before .before .both2 .ensures,
+      c .before .before .before .both .ensures,
+      c .before .before .before .before .read16 .ensures .0,
+      c .before .before .before .before .before .octet3 .ensures .0,
+      c .before .before .before .before .before .before .octet2 .ensures .0,
+      c .before .before .before .before .before .before .before .octet .ensures .0,
+    )
 
 pub is-framed-spec : {M : Type 1} → statement M
 is-framed-spec =

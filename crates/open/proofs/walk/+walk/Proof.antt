@@ -223,7 +223,8 @@ walked t c =
     let r = c .before .before .before .before .before .before .before .before in
     let v = r .before .kind .given .0 in
     let b = within t r in
-    rw (Laws.subs-part (r .before .before .before .before .before .before .before .args .s .now) (v .1 .0) (v .1 .1 .0) (c .before .before .list-size .result) (size-same t (c .before .before)) (c .before .if3 .left) (omega arith)) at (c .walk .ensures .0)
+    Laws.inside-found (r .before .before .before .before .before .before .before .args .s .now) (r .before .before .before .before .before .before .before .args .want) (v .1 .0) (v .1 .1 .0) (c .before .before .list-size .result)
+    (size-same t (c .before .before)) (c .before .if3 .left) (omega arith) (c .walk .ensures .0)
 
 -- src/walk.rt:58:5
 walk-loop-holds : (t : ℕ) → walk-lts.Need-loop-holds (
