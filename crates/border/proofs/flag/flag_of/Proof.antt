@@ -1,0 +1,23 @@
+use borrow.Author.Needs.{needs}
+use mathlib.Core.Path.{_≡_, refl}
+use mathlib.Core.Bool.{Bool, true, false, cond}
+use mir.Val.{boolByte}
+use Rattle.border.proofs.flag.flag_of.Statement.{statement}
+use Rattle.border.proofs.flag.flag_of.Tie as tie
+use Rattle.border.proofs.flag.flag_of.Reads as reads
+use Rattle.border.proofs.flag.flag_of.Lts as lts
+
+as-number : (t : Bool) → boolByte t ≡ cond t 1 0
+as-number true = refl
+as-number false = refl
+
+-- src/flag.rt:14:5
+cast-result : tie.Need-cast-result
+cast-result c = search needs
+
+-- src/flag.rt:11:1
+returns : tie.Need-returns
+returns c = as-number (c .args .b)
+
+pub flag-of-spec : {M : Type 1} → statement M
+flag-of-spec = tie.close (tie.spec cast-result returns)

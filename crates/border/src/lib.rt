@@ -1,0 +1,25 @@
+// The records that cross the border to C and Rust, laid out as C lays them out (include/strundevi.h).
+//
+// A flag is an octet there: 0 is no, every other number is yes, and an answer has 0 or 1, so no record can hold a
+// value that is out of range. A limit is a flag and a number: without the flag the number does not count, and an
+// answer has 0 there.
+mod agreement;
+mod flag;
+mod limit;
+mod opened;
+mod segment;
+mod verdict;
+
+pub use agreement::SessionRecord;
+pub use agreement::session_in;
+pub use agreement::session_out;
+pub use flag::flag_of;
+pub use flag::yes;
+pub use opened::OpenedRecord;
+pub use opened::opened_in;
+pub use opened::opened_out;
+pub use segment::SegmentRecord;
+pub use segment::segment_in;
+pub use segment::segment_out;
+pub use verdict::VerdictRecord;
+pub use verdict::verdict_out;
