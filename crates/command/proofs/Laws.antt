@@ -1,0 +1,47 @@
+-- The laws of commands: which lines are skipped, and the four ways that a reading ends.
+use mathlib.Core.Path.{_≡_, refl, sym, _∙_}
+use mathlib.Core.Bool.{Bool, true, false, cond}
+use mathlib.Core.List.{List, [], _∷_}
+use Prim.Native.Nat.{ℕ, _≤_, _<_}
+use lib.Dec.{eqb}
+use lib.ListN.{length, getD}
+use native.Mathlib.Omega.{arith}
+use borrow.Author.Tests.{lt-ltb, le-ltb}
+use Rattle.words.specs.Words.{wordOf, sameOf}
+use Rattle.decimal.specs.Decimal.{valueOf}
+use Rattle.forms.specs.Forms.{space, theEro, verbOf, kindsOf, formed}
+use Rattle.forms.specs.declared.verb.Verb.{Verb}
+use Rattle.forms.specs.declared.verb.Verb.the-variants as v
+use Rattle.command.specs.Commands.{skipped, longest, bare, commanded, commandOf}
+
+pub skipped-empty : (l : List ℕ) → length l ≡ 0 → true ≡ skipped l
+unfolding skipped
+skipped-empty [] h = refl
+skipped-empty (c ∷ cs) h = absurd (omega arith)
+
+pub skipped-first : (l : List ℕ) → (length l ≡ 0 → ⊥) → eqb (getD l 0 0) 35 ≡ skipped l
+unfolding skipped
+skipped-first [] h = absurd (h refl)
+skipped-first (c ∷ cs) h = refl
+
+module _ (l : List ℕ) where
+  pub read-skipped : skipped l ≡ true → bare v.Skip ≡ commandOf l
+  unfolding commandOf
+  read-skipped e = rw e
+
+  pub read-long : skipped l ≡ false → longest < length l → bare v.Bad ≡ commandOf l
+  unfolding commandOf
+  read-long e h = rw (e, lt-ltb longest (length l) h)
+
+  pub read-out-of-form : skipped l ≡ false → length l ≤ longest → formed (kindsOf (verbOf (wordOf space l 0))) l ≡ false → bare v.Bad ≡ commandOf l
+  unfolding commandOf
+  read-out-of-form e h f = rw (e, le-ltb longest (length l) h, f)
+
+  pub read-in-form : skipped l ≡ false → length l ≤ longest → formed (kindsOf (verbOf (wordOf space l 0))) l ≡ true → commanded l ≡ commandOf l
+  unfolding commandOf
+  read-in-form e h f = rw (e, le-ltb longest (length l) h, f)
+
+  pub made : {verb : Verb} {ero : Bool} {one two three four : ℕ} → verb ≡ verbOf (wordOf space l 0) → ero ≡ sameOf (wordOf space l 1) theEro
+      → one ≡ valueOf (wordOf space l 1) → two ≡ valueOf (wordOf space l 2) → three ≡ valueOf (wordOf space l 3) → four ≡ valueOf (wordOf space l 4)
+      → record { verb = verb; ero = ero; one = one; two = two; three = three; four = four } ≡ commanded l
+  made a b c d e f = λ i. record { verb = a i; ero = b i; one = c i; two = d i; three = e i; four = f i }

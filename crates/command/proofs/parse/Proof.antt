@@ -1,0 +1,119 @@
+use Rattle.command.proofs.Laws.{made}
+use Prim.Native.Nat.{ℕ}
+use mathlib.Core.List.{List}
+use Rattle.decimal.specs.Decimal.{valueOf}
+use Rattle.words.specs.Words.{sameOf}
+use Rattle.forms.specs.Forms.{verbOf, theEro}
+use Rattle.command.proofs.Laws.{read-skipped, read-long, read-out-of-form, read-in-form}
+use borrow.Author.Tests.{not-true, not-false}
+use mathlib.Core.Path.{_≡_, refl, sym, _∙_, ap}
+use borrow.Author.Needs.{needs}
+use Rattle.command.proofs.parse.Statement.{statement}
+use Rattle.command.proofs.parse.Tie as tie
+use Rattle.command.proofs.parse.Reads as reads
+use Rattle.command.proofs.parse.Lts as lts
+use Rattle.command.proofs.alone.Reads as alone-reads
+use Rattle.command.proofs.is_skipped.Reads as is-skipped-reads
+use Rattle.decimal.proofs.value.Reads as value-reads
+use Rattle.forms.proofs.is_formed.Reads as is-formed-reads
+use Rattle.forms.proofs.named.Reads as named-reads
+use Rattle.words.proofs.same.Reads as same-reads
+use Rattle.words.proofs.word.Reads as word-reads
+
+is-skipped-requires : tie.Need-is-skipped-requires
+is-skipped-requires c κs = search needs
+
+alone-requires : tie.Need-alone-requires
+alone-requires c κs = search needs
+
+returns : tie.Need-returns
+returns c = c .alone .ensures ∙ read-skipped _ (sym (c .before .before .is-skipped .ensures) ∙ c .before .if1 .taken)
+
+alone-requires-2 : tie.Need-alone-requires-2
+alone-requires-2 c κs = search needs
+
+returns-2 : tie.Need-returns-2
+returns-2 c = c .alone2 .ensures ∙ read-long _ (sym (c .before .before .before .is-skipped .ensures) ∙ c .before .before .if1 .left) (c .before .if2 .taken)
+
+word-requires : tie.Need-word-requires
+word-requires c κs = search needs
+
+named-requires : tie.Need-named-requires
+named-requires c κs = search needs
+
+is-formed-requires : tie.Need-is-formed-requires
+is-formed-requires c κs = search needs
+
+alone-requires-3 : tie.Need-alone-requires-3
+alone-requires-3 c κs = search needs
+
+returns-3 : tie.Need-returns-3
+returns-3 c = let e = c .before .before .before .named .ensures ∙ ap verbOf (c .before .before .before .before .word .ensures .0) in
+    c .alone3 .ensures ∙ read-out-of-form _ (sym (c .before .before .before .before .before .before .before .is-skipped .ensures) ∙ c .before .before .before .before .before .before .if1 .left) (c .before .before .before .before .before .if2 .left) (rw (← e) (sym (c .before .before .is-formed .ensures) ∙ not-true _ (c .before .if3 .taken)))
+
+word-requires-2 : tie.Need-word-requires-2
+word-requires-2 c κs = search needs
+
+slice-aggregate-same : tie.Need-slice-aggregate-same
+slice-aggregate-same c = search needs
+
+same-requires : tie.Need-same-requires
+same-requires c κs = search needs
+
+word-requires-3 : tie.Need-word-requires-3
+word-requires-3 c κs = search needs
+
+value-requires : tie.Need-value-requires
+value-requires c κs = search needs
+
+word-requires-4 : tie.Need-word-requires-4
+word-requires-4 c κs = search needs
+
+value-requires-2 : tie.Need-value-requires-2
+value-requires-2 c κs = search needs
+
+word-requires-5 : tie.Need-word-requires-5
+word-requires-5 c κs = search needs
+
+value-requires-3 : tie.Need-value-requires-3
+value-requires-3 c κs = search needs
+
+word-requires-6 : tie.Need-word-requires-6
+word-requires-6 c κs = search needs
+
+value-requires-4 : tie.Need-value-requires-4
+value-requires-4 c κs = search needs
+
+returns-4 : tie.Need-returns-4
+returns-4 c = let e = c .before .before .before .before .before .before .before .before .before .before .before .before .before .named .ensures ∙ ap verbOf (c .before .before .before .before .before .before .before .before .before .before .before .before .before .before .word .ensures .0) in
+    made _ e (c .before .before .before .before .before .before .before .before .same .ensures ∙ ap (λ (w : List ℕ). sameOf w theEro) (c .before .before .before .before .before .before .before .before .before .before .word2 .ensures .0))
+    (c .before .before .before .before .before .before .value .ensures ∙ ap valueOf (c .before .before .before .before .before .before .before .word3 .ensures .0)) (c .before .before .before .before .value2 .ensures ∙ ap valueOf (c .before .before .before .before .before .word4 .ensures .0))
+    (c .before .before .value3 .ensures ∙ ap valueOf (c .before .before .before .word5 .ensures .0)) (c .value4 .ensures ∙ ap valueOf (c .before .word6 .ensures .0))
+    ∙ read-in-form _ (sym (c .before .before .before .before .before .before .before .before .before .before .before .before .before .before .before .before .before .is-skipped .ensures) ∙ c .before .before .before .before .before .before .before .before .before .before .before .before .before .before .before .before .if1 .left) (c .before .before .before .before .before .before .before .before .before .before .before .before .before .before .before .if2 .left) (rw (← e) (sym (c .before .before .before .before .before .before .before .before .before .before .before .before .is-formed .ensures) ∙ not-false _ (c .before .before .before .before .before .before .before .before .before .before .before .if3 .left)))
+
+pub parse-spec : {M : Type 1} → statement M
+parse-spec =
+    tie.close
+    (tie.spec
+    is-skipped-requires
+    alone-requires
+    returns
+    alone-requires-2
+    returns-2
+    word-requires
+    named-requires
+    is-formed-requires
+    alone-requires-3
+    returns-3
+    word-requires-2
+    slice-aggregate-same
+    same-requires
+    word-requires-3
+    value-requires
+    word-requires-4
+    value-requires-2
+    word-requires-5
+    value-requires-3
+    word-requires-6
+    value-requires-4
+    returns-4)

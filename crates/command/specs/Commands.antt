@@ -1,0 +1,40 @@
+-- A line of the console read into a command (console.md).
+use Prim.Native.Nat.{ℕ}
+use mathlib.Core.Bool.{Bool, true, false, cond}
+use mathlib.Core.List.{List, [], _∷_}
+use lib.Dec.{eqb, ltb}
+use lib.ListN.{length}
+use Rattle.words.specs.Words.{wordOf, sameOf}
+use Rattle.decimal.specs.Decimal.{valueOf}
+use Rattle.forms.specs.Forms.{space, theEro, verbOf, kindsOf, formed}
+use Rattle.forms.specs.declared.verb.Verb.{Verb}
+use Rattle.forms.specs.declared.verb.Verb.the-variants as v
+use Rattle.command.specs.declared.Command.{Command}
+
+-- "Empty lines, and lines that begin with `#`, are skipped"
+unfoldable pub skipped : List ℕ → Bool
+skipped [] = true
+skipped (c ∷ cs) = eqb c 35
+
+-- the most octets of a line that is no bad line
+abbrev pub longest : ℕ
+longest = 131200
+
+abbrev pub bare : Verb → Command
+bare verb = record { verb = verb; ero = false; one = 0; two = 0; three = 0; four = 0 }
+
+-- A command, with what its first four words behind the name say as numbers, and whether the first is `ero`.
+abbrev pub commanded : List ℕ → Command
+commanded line = record {
+  verb = verbOf (wordOf space line 0);
+  ero = sameOf (wordOf space line 1) theEro;
+  one = valueOf (wordOf space line 1);
+  two = valueOf (wordOf space line 2);
+  three = valueOf (wordOf space line 3);
+  four = valueOf (wordOf space line 4);
+}
+
+-- "Any other line that is not one of the commands, in just that form, is a bad line; so is one of more than 131,200 octets."
+unfoldable pub commandOf : List ℕ → Command
+commandOf line = cond (skipped line) (bare v.Skip) (cond (ltb longest (length line)) (bare v.Bad)
+    (cond (formed (kindsOf (verbOf (wordOf space line 0))) line) (commanded line) (bare v.Bad)))

@@ -1,0 +1,80 @@
+// A line of the console read into a command: the name, the form of the words behind it, and the numbers
+// that they say (console.md). A line out of form is `Bad`, whatever its words mean; empty lines and lines
+// that begin with `#` are `Skip`.
+ghost use mathlib.Core.Path.{_≡_};
+ghost use Rattle.command.specs.Commands.{commandOf, skipped, bare};
+use decimal::value;
+use forms::ERO;
+use forms::Verb;
+use forms::is_formed;
+use forms::named;
+use words::SPACE;
+use words::same;
+use words::word;
+
+const HASH: u8 = 35;
+
+// the most octets of a line that is no bad line
+pub const LONGEST: usize = 131200;
+
+// What the first four words behind the name say as numbers, 0 where they say none, and whether the first is
+// `ero`.
+pub struct Command {
+    pub verb: Verb,
+    pub ero: bool,
+    pub one: u64,
+    pub two: u64,
+    pub three: u64,
+    pub four: u64,
+}
+
+fn is_skipped(line: &[u8]) -> bool
+    ensures skipped { λ r. ⌜ r ≡ skipped (now (line .entry)) ⌝ }
+{
+    if line.len() == 0 {
+        return true;
+    }
+    line[0] == HASH
+}
+
+fn alone(verb: Verb) -> Command
+    ensures bare { λ r. ⌜ r ≡ bare verb ⌝ }
+{
+    Command {
+        verb: verb,
+        ero: false,
+        one: 0,
+        two: 0,
+        three: 0,
+        four: 0,
+    }
+}
+
+// Reads a line.
+pub fn parse(line: &[u8]) -> Command
+    ensures read { λ r. ⌜ r ≡ commandOf (now (line .entry)) ⌝ }
+{
+    if is_skipped(line) {
+        return alone(Verb::Skip);
+    }
+    if line.len() > LONGEST {
+        return alone(Verb::Bad);
+    }
+    let verb = named(word(line, SPACE, 0));
+    if !is_formed(line, verb) {
+        return alone(Verb::Bad);
+    }
+    let ero = same(word(line, SPACE, 1), &ERO);
+    let one = value(word(line, SPACE, 1));
+    let two = value(word(line, SPACE, 2));
+    let three = value(word(line, SPACE, 3));
+    let four = value(word(line, SPACE, 4));
+    Command {
+        verb: verb,
+        ero: ero,
+        one: one,
+        two: two,
+        three: three,
+        four: four,
+    }
+}

@@ -1,0 +1,100 @@
+-- The laws of numbers as words, in the order of the definitions.
+use Prim.Native.Nat.{ℕ, zero, suc, _+_, _-_, _*_, _≤_, _<_}
+use mathlib.Core.Path.{_≡_, refl, sym, _∙_, ap}
+use mathlib.Core.List.{List, [], _∷_}
+use mathlib.Core.Bool.{Bool, true, false, cond, not, _&&_, _||_}
+use lib.ListN.{length, getD, drop, drop-of-length-le}
+use lib.Seq.{drop-cons}
+use lib.Dec.{eqb, ltb, leb}
+use native.Mathlib.Omega.{arith}
+use native.Mathlib.Numerals.{add-one}
+use borrow.Author.Tests.{eq-eqb, ne-eqb, lt-ltb, le-ltb, le-leb, lt-leb}
+use Rattle.decimal.specs.declared.Number.{Number}
+use Rattle.decimal.specs.Decimal.{isDigit, allDigits, worth, isEmpty, isNumber, valueOf, numberOf}
+
+-- A reading under way: the digits before i are worth v.
+pub record Reading (w : List ℕ) (v i : ℕ) : Type 0 where
+  pub within : i ≤ length w
+  pub some : isEmpty w ≡ false
+  pub digits : allDigits (drop i w) ≡ allDigits w
+  pub same : worth v (drop i w) ≡ worth 0 w
+  pub fits : v < 18446744073709551616
+
+pub digit-is : (c : ℕ) → 48 ≤ c → c ≤ 57 → isDigit c ≡ true
+unfolding isDigit
+digit-is c h k = rw (le-leb 48 c h, le-leb c 57 k)
+
+pub digit-low : (c : ℕ) → c < 48 → isDigit c ≡ false
+unfolding isDigit
+digit-low c h = rw (lt-leb 48 c h)
+
+pub digit-high : (c : ℕ) → 57 < c → isDigit c ≡ false
+unfolding isDigit
+digit-high c h = rw (le-leb 48 c (omega arith), lt-leb c 57 h)
+
+-- Digits never make a value smaller.
+pub worth-least : (v : ℕ) (w : List ℕ) → v ≤ worth v w
+unfolding worth
+worth-least v [] = omega arith
+worth-least v (c ∷ cs) = let h = worth-least (v * 10 + (c - 48)) cs in omega arith
+
+empty-none : (w : List ℕ) → length w ≡ 0 → isEmpty w ≡ true
+empty-none [] h = refl
+empty-none (c ∷ cs) h = absurd (omega arith)
+
+pub some-there : (w : List ℕ) → (length w ≡ 0 → ⊥) → isEmpty w ≡ false
+some-there [] h = absurd (h refl)
+some-there (c ∷ cs) h = refl
+
+refuse : (w : List ℕ) → isNumber w ≡ false → record { good = false; value = 0 } ≡ numberOf w
+unfolding numberOf valueOf
+refuse w e = rw e
+
+pub empty-refused : (w : List ℕ) → length w ≡ 0 → record { good = false; value = 0 } ≡ numberOf w
+unfolding isNumber
+empty-refused w h = refuse w (rw (empty-none w h))
+
+module _ {w : List ℕ} {v i : ℕ} (r : Reading w v i) where
+  -- what is no digit
+  pub nondigit-refused : i < length w → isDigit (getD w i 0) ≡ false → record { good = false; value = 0 } ≡ numberOf w
+  unfolding isNumber allDigits
+  nondigit-refused h e =
+      let d : allDigits w ≡ false = sym (r .digits) ∙ rw (drop-cons w i 0 h, e) in
+      refuse w (rw (r .some, d))
+
+  -- a value past the largest
+  pub overflow-refused : i < length w → isDigit (getD w i 0) ≡ true → 18446744073709551616 ≤ v * 10 + (getD w i 0 - 48) → record { good = false; value = 0 } ≡ numberOf w
+  unfolding isNumber worth
+  overflow-refused h e k =
+      let s : worth (v * 10 + (getD w i 0 - 48)) (drop (suc i) w) ≡ worth 0 w = rw (drop-cons w i 0 h) at (r .same) in
+      let g : 18446744073709551616 ≤ worth 0 w = omega (arith, worth-least (v * 10 + (getD w i 0 - 48)) (drop (suc i) w)) in
+      refuse w (rw (r .some, le-ltb (worth 0 w) 18446744073709551616 g) (both-false (allDigits w)))
+    where
+      both-false : (b : Bool) → (not false && (b && false)) ≡ false
+      both-false true = refl
+      both-false false = refl
+
+  pub one-more : i < length w → isDigit (getD w i 0) ≡ true → v * 10 + (getD w i 0 - 48) < 18446744073709551616 → Reading w (v * 10 + (getD w i 0 - 48)) (i + 1)
+  unfolding allDigits worth
+  one-more h e k = record {
+    within = omega arith;
+    some = r .some;
+    digits = rw (add-one i) (sym (rw (drop-cons w i 0 h, e)) ∙ r .digits);
+    same = rw (add-one i) (sym (rw (drop-cons w i 0 h)) ∙ r .same);
+    fits = k;
+  }
+
+  pub all-read : length w ≤ i → record { good = true; value = v } ≡ numberOf w
+  unfolding numberOf valueOf isNumber allDigits worth
+  all-read h =
+      let d : allDigits w ≡ true = sym (r .digits) ∙ rw (drop-of-length-le w h) in
+      let s : worth 0 w ≡ v = sym (r .same) ∙ rw (drop-of-length-le w h) in
+      rw (r .some, d, s, lt-ltb v 18446744073709551616 (r .fits))
+
+-- ## A chain of tests, test by test
+
+pub and : {r a b x y : Bool} → r ≡ (a && b) → a ≡ x → b ≡ y → r ≡ (x && y)
+and e f g = e ∙ rw (f, g)
+
+pub or : {r a b x y : Bool} → r ≡ (a || b) → a ≡ x → b ≡ y → r ≡ (x || y)
+or e f g = e ∙ rw (f, g)

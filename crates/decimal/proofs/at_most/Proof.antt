@@ -1,0 +1,22 @@
+use borrow.Author.Needs.{needs}
+use mathlib.Core.Path.{_∙_}
+use Rattle.decimal.specs.Decimal.{numberOf, isNumber, valueOf, isAtMost}
+use Rattle.decimal.proofs.at_most.Statement.{statement}
+use Rattle.decimal.proofs.at_most.Tie as tie
+use Rattle.decimal.proofs.at_most.Reads as reads
+use Rattle.decimal.proofs.at_most.Lts as lts
+use Rattle.decimal.proofs.spelled.Reads as spelled-reads
+use Rattle.octets.proofs.both.Reads as both-reads
+
+spelled-requires : tie.Need-spelled-requires
+spelled-requires c κs = search needs
+
+both-requires : tie.Need-both-requires
+both-requires c κs = search needs
+
+returns : tie.Need-returns
+unfolding numberOf isAtMost
+returns c = c .both .ensures ∙ rw (c .before .before .spelled .ensures)
+
+pub at-most-spec : {M : Type 1} → statement M
+at-most-spec = tie.close (tie.spec spelled-requires both-requires returns)

@@ -1,0 +1,15 @@
+use Rattle.hexadecimal.proofs.Laws.{length-octets}
+use Prim.Native.Nat.{ℕ, suc, _+_, _-_, _*_, _/_, _≤_, _<_}
+use mathlib.Core.Path.{_≡_, refl, sym, _∙_, ap}
+use native.Mathlib.Omega.{arith}
+use borrow.Author.Needs.{needs}
+use Rattle.hexadecimal.proofs.octets_in.Statement.{statement}
+use Rattle.hexadecimal.proofs.octets_in.Tie as tie
+use Rattle.hexadecimal.proofs.octets_in.Reads as reads
+use Rattle.hexadecimal.proofs.octets_in.Lts as lts
+
+returns : tie.Need-returns
+returns c = sym (length-octets _)
+
+pub octets-in-spec : {M : Type 1} → statement M
+octets-in-spec = tie.close (tie.spec returns)

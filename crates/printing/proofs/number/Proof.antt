@@ -1,0 +1,47 @@
+use Rattle.printing.proofs.Laws.{digits-decimal, fewest-20}
+use Rattle.printing.specs.Text.{Behind, decimalOf}
+use lib.ListN.{length, length-take}
+use Prim.Native.Nat.{ℕ, suc, _+_, _-_, _*_, _/_, _≤_, _<_}
+use mathlib.Core.Path.{_≡_, refl, sym, _∙_, ap}
+use native.Mathlib.Omega.{arith}
+use borrow.Author.Needs.{needs}
+use Rattle.printing.proofs.number.Statement.{statement}
+use Rattle.printing.proofs.number.Tie as tie
+use Rattle.printing.proofs.number.Reads as reads
+use Rattle.printing.proofs.number.Lts as lts
+use Rattle.io.proofs.decimal.Reads as decimal-reads
+use Rattle.printing.proofs.push.Reads as push-reads
+
+decimal-requires : tie.Need-decimal-requires
+decimal-requires c κs = search needs
+
+array-share-prefix-text : tie.Need-array-share-prefix-text
+array-share-prefix-text c = search needs
+
+slice-aggregate-push : tie.Need-slice-aggregate-push
+slice-aggregate-push c = search needs
+
+push-requires : tie.Need-push-requires
+push-requires c κs =
+    let k = fewest-20 (c .before .before .before .before .before .args .n) (c .before .before .decimal .result) (omega arith) (c .before .before .decimal .ensures .1 .0) in
+    simp length-take (omega arith)
+
+same-length : tie.Need-same-length
+same-length c = search needs
+
+returns : tie.Need-returns
+returns c =
+    let k = fewest-20 (c .before .before .before .before .before .before .before .before .args .n) (c .before .before .before .before .before .decimal .result) (omega arith) (c .before .before .before .before .before .decimal .ensures .1 .0) in
+    let e = c .before .before .before .before .before .decimal .ensures .1 .1 ∙ digits-decimal (c .before .before .before .before .before .decimal .result) (c .before .before .before .before .before .before .before .before .args .n) k (c .before .before .before .before .before .decimal .ensures .1 .0) in
+    (rw e at (c .before .before .push .ensures), omega (arith, c .before .before .push .ensures .ends, c .before .before .before .before .before .decimal .ensures .0))
+
+pub number-spec : {M : Type 1} → statement M
+number-spec =
+    tie.close
+    (tie.spec
+    decimal-requires
+    array-share-prefix-text
+    slice-aggregate-push
+    push-requires
+    same-length
+    returns)

@@ -1,0 +1,25 @@
+use Rattle.printing.proofs.Laws.{behind-placed}
+use Prim.Native.Nat.{ℕ, suc, _+_, _-_, _*_, _/_, _≤_, _<_}
+use mathlib.Core.Path.{_≡_, refl, sym, _∙_, ap}
+use native.Mathlib.Omega.{arith}
+use borrow.Author.Needs.{needs}
+use Rattle.printing.proofs.push.Statement.{statement}
+use Rattle.printing.proofs.push.Tie as tie
+use Rattle.printing.proofs.push.Reads as reads
+use Rattle.printing.proofs.push.Lts as lts
+use Rattle.octets.proofs.lay.Reads as lay-reads
+
+lay-requires : tie.Need-lay-requires
+lay-requires c κs = search needs
+
+add-result : tie.Need-add-result
+add-result c = search needs
+
+same-length : tie.Need-same-length
+same-length c = search needs
+
+returns : tie.Need-returns
+returns c = rw (c .before .before .lay .ensures) (behind-placed (c .before .before .before .before .before .before .args .out .now) (c .before .before .before .before .before .before .args .src .now) (c .before .before .before .before .before .before .args .at) (c .before .before .before .before .before .before .pre))
+
+pub push-spec : {M : Type 1} → statement M
+push-spec = tie.close (tie.spec lay-requires add-result same-length returns)

@@ -1,0 +1,45 @@
+-- Answers as text (console.md): numbers in decimal, octets in pairs of hexadecimal digits in upper case, `-` for no octets, words separated by one space.
+use Prim.Native.Nat.{ℕ, zero, suc, _+_, _/_, _%_}
+use mathlib.Core.Path.{_≡_}
+use mathlib.Core.Bool.{Bool, true, false, cond}
+use mathlib.Core.List.{List, [], _∷_, _++_}
+use lib.Dec.{ltb}
+use lib.ListN.{length, take}
+
+-- ## Numbers
+
+-- At most f digits of n, without zeros in front.
+unfoldable pub spell : ℕ → ℕ → List ℕ
+spell zero n = []
+spell (suc f) n = cond (ltb n 10) ((48 + n) ∷ []) (spell f (n / 10) ++ ((48 + n % 10) ∷ []))
+
+-- A number below 2^64 has at most 20 digits.
+unfoldable pub decimalOf : ℕ → List ℕ
+decimalOf n = spell 20 n
+
+-- ## Octets
+
+-- the digit that is worth d: `0` to `9`, `A` to `F`
+unfoldable pub glyphOf : ℕ → ℕ
+glyphOf d = cond (ltb d 10) (48 + d) (55 + d)
+
+unfoldable pub hexOf : List ℕ → List ℕ
+hexOf [] = []
+hexOf (x ∷ xs) = glyphOf (x / 16) ∷ glyphOf (x % 16) ∷ hexOf xs
+
+-- "`-` stands for no octets at all"
+unfoldable pub octetsText : List ℕ → List ℕ
+octetsText [] = 45 ∷ []
+octetsText (x ∷ xs) = hexOf (x ∷ xs)
+
+-- ## Lines
+
+-- `more` was written behind the first `at` octets of a buffer, and these stay; the text's new end is `end`.
+pub record Behind (before after : List ℕ) (at end : ℕ) (more : List ℕ) : Type 0 where
+  pub ends : end ≡ at + length more
+  pub text : take end after ≡ take at before ++ more
+  pub room : length after ≡ length before
+
+-- a word behind another
+abbrev pub spaced : List ℕ → List ℕ
+spaced word = 32 ∷ word

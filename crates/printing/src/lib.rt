@@ -1,0 +1,68 @@
+// Answers as text, laid into a lent buffer word by word: numbers in decimal, octets as pairs of hexadecimal
+// digits in upper case, `-` for no octets (console.md). Each call takes the text's end and hands its new end
+// back.
+ghost use Prim.Native.Nat.{_+_, _*_, _≤_};
+ghost use mathlib.Core.Path.{_≡_};
+ghost use mathlib.Core.List.{[], _∷_};
+ghost use lib.ListN.{length};
+ghost use Rattle.printing.specs.Text.{Behind, decimalOf, glyphOf, hexOf, octetsText, spaced};
+
+const SPACE: [u8; 1] = [32];
+
+// `-`
+const NONE: [u8; 1] = [45];
+
+// `src` behind the text.
+pub fn push(out: &mut [u8], at: usize, src: &[u8]) -> usize
+    requires { ⌜ at + length (now src) ≤ length (now out) ⌝ }
+    ensures behind { λ r. ⌜ Behind (now (out .entry)) (now (out .exit)) at r (now (src .entry)) ⌝ }
+{
+    octets::lay(out, at, src);
+    at + src.len()
+}
+
+// The digits of a number.
+pub fn number(out: &mut [u8], at: usize, n: u64) -> usize
+    requires { ⌜ at + 20 ≤ length (now out) ⌝ }
+    ensures behind { λ r. ⌜ Behind (now (out .entry)) (now (out .exit)) at r (decimalOf n) ⌝ }
+    ensures short { λ r. ⌜ r ≤ at + 20 ⌝ }
+{
+    let mut text = [0u8; 20];
+    let k = io::decimal(n, &mut text);
+    push(out, at, &text[..k])
+}
+
+// The digit that is worth `d`.
+fn glyph(d: u8) -> u8
+    requires { ⌜ d ≤ 15 ⌝ }
+    ensures glyph { λ r. ⌜ r ≡ glyphOf d ⌝ }
+{
+    if d < 10 { 48 + d } else { 55 + d }
+}
+
+// The pairs of digits of octets.
+fn pairs(out: &mut [u8], at: usize, s: &[u8]) -> usize
+    requires { ⌜ at + 2 * length (now s) ≤ length (now out) ⌝ }
+    ensures behind { λ r. ⌜ Behind (now (out .entry)) (now (out .exit)) at r (hexOf (now (s .entry))) ⌝ }
+{
+    let mut end = at;
+    let mut i: usize = 0;
+    while i < s.len() {
+        let x = s[i];
+        end = push(out, end, &[glyph(x / 16), glyph(x % 16)]);
+        i = i + 1;
+    }
+    end
+}
+
+// The digits of octets, `-` for none.
+pub fn octets(out: &mut [u8], at: usize, s: &[u8]) -> usize
+    requires { ⌜ at + 2 * length (now s) + 1 ≤ length (now out) ⌝ }
+    ensures behind { λ r. ⌜ Behind (now (out .entry)) (now (out .exit)) at r (octetsText (now (s .entry))) ⌝ }
+    ensures short { λ r. ⌜ r ≤ at + 2 * length (now (s .entry)) + 1 ⌝ }
+{
+    if s.len() == 0 {
+        return push(out, at, &NONE);
+    }
+    pairs(out, at, s)
+}

@@ -1,0 +1,114 @@
+-- The laws of words, in the order of the definitions.
+use Prim.Native.Nat.{ℕ, zero, suc, _+_, _-_, _≤_, _<_}
+use mathlib.Core.Path.{_≡_, refl, sym, _∙_, ap}
+use mathlib.Core.List.{List, [], _∷_, _++_}
+use mathlib.Core.Bool.{Bool, true, false, cond, _&&_}
+use lib.ListN.{length, getD, take, drop, length-drop, drop-of-length-le}
+use lib.Seq.{drop-cons, drop-drop}
+use lib.Dec.{eqb}
+use native.Mathlib.Omega.{arith}
+use native.Mathlib.Numerals.{add-one}
+use borrow.Author.Tests.{eq-eqb, ne-eqb}
+use Rattle.words.specs.Words.{wordOf, wordsIn, untilMark, behindMark, sameOf}
+
+-- ## Before the first mark
+
+pub until-hit : (m : ℕ) (l : List ℕ) (i : ℕ) → i < length l → getD l i 0 ≡ m → untilMark m (drop i l) ≡ []
+unfolding untilMark
+until-hit m l i h e = rw (drop-cons l i 0 h, eq-eqb (getD l i 0) m e)
+
+pub until-miss : (m : ℕ) (l : List ℕ) (i : ℕ) → i < length l → (getD l i 0 ≡ m → ⊥) → untilMark m (drop i l) ≡ getD l i 0 ∷ untilMark m (drop (i + 1) l)
+unfolding untilMark
+until-miss m l i h e = rw (add-one, drop-cons l i 0 h, ne-eqb (getD l i 0) m e)
+
+pub until-end : (m : ℕ) (l : List ℕ) (i : ℕ) → length l ≤ i → untilMark m (drop i l) ≡ []
+unfolding untilMark
+until-end m l i h = rw (drop-of-length-le l h)
+
+pub take-until : (m : ℕ) (l : List ℕ) → take (length (untilMark m l)) l ≡ untilMark m l
+unfolding untilMark
+take-until m [] = refl
+take-until m (c ∷ cs) = go (eqb c m) (take-until m cs) where
+  go : (b : Bool) → take (length (untilMark m cs)) cs ≡ untilMark m cs → take (length (cond b [] (c ∷ untilMark m cs))) (c ∷ cs) ≡ cond b [] (c ∷ untilMark m cs)
+  go true e = refl
+  go false e = ap (λ (t : List ℕ). c ∷ t) e
+
+-- ## Behind the first mark
+
+pub behind-drop : (m : ℕ) (l : List ℕ) → behindMark m l ≡ drop (suc (length (untilMark m l))) l
+unfolding untilMark behindMark
+behind-drop m [] = refl
+behind-drop m (c ∷ cs) = go (eqb c m) (behind-drop m cs) where
+  go : (b : Bool) → behindMark m cs ≡ drop (suc (length (untilMark m cs))) cs → cond b cs (behindMark m cs) ≡ drop (suc (length (cond b [] (c ∷ untilMark m cs)))) (c ∷ cs)
+  go true e = refl
+  go false e = e
+
+-- ## Words
+
+pub word-none : (m i : ℕ) → wordOf m [] i ≡ []
+unfolding wordOf untilMark behindMark
+word-none m zero = refl
+word-none m (suc i) = word-none m i
+
+behind-at : (m : ℕ) (l : List ℕ) (from e : ℕ) → e ≡ from + length (untilMark m (drop from l)) → behindMark m (drop from l) ≡ drop (e + 1) l
+behind-at m l from e h =
+    let n : from + suc (length (untilMark m (drop from l))) ≡ e + 1 = omega arith in
+    behind-drop m (drop from l) ∙ drop-drop (suc (length (untilMark m (drop from l)))) from l ∙ rw n
+
+pub word-next : (m : ℕ) (l : List ℕ) (from k e : ℕ) → e ≡ from + length (untilMark m (drop from l)) → 0 < k → wordOf m (drop from l) k ≡ wordOf m (drop (e + 1) l) (k - 1)
+unfolding wordOf
+word-next m l from zero e h p = absurd (omega arith)
+word-next m l from (suc k) e h p =
+    let n : suc k - 1 ≡ k = omega arith in
+    rw (n, behind-at m l from e h)
+
+pub word-past : (m : ℕ) (l : List ℕ) (from k e : ℕ) → e ≡ from + length (untilMark m (drop from l)) → 0 < k → length l ≤ e → wordOf m (drop from l) k ≡ []
+word-past m l from k e h p q =
+    let n : length l ≤ e + 1 = omega arith in
+    word-next m l from k e h p ∙ rw (drop-of-length-le l n) (word-none m (k - 1))
+
+pub word-last : (m : ℕ) (l : List ℕ) (from k e : ℕ) → e ≡ from + length (untilMark m (drop from l)) → k ≤ 0 → take (e - from) (drop from l) ≡ wordOf m (drop from l) k
+unfolding wordOf
+word-last m l from zero e h p =
+    let n : e - from ≡ length (untilMark m (drop from l)) = omega arith in
+    rw n (take-until m (drop from l))
+word-last m l from (suc k) e h p = absurd (omega arith)
+
+-- ## How many words
+
+pub words-hit : (m : ℕ) (l : List ℕ) (i : ℕ) → i < length l → getD l i 0 ≡ m → wordsIn m (drop i l) ≡ suc (wordsIn m (drop (i + 1) l))
+unfolding wordsIn
+words-hit m l i h e = rw (add-one, drop-cons l i 0 h, eq-eqb (getD l i 0) m e)
+
+pub words-miss : (m : ℕ) (l : List ℕ) (i : ℕ) → i < length l → (getD l i 0 ≡ m → ⊥) → wordsIn m (drop i l) ≡ wordsIn m (drop (i + 1) l)
+unfolding wordsIn
+words-miss m l i h e = rw (add-one, drop-cons l i 0 h, ne-eqb (getD l i 0) m e)
+
+pub words-end : (m : ℕ) (l : List ℕ) (i : ℕ) → length l ≤ i → wordsIn m (drop i l) ≡ 1
+unfolding wordsIn
+words-end m l i h = rw (drop-of-length-le l h)
+
+-- ## The same octets
+
+pub same-length : (a b : List ℕ) → (length a ≡ length b → ⊥) → sameOf a b ≡ false
+unfolding sameOf
+same-length [] [] h = absurd (h refl)
+same-length [] (d ∷ ds) h = refl
+same-length (c ∷ cs) [] h = refl
+same-length (c ∷ cs) (d ∷ ds) h = go (eqb c d) (same-length cs ds (λ e. h (ap suc e))) where
+  go : (b : Bool) → sameOf cs ds ≡ false → (b && sameOf cs ds) ≡ false
+  go true e = e
+  go false e = refl
+
+module _ (a b : List ℕ) (i : ℕ) where
+  pub same-miss : i < length a → i < length b → (getD a i 0 ≡ getD b i 0 → ⊥) → sameOf (drop i a) (drop i b) ≡ false
+  unfolding sameOf
+  same-miss h k e = rw (drop-cons a i 0 h, drop-cons b i 0 k, ne-eqb (getD a i 0) (getD b i 0) e)
+
+  pub same-hit : i < length a → i < length b → getD a i 0 ≡ getD b i 0 → sameOf (drop i a) (drop i b) ≡ sameOf (drop (i + 1) a) (drop (i + 1) b)
+  unfolding sameOf
+  same-hit h k e = rw (add-one, drop-cons a i 0 h, drop-cons b i 0 k, eq-eqb (getD a i 0) (getD b i 0) e)
+
+  pub same-end : length a ≤ i → length b ≤ i → sameOf (drop i a) (drop i b) ≡ true
+  unfolding sameOf
+  same-end h k = rw (drop-of-length-le a h, drop-of-length-le b k)

@@ -1,0 +1,60 @@
+use Rattle.words.proofs.Laws.{same-length, same-miss, same-hit, same-end}
+use Rattle.words.specs.Words.{sameOf}
+use lib.ListN.{length, drop}
+use Prim.Native.Nat.{ℕ, suc, _+_, _-_, _≤_, _<_}
+use mathlib.Core.Path.{_≡_, refl, sym, _∙_, ap}
+use native.Mathlib.Omega.{arith}
+use borrow.Author.Needs.{needs}
+use Rattle.words.proofs.same.Statement.{statement}
+use Rattle.words.proofs.same.Tie as tie
+use Rattle.words.proofs.same.Reads as reads
+use Rattle.words.proofs.same.Lts as lts
+
+abbrev Inv-loop : tie.InvT-loop
+Inv-loop word name i₀ i = (i ≤ length word) × (length word ≡ length name) × (sameOf (drop i word) (drop i name) ≡ sameOf word name)
+
+abbrev μ-loop : tie.MeasureT-loop
+μ-loop word name i₀ i = length word - i
+
+returns : tie.Need-returns Inv-loop μ-loop
+returns c = sym (same-length (c .before .args .word .now) (c .before .args .name .now) (c .if1 .taken))
+
+loop-holds : tie.Need-loop-holds Inv-loop μ-loop
+loop-holds c = (search needs, search needs, refl)
+
+shared-slice-read-if2 : tie.Need-shared-slice-read-if2 Inv-loop μ-loop
+shared-slice-read-if2 c = search needs
+
+shared-slice-read-if2-2 : tie.Need-shared-slice-read-if2-2 Inv-loop μ-loop
+shared-slice-read-if2-2 c = search needs
+
+returns-2 : tie.Need-returns-2 Inv-loop μ-loop
+returns-2 c = sym (same-miss (c .before .before .before .before .before .before .args .word .now) (c .before .before .before .before .before .before .args .name .now) (c .before .before .before .before .loop .i) (omega arith) (omega arith) (c .if2 .taken)) ∙ c .before .before .before .before .loop .inv .2
+
+add-i : tie.Need-add-i Inv-loop μ-loop
+add-i c = search needs
+
+loop-less : tie.Need-loop-less Inv-loop μ-loop
+loop-less c = search needs
+
+loop-again : tie.Need-loop-again Inv-loop μ-loop
+loop-again c = (omega arith, search needs, sym (same-hit (c .before .before .before .before .before .before .args .word .now) (c .before .before .before .before .before .before .args .name .now) (c .before .before .before .before .loop .i) (omega arith) (omega arith) (c .if2 .left)) ∙ c .before .before .before .before .loop .inv .2)
+
+returns-3 : tie.Need-returns-3 Inv-loop μ-loop
+returns-3 c = sym (same-end (c .before .before .before .args .word .now) (c .before .before .before .args .name .now) (c .before .loop .i) (omega arith) (omega arith)) ∙ c .before .loop .inv .2
+
+pub same-spec : {M : Type 1} → statement M
+same-spec =
+    tie.close
+    (tie.spec
+    Inv-loop
+    μ-loop
+    returns
+    loop-holds
+    shared-slice-read-if2
+    shared-slice-read-if2-2
+    returns-2
+    add-i
+    loop-less
+    loop-again
+    returns-3)

@@ -1,0 +1,33 @@
+-- The words of a line: "words are separated by one space, with none in front or behind" (console.md). The numbers of a structure are words too, with
+-- commas between them.
+use Prim.Native.Nat.{ℕ, zero, suc}
+use mathlib.Core.Bool.{Bool, true, false, cond, _&&_}
+use mathlib.Core.List.{List, [], _∷_, _++_}
+use lib.Dec.{eqb}
+
+-- The octets before the first mark: all of them where there is none.
+unfoldable pub untilMark : ℕ → List ℕ → List ℕ
+untilMark m [] = []
+untilMark m (c ∷ cs) = cond (eqb c m) [] (c ∷ untilMark m cs)
+
+-- The octets behind the first mark: none of them where there is none.
+unfoldable pub behindMark : ℕ → List ℕ → List ℕ
+behindMark m [] = []
+behindMark m (c ∷ cs) = cond (eqb c m) cs (behindMark m cs)
+
+-- Word i, from 0.
+unfoldable pub wordOf : ℕ → List ℕ → ℕ → List ℕ
+wordOf m line zero = untilMark m line
+wordOf m line (suc i) = wordOf m (behindMark m line) i
+
+-- How many words there are: one more than marks.
+unfoldable pub wordsIn : ℕ → List ℕ → ℕ
+wordsIn m [] = 1
+wordsIn m (c ∷ cs) = cond (eqb c m) (suc (wordsIn m cs)) (wordsIn m cs)
+
+-- Are these the same octets?
+unfoldable pub sameOf : List ℕ → List ℕ → Bool
+sameOf [] [] = true
+sameOf [] (d ∷ ds) = false
+sameOf (c ∷ cs) [] = false
+sameOf (c ∷ cs) (d ∷ ds) = eqb c d && sameOf cs ds
