@@ -86,18 +86,20 @@ hex-length (x ∷ xs) = let h = hex-length xs in omega arith
 pub behind-placed : (b w : List ℕ) (at : ℕ) → at + length w ≤ length b → Behind b (placed b at w) at (at + length w) w
 unfolding placed over
 behind-placed b w at h = record {
-    ends = refl;
-    text = rw (← append-assoc (take at b) w (drop (length w) (drop at b))) (take-at (take at b ++ w) (drop (length w) (drop at b)) (at + length w) (simp (length-append, length-take-le at b (omega arith))));
-    room = length-placed b at w h }
+  ends = refl;
+  text = rw (← append-assoc (take at b) w (drop (length w) (drop at b))) (take-at (take at b ++ w) (drop (length w) (drop at b)) (at + length w) (simp (length-append, length-take-le at b (omega arith))));
+  room = length-placed b at w h;
+}
 
 pub behind-none : (b : List ℕ) (at : ℕ) → Behind b b at at []
 behind-none b at = record { ends = omega arith; text = sym (append-nil (take at b)); room = refl }
 
 pub then : {b c d x y : List ℕ} {at e f : ℕ} → Behind b c at e x → Behind c d e f y → Behind b d at f (x ++ y)
 then {b = b} {x = x} {y = y} {at = at} p q = record {
-    ends = omega (arith, length-append x y);
-    text = q .text ∙ rw (p .text) (append-assoc (take at b) x y);
-    room = q .room ∙ p .room }
+  ends = omega (arith, length-append x y);
+  text = q .text ∙ rw (p .text) (append-assoc (take at b) x y);
+  room = q .room ∙ p .room;
+}
 
 -- none, or digits
 pub dash-for-none : (s : List ℕ) → length s ≡ 0 → octetsText s ≡ 45 ∷ []

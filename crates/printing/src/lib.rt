@@ -66,3 +66,23 @@ pub fn octets(out: &mut [u8], at: usize, s: &[u8]) -> usize
     }
     pairs(out, at, s)
 }
+
+// A space and a number.
+pub fn field(out: &mut [u8], at: usize, n: u64) -> usize
+    requires { ⌜ at + 21 ≤ length (now out) ⌝ }
+    ensures behind { λ r. ⌜ Behind (now (out .entry)) (now (out .exit)) at r (spaced (decimalOf n)) ⌝ }
+    ensures short { λ r. ⌜ r ≤ at + 21 ⌝ }
+{
+    let end = push(out, at, &SPACE);
+    number(out, end, n)
+}
+
+// A space and octets.
+pub fn octets_field(out: &mut [u8], at: usize, s: &[u8]) -> usize
+    requires { ⌜ at + 2 * length (now s) + 2 ≤ length (now out) ⌝ }
+    ensures behind { λ r. ⌜ Behind (now (out .entry)) (now (out .exit)) at r (spaced (octetsText (now (s .entry)))) ⌝ }
+    ensures short { λ r. ⌜ r ≤ at + 2 * length (now (s .entry)) + 2 ⌝ }
+{
+    let end = push(out, at, &SPACE);
+    octets(out, end, s)
+}
