@@ -1,0 +1,40 @@
+-- Where a check stands in document 01's order, and which stand before it: an earlier check on the whole, an earlier subobject,
+-- or an earlier check in the same one.
+use Prim.Native.Nat.{ℕ, _<_}
+use mathlib.Core.Path.{_≡_}
+use mathlib.Core.List.{List}
+use mathlib.Core.Logic.{_⊎_}
+use mathlib.Core.Bool.{Bool, false}
+use lib.ListN.{getD}
+use Rattle.session.specs.declared.Session.{Session}
+use Rattle.frame.specs.Checks.{Check, check}
+use Rattle.frame.specs.Frames.{placesOf}
+use Rattle.route.specs.Routes.{order, wholeChecks, checksAt, brokenAt, lastChecks, countOf}
+
+-- The k-th check on the whole (4, 5, 6, 14, 13), the k-th check of subobject i (8, 9, 7, 10, 11), or 12; k and i from 0.
+pub data Where : Type 0 where
+  whole : ℕ → Where
+  inside : ℕ → ℕ → Where
+  last : Where
+
+-- The checks that a route of n subobjects has.
+abbrev pub Among : ℕ → Where → Type 0
+Among n (whole k) = k < 5
+Among n (inside i k) = (i < n) × (k < 5)
+Among n last = Unit {0}
+
+abbrev pub Before : Where → Where → Type 0
+Before (whole j) (whole k) = j < k
+Before (whole j) (inside i k) = Unit {0}
+Before (whole j) last = Unit {0}
+Before (inside i j) (whole k) = ⊥
+Before (inside i j) (inside l k) = (i < l) ⊎ ((i ≡ l) × (j < k))
+Before (inside i j) last = Unit {0}
+Before last w = ⊥
+
+-- The check that stands there: its number, its place, and whether it is broken.
+abbrev pub checkAt : List ℕ → Bool → Session → ℕ → Where → Check
+checkAt s ero session pst (whole k) = getD (wholeChecks ero session pst s) k (check 0 0 false)
+checkAt s ero session pst (inside i k) =
+    getD (checksAt (brokenAt ero (session .n) s (getD (placesOf s) i 0)) (getD (placesOf s) i 0) order) k (check 0 0 false)
+checkAt s ero session pst last = getD (lastChecks ero (session .limit) (countOf s) (placesOf s)) 0 (check 0 0 false)

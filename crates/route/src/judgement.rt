@@ -1,0 +1,69 @@
+// The judgement of a route: the frame, 13, the walk, 12.
+ghost use mathlib.Core.Path.{_≡_};
+ghost use mathlib.Core.Bool.{true, cond, _&&_};
+ghost use Prim.Native.Nat.{_≤_, _<_};
+ghost use lib.Dec.{eqb, ltb};
+ghost use lib.ListN.{length};
+ghost use Rattle.frame.specs.Frames.{apartOf};
+ghost use Rattle.route.specs.Routes.{judgeOf, rule13, limitedOf};
+use super::walk::walk;
+use answers::Verdict;
+use session::Limit;
+use session::Session;
+
+// the setup type of an SRv6 path
+const SRV6_PATH: u64 = 3;
+
+// 13: PST isn't 3 or SRv6 isn't agreed.
+fn not_agreed(agreed: bool, pst: u64) -> bool
+    ensures broken { λ r. ⌜ r ≡ rule13 agreed pst ⌝ }
+{
+    !octets::both(pst == SRV6_PATH, agreed)
+}
+
+// Whether there are more segments than `most`; not asked in RRO.
+fn past(ero: bool, most: usize, count: usize) -> bool
+    ensures past { λ r. ⌜ r ≡ (ero && ltb most count) ⌝ }
+{
+    octets::both(ero, most < count)
+}
+
+// 12: more segments than the limit.
+fn limited(s: &[u8], ero: bool, limit: Limit, count: usize) -> Verdict
+    requires { ⌜ (4 ≤ length (now s)) × (length (now s) < 65536) × (apartOf (now s) .whole ≡ true) ⌝ }
+    ensures limited { λ r. ⌜ r ≡ limitedOf ero limit count (now (s .entry)) ⌝ }
+{
+    match limit {
+        Limit::Free => answers::accepted(count),
+        Limit::Most(most) => {
+            if past(ero, most, count) {
+                return answers::refused(answers::TOO_MANY_SEGMENTS, frame::nth(s, most));
+            }
+            answers::accepted(count)
+        }
+    }
+}
+
+// The first of two answers, unless it is an acceptance.
+fn first_refusal(a: Verdict, b: Verdict) -> Verdict
+    ensures first { λ r. ⌜ r ≡ cond (eqb (a .number) 0) b a ⌝ }
+{
+    if a.number == 0 { b } else { a }
+}
+
+// The verdict on a route under a session and a setup type.
+pub fn judge(s: &[u8], ero: bool, session: Session, pst: u64) -> Verdict
+    ensures judged { λ r. ⌜ r ≡ judgeOf (now (s .entry)) ero session pst ⌝ }
+{
+    let f = frame::framed(s, ero, subobject::SRV6);
+    if f.number != 0 {
+        return f;
+    }
+    if not_agreed(session.agreed, pst) {
+        return answers::refused(answers::NOT_AGREED, 0);
+    }
+    let w = walk(s, ero, session.n, f.count);
+    let limit = session.limit;
+    let l = limited(s, ero, limit, f.count);
+    first_refusal(w, l)
+}
