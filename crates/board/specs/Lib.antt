@@ -1,0 +1,6 @@
+pub mod Rules
+pub mod Report
+pub mod Remove
+pub mod Compact
+pub mod Body
+pub mod Next

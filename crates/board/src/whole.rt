@@ -1,0 +1,31 @@
+// 17 is answered exactly if the store is shorter than 49,152 octets or the record isn't proper.
+ghost use mathlib.Core.Path.{_≡_};
+ghost use Rattle.table.specs.Table.{boardOf};
+ghost use Rattle.board.specs.Rules.{isBoard, lengthIn};
+use table::PLACES;
+use table::STORE;
+use table::wide16;
+
+// Whether a store of n octets and the record are a board.
+pub fn is_board<'a>(
+    n: usize,
+    keys: &'a [u32; 128],
+    versions: &'a [u64; 128],
+    lengths: &'a [u16; 128],
+    top: u64,
+    floor: u64,
+) -> bool
+    ensures board { λ r. ⌜ r ≡ isBoard (boardOf (now (keys .entry)) (now (versions .entry)) (now (lengths .entry)) top floor) n ⌝ }
+{
+    if n < STORE {
+        return false;
+    }
+    proper::is_proper(keys, versions, lengths, top, floor)
+}
+
+// The length at a place; 0 for no place.
+pub fn length_at(lengths: &[u16; 128], at: usize) -> usize
+    ensures length { λ r. ⌜ r ≡ lengthIn (now (lengths .entry)) at ⌝ }
+{
+    if at < PLACES { wide16(lengths[at]) } else { 0 }
+}

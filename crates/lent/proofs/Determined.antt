@@ -1,0 +1,31 @@
+-- Of any two answers that fit a call's contract, with the record that each leaves, equality. Assumes nothing.
+use Prim.Native.Nat.{ℕ}
+use mathlib.Core.Path.{_≡_, sym, ap, _∙_}
+use mathlib.Core.List.{List}
+use Rattle.answers.specs.declared.verdict.Verdict.{Verdict}
+use Rattle.table.specs.declared.board.Board.{Board}
+use Rattle.board.specs.declared.answer.Answer.{Answer}
+use Rattle.board.specs.declared.answer.Handed.{Handed}
+use Rattle.board.specs.Rules.{answerOf}
+use Rattle.board.specs.Remove.{removeAnswer}
+use Rattle.board.specs.Compact.{compactAnswer}
+use Rattle.board.specs.Body.{bodyNumber, bodyOf}
+use Rattle.board.specs.Next.{nextAnswer}
+
+pub answers-same : (a : Answer) (v w : Verdict) (c d : Board) → answerOf v c ≡ a → answerOf w d ≡ a → (v ≡ w) × (c ≡ d)
+answers-same a v w c d p q = (ap (λ (x : Answer). x .verdict) (p ∙ sym q), ap (λ (x : Answer). x .board) (p ∙ sym q))
+
+pub remove-determined : (b : Board) (store : List ℕ) (k : ℕ) (v w : Verdict) (c d : Board) → answerOf v c ≡ removeAnswer b store k → answerOf w d ≡ removeAnswer b store k → (v ≡ w) × (c ≡ d)
+remove-determined b store k v w c d p q = answers-same (removeAnswer b store k) v w c d p q
+
+pub compact-determined : (b : Board) (store : List ℕ) (m : ℕ) (v w : Verdict) (c d : Board) → answerOf v c ≡ compactAnswer b store m → answerOf w d ≡ compactAnswer b store m → (v ≡ w) × (c ≡ d)
+compact-determined b store m v w c d p q = answers-same (compactAnswer b store m) v w c d p q
+
+pub number-determined : (b : Board) (store : List ℕ) (k : ℕ) (v w : Verdict) → v ≡ bodyNumber b store k → w ≡ bodyNumber b store k → v ≡ w
+number-determined b store k v w p q = p ∙ sym q
+
+pub body-determined : (b : Board) (store : List ℕ) (k : ℕ) (x y : List ℕ) → x ≡ bodyOf b store k → y ≡ bodyOf b store k → x ≡ y
+body-determined b store k x y p q = p ∙ sym q
+
+pub next-determined : (b : Board) (store : List ℕ) (s w : ℕ) (x y : Handed) → x ≡ nextAnswer b store s w → y ≡ nextAnswer b store s w → x ≡ y
+next-determined b store s w x y p q = p ∙ sym q

@@ -1,0 +1,4 @@
+pub mod Answers
+pub mod Sweeps
+pub mod Looks
+pub mod Determined
