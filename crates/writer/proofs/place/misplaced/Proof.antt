@@ -22,7 +22,7 @@ either-requires-2 c κs = search needs
 -- src/place.rt:18:1
 returns : tie.Need-returns
 unfolding badPlace
-returns c = cc
+returns c = rw (c .either2 .ensures, c .before .either .ensures, c .before .before .past .ensures)
 
 pub misplaced-spec : {M : Type 1} → statement M
 misplaced-spec = tie.close (tie.spec past-requires either-requires either-requires-2 returns)

@@ -13,7 +13,7 @@ either-requires c κs = search needs
 -- src/place.rt:11:1
 returns : tie.Need-returns
 unfolding passes
-returns c = cc
+returns c = c .either .ensures
 
 pub past-spec : {M : Type 1} → statement M
 past-spec = tie.close (tie.spec either-requires returns)

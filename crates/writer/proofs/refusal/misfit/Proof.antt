@@ -35,7 +35,7 @@ either-requires-3 c κs = search needs
 -- src/refusal.rt:9:1
 returns : tie.Need-returns
 unfolding unfit
-returns c = cc
+returns c = rw (c .either3 .ensures, c .before .either2 .ensures, c .before .before .tidy .ensures, c .before .before .before .both2 .ensures, c .before .before .before .before .either .ensures, c .before .before .before .before .before .both .ensures)
 
 pub misfit-spec : {M : Type 1} → statement M
 misfit-spec =

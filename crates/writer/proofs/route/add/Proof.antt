@@ -7,7 +7,7 @@ use Rattle.octets.proofs.Laws.{placed-back, rest-lent}
 use Rattle.layout.specs.Held.{Held}
 use Rattle.subobject.specs.declared.head.Head.{Head}
 use Rattle.subobject.specs.Segments.{subobjectOf}
-use Rattle.writer.specs.Writing.{addNumber, addAnswer, addBuffer}
+use Rattle.writer.specs.Writing.{addNumber, addAnswer, addBuffer, acceptedAs}
 use Rattle.writer.specs.declared.state.Writer.{Writer}
 use Rattle.writer.proofs.Laws.{Taken, taken, size-subobject, answered-refused, answered-accepted, buffer-refused, buffer-accepted}
 use borrow.Author.Needs.{needs}
@@ -94,7 +94,7 @@ unfolding addAnswer addBuffer
 returns-2 c = let w = c .before .before .before .before .before .before .before .before .before .before .args .writer in
     let e : _≡_ {A = Writer} (record { ero = w .ero; at = w .at + c .before .before .before .before .before .before .head-of .result .size }) (record { ero = w .ero; at = w .at + length (subobjectOf (c .before .before .before .before .before .before .before .before .before .before .args .segment)) })
     = rw (sized (c .before .before .before .before .before .before)) in (
-      answered-accepted _ _ _ (c .accept .ensures ∙ rw e) (free (c .before .before .before .before .before .before .before)),
+      answered-accepted _ _ _ (c .accept .ensures ∙ ap acceptedAs e) (free (c .before .before .before .before .before .before .before)),
       buffer-accepted _ _ _ (placed-back _ _ _ _ (c .before .before .before .before .write .ensures)) (free (c .before .before .before .before .before .before .before)),
     )
 
