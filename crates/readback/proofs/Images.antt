@@ -1,0 +1,174 @@
+-- What a run that was accepted leaves: every segment was fit, and the object is the one of the segments.
+use Prim.Native.Nat.{ℕ, suc, _+_, _-_, _*_, _%_, _≤_, _<_}
+use mathlib.Core.Path.{_≡_, refl, sym, _∙_, ap}
+use mathlib.Core.Bool.{Bool, true, false, cond, not, _&&_, _||_}
+use mathlib.Core.List.{List, [], _∷_, _++_, append-assoc, append-nil}
+use lib.ListN.{length, take, drop, length-append}
+use lib.Seq.{take-at, drop-at}
+use native.Mathlib.Nat.{add-assoc}
+use native.Mathlib.Omega.{arith}
+use Rattle.answers.specs.Verdicts.{kept}
+use Rattle.octets.specs.Octets.{hi, lo, over, placed}
+use Rattle.subobject.specs.declared.segment.Segment.{Segment}
+use Rattle.subobject.specs.Rules.{rule8, rule9, rule11}
+use Rattle.subobject.specs.Segments.{headOfSegment, subobjectOf, bitsOf}
+use Rattle.writer.specs.declared.state.Writer.{Writer}
+use Rattle.writer.specs.declared.state.Written.{Written}
+use Rattle.writer.specs.Writing.{headerOf, unfit, beginNumber, beginAnswer, beginBuffer, addNumber, addAnswer, addBuffer, finishNumber, finishAnswer, finishBuffer, answered, refusedAs, acceptedAs}
+use Rattle.writer.proofs.Laws.{Proper, Taken, taken, Done, done}
+use Rattle.readback.specs.Runs.{Run, onward, beginRun, addRun, finishRun, addsRun, writeRun, Accepted, objectIn, bodyOf, objectOf}
+
+-- A segment that adding takes, but for the room.
+pub record Fit (ero : Bool) (g : Segment) : Type 0 where
+  pub r8 : rule8 (headOfSegment g) ≡ false
+  pub r9 : rule9 (headOfSegment g) ≡ false
+  pub fit : unfit ero g ≡ false
+  pub r11 : rule11 (headOfSegment g) (bitsOf g) ≡ false
+
+pub data AllFit (ero : Bool) : List Segment → Type 0 where
+  none : AllFit ero []
+  also : {g : Segment} {gs : List Segment} → Fit ero g → AllFit ero gs → AllFit ero (g ∷ gs)
+
+-- The number of an answer is the number of its refusal.
+pub number-answered : (n : ℕ) (old new : Writer) → answered n old new .verdict .number ≡ n
+number-answered ℕ.zero old new = refl
+number-answered (ℕ.suc n) old new = refl
+
+-- A run that was accepted went on.
+pub went-on : (r : Run) (next : List ℕ → Writer → Run) → Accepted (onward r next) → (n : ℕ) → r .written .verdict .number ≡ n → n ≡ 0
+went-on r next e ℕ.zero q = refl
+went-on r next e (ℕ.suc n) q = rw q at e
+
+-- What is laid behind a run of octets.
+pub placed-behind : (p r w : List ℕ) (n : ℕ) → length p ≡ n → placed (p ++ r) n w ≡ p ++ (w ++ drop (length w) r)
+unfolding placed over
+placed-behind p r w n e = rw (take-at p r n e, drop-at p r n e)
+
+-- An object under way: `body` stands behind the header, then come the segments still to add, then the rest of the buffer.
+pub record Under (ero : Bool) (body : List ℕ) (gs : List Segment) (r : Run) : Type 0 where
+  pub at : r .written .writer .at ≡ 4 + length (body ++ bodyOf gs)
+  pub rest : List ℕ
+  pub buffer : r .buffer ≡ headerOf ero (4 + length (body ++ bodyOf gs)) ++ ((body ++ bodyOf gs) ++ rest)
+  pub fits : AllFit ero gs
+  pub most : 4 + length (body ++ bodyOf gs) ≤ 65532
+  pub fours : (4 + length (body ++ bodyOf gs)) % 4 ≡ 0
+  pub filled : length (body ++ bodyOf gs) ≡ 0 → ⊥
+
+-- A segment added stands behind the body.
+moved : {ero : Bool} (body : List ℕ) (g : Segment) (gs : List Segment) {r : Run} → Fit ero g → Under ero (body ++ subobjectOf g) gs r → Under ero body (g ∷ gs) r
+moved body g gs f u =
+    let e = append-assoc body (subobjectOf g) (bodyOf gs) in
+    record {
+      at = rw e at (u .at);
+      rest = u .rest;
+      buffer = rw e at (u .buffer);
+      fits = also f (u .fits);
+      most = rw e at (u .most);
+      fours = rw e at (u .fours);
+      filled = rw e at (u .filled);
+    }
+
+finished : {ero : Bool} (body rest b : List ℕ) (w : Writer) → w .at ≡ 4 + length body → b ≡ headerOf ero 4 ++ (body ++ rest)
+    → finishNumber (length b) w ≡ 0 → Under ero body [] (finishRun b w)
+unfolding finishAnswer finishBuffer headerOf placed over
+finished {ero} body rest b w ea eb e =
+    let d = done (length b) w e in
+    let n = append-nil body in
+    record {
+      at = rw (e, n) ea;
+      rest = rest;
+      buffer = rw (e, n, ea, eb);
+      fits = none;
+      most = rw n (omega (arith, d .place .most));
+      fours = rw (n, ← ea) (d .place .fours);
+      filled = rw n (λ z. d .filled (omega arith));
+    }
+
+finish-number : (b : List ℕ) (w : Writer) → finishAnswer b w .verdict .number ≡ finishNumber (length b) w
+unfolding finishAnswer
+finish-number b w = number-answered (finishNumber (length b) w) w w
+
+add-number : (b : List ℕ) (w : Writer) (g : Segment) → addAnswer b w g .verdict .number ≡ addNumber (length b) w g
+unfolding addAnswer
+add-number b w g = number-answered (addNumber (length b) w g) w _
+
+begin-number : (b : List ℕ) (w : Writer) (ero : Bool) → beginAnswer b w ero .verdict .number ≡ beginNumber (length b)
+unfolding beginAnswer
+begin-number b w ero = number-answered (beginNumber (length b)) w _
+
+-- A call that accepts hands on its state and its buffer.
+add-onward : (b : List ℕ) (w : Writer) (g : Segment) (next : List ℕ → Writer → Run) → addNumber (length b) w g ≡ 0
+    → onward (addRun b w g) next ≡ next (placed b (w .at) (subobjectOf g)) (record { ero = w .ero; at = w .at + length (subobjectOf g) })
+unfolding addAnswer addBuffer
+add-onward b w g next e = rw e
+
+begin-onward : (b : List ℕ) (w : Writer) (ero : Bool) (next : List ℕ → Writer → Run) → beginNumber (length b) ≡ 0
+    → onward (beginRun b w ero) next ≡ next (over (headerOf ero 4) b) (record { ero = ero; at = 4 })
+unfolding beginAnswer beginBuffer
+begin-onward b w ero next e = rw e
+
+fit-of : (ero : Bool) (room : ℕ) (w : Writer) (g : Segment) → w .ero ≡ ero → Taken room w g → Fit ero g
+fit-of ero room w g e t = record { r8 = t .r8; r9 = t .r9; fit = rw e at (t .fit); r11 = t .r11 }
+
+adds : {ero : Bool} (gs : List Segment) (body rest b : List ℕ) (w : Writer) → w .ero ≡ ero → w .at ≡ 4 + length body → b ≡ headerOf ero 4 ++ (body ++ rest)
+    → Accepted (addsRun gs b w) → Under ero body gs (addsRun gs b w)
+unfolding addsRun headerOf
+adds [] body rest b w ee ea eb a = finished body rest b w ea eb (sym (finish-number b w) ∙ a)
+adds {ero} (g ∷ gs) body rest b w ee ea eb a =
+    let n = went-on (addRun b w g) (addsRun gs) a (addNumber (length b) w g) (add-number b w g) in
+    let x = subobjectOf g in
+    let q = add-onward b w g (addsRun gs) n in
+    let e1 : placed b (w .at) x ≡ (headerOf ero 4 ++ body) ++ (x ++ drop (length x) rest)
+    = rw eb (placed-behind (headerOf ero 4 ++ body) rest x (w .at) (omega arith)) in
+    let e2 : (headerOf ero 4 ++ body) ++ (x ++ drop (length x) rest) ≡ headerOf ero 4 ++ ((body ++ x) ++ drop (length x) rest) = simp append-assoc in
+    let eb' : placed b (w .at) x ≡ headerOf ero 4 ++ ((body ++ x) ++ drop (length x) rest) = e1 ∙ e2 in
+    rw q
+    (moved body g gs (fit-of ero (length b) w g ee (taken (length b) w g n))
+    (adds gs (body ++ x) (drop (length x) rest) (placed b (w .at) x) (record { ero = w .ero; at = w .at + length x }) ee
+    (omega (arith, length-append body x)) eb' (rw q at a)))
+
+-- What an accepted run leaves.
+pub record Image (ero : Bool) (gs : List Segment) (r : Run) : Type 0 where
+  pub at : r .written .writer .at ≡ length (objectOf ero gs)
+  pub object : objectIn r ≡ objectOf ero gs
+  pub fits : AllFit ero gs
+  pub most : 4 + length (bodyOf gs) ≤ 65532
+  pub fours : (4 + length (bodyOf gs)) % 4 ≡ 0
+  pub filled : length (bodyOf gs) ≡ 0 → ⊥
+
+pub length-object : (ero : Bool) (gs : List Segment) → length (objectOf ero gs) ≡ 4 + length (bodyOf gs)
+unfolding objectOf headerOf
+length-object ero gs = omega arith
+
+-- The octets of a buffer that starts with an object, up to its place.
+cut : (ero : Bool) (gs : List Segment) (b rest : List ℕ) (at : ℕ) → at ≡ 4 + length (bodyOf gs)
+    → b ≡ headerOf ero (4 + length (bodyOf gs)) ++ (bodyOf gs ++ rest) → take at b ≡ objectOf ero gs
+unfolding objectOf headerOf
+cut ero gs b rest at ea eb = rw (eb, ea) (take-at (objectOf ero gs) rest (4 + length (bodyOf gs)) (length-object ero gs))
+
+begun : (b : List ℕ) (ero : Bool) → over (headerOf ero 4) b ≡ headerOf ero 4 ++ ([] ++ drop 4 b)
+unfolding headerOf over
+begun b ero = refl
+
+pub image : (ero : Bool) (gs : List Segment) (b : List ℕ) (w : Writer) → Accepted (writeRun ero gs b w) → Image ero gs (writeRun ero gs b w)
+unfolding writeRun
+image ero gs b w a =
+    let n = went-on (beginRun b w ero) (addsRun gs) a (beginNumber (length b)) (begin-number b w ero) in
+    let q = begin-onward b w ero (addsRun gs) n in
+    let u = adds gs [] (drop 4 b) (over (headerOf ero 4) b) (record { ero = ero; at = 4 }) refl refl (begun b ero) (rw q at a) in
+    rw q
+    (record {
+      at = u .at ∙ sym (length-object ero gs);
+      object = cut ero gs _ (u .rest) _ (u .at) (u .buffer);
+      fits = u .fits;
+      most = u .most;
+      fours = u .fours;
+      filled = u .filled;
+    })
+
+-- the second theorem: one object -------------------------------------------------------------------------------
+
+-- Any two finished objects of the same kind and segments are equal octet for octet, whatever the buffers and the states were.
+pub one-object : (ero : Bool) (gs : List Segment) (b c : List ℕ) (v w : Writer) → Accepted (writeRun ero gs b v) → Accepted (writeRun ero gs c w)
+    → objectIn (writeRun ero gs b v) ≡ objectIn (writeRun ero gs c w)
+one-object ero gs b c v w p q = image ero gs b v p .object ∙ sym (image ero gs c w q .object)

@@ -1,0 +1,4 @@
+pub mod Images
+pub mod Stands
+pub mod Segments
+pub mod Reading

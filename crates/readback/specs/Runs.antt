@@ -1,0 +1,76 @@
+-- An object written whole: begin, an add for each segment, finish, by the definitions that the writer's contracts cite
+-- (document 01, "Writing a route").
+use Prim.Native.Nat.{ℕ, _+_}
+use mathlib.Core.Path.{_≡_}
+use mathlib.Core.Bool.{Bool, true}
+use mathlib.Core.List.{List, [], _∷_, _++_}
+use lib.ListN.{length, take}
+use Rattle.answers.specs.Verdicts.{kept}
+use Rattle.session.specs.declared.Limit.the-variants.{Free}
+use Rattle.session.specs.declared.Session.{Session}
+use Rattle.subobject.specs.declared.segment.Segment.{Segment}
+use Rattle.subobject.specs.Segments.{subobjectOf}
+use Rattle.layout.specs.Held.{Held}
+use Rattle.writer.specs.declared.state.Writer.{Writer}
+use Rattle.writer.specs.declared.state.Written.{Written}
+use Rattle.writer.specs.Writing.{headerLength, headerOf, beginAnswer, beginBuffer, addAnswer, addBuffer, finishAnswer, finishBuffer}
+
+-- calls, one after the other -----------------------------------------------------------------------------------
+
+-- What calls answered in the end, and the lent buffer after them.
+pub record Run : Type 0 where
+  pub written : Written
+  pub buffer : List ℕ
+
+-- The next call gets the state and the buffer that the last one left; a refusal ends the run.
+abbrev pub onward : Run → (List ℕ → Writer → Run) → Run
+onward r next = kept (r .written .verdict .number) r (next (r .buffer) (r .written .writer))
+
+abbrev pub beginRun : List ℕ → Writer → Bool → Run
+beginRun b w ero = record { written = beginAnswer b w ero; buffer = beginBuffer b w ero }
+
+abbrev pub addRun : List ℕ → Writer → Segment → Run
+addRun b w g = record { written = addAnswer b w g; buffer = addBuffer b w g }
+
+abbrev pub finishRun : List ℕ → Writer → Run
+finishRun b w = record { written = finishAnswer b w; buffer = finishBuffer b w }
+
+-- An add for each segment, then finish.
+unfoldable pub addsRun : List Segment → List ℕ → Writer → Run
+addsRun [] b w = finishRun b w
+addsRun (g ∷ gs) b w = onward (addRun b w g) (addsRun gs)
+
+-- Begin in any buffer with any state, an add for each segment, then finish.
+unfoldable pub writeRun : Bool → List Segment → List ℕ → Writer → Run
+writeRun ero gs b w = onward (beginRun b w ero) (addsRun gs)
+
+-- Every call accepted.
+abbrev pub Accepted : Run → Type 0
+Accepted r = r .written .verdict .number ≡ 0
+
+-- The finished object: the first octets of the buffer, up to the place.
+abbrev pub objectIn : Run → List ℕ
+objectIn r = take (r .written .writer .at) (r .buffer)
+
+-- what stands in it --------------------------------------------------------------------------------------------
+
+-- The octets of segments, one behind the other, and the object that holds them.
+abbrev pub bodyOf : List Segment → List ℕ
+bodyOf [] = []
+bodyOf (g ∷ gs) = subobjectOf g ++ bodyOf gs
+
+unfoldable pub objectOf : Bool → List Segment → List ℕ
+objectOf ero gs = headerOf ero (headerLength + length (bodyOf gs)) ++ bodyOf gs
+
+-- Segments as the code holds them.
+pub data AllHeld : List Segment → Type 0 where
+  none : AllHeld []
+  more : {g : Segment} {gs : List Segment} → Held g → AllHeld gs → AllHeld (g ∷ gs)
+
+-- The session in which everything that can be written is read: SRv6 agreed, N set, no limit.
+abbrev pub openSession : Session
+openSession = record { agreed = true; n = true; limit = Free }
+
+-- The setup type of SRv6.
+abbrev pub srv6Setup : ℕ
+srv6Setup = 3
