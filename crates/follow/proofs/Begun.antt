@@ -1,0 +1,84 @@
+-- The board that a story begins with: each of its keys at one place, each version once. Assumes nothing.
+use Prim.Native.Nat.{ℕ, _≤_, _<_}
+use native.Mathlib.Omega.{arith}
+use mathlib.Core.Path.{_≡_, refl, sym, ap, _∙_}
+use mathlib.Core.Bool.{Bool, true, false, not, cond}
+use mathlib.Core.List.{List}
+use mathlib.Core.Option.{Option, none, some}
+use mathlib.Core.Logic.{_⊎_, ⊎-elim}
+use lib.Dec.{eqb}
+use borrow.Author.Tests.{eq-eqb, ne-eqb, lt-ltb, le-ltb}
+use Rattle.table.specs.declared.board.Board.{Board}
+use Rattle.table.specs.Sizes.{places}
+use Rattle.table.specs.Table.{keyAt, versionAt, lengthAt, Used}
+use Rattle.table.specs.Search.{placeOf, KeyPlace}
+use Rattle.table.specs.Proper.{Proper}
+use Rattle.table.proofs.Logic.{same?, from?}
+use Rattle.table.proofs.Search.{key-place-is, key-place-found}
+use Rattle.table.proofs.Proper.{proper-sound}
+use Rattle.board.specs.Rules.{hasPath}
+use Rattle.board.specs.Body.{octetsAt}
+use Rattle.follow.specs.Story.{begun, held, last}
+
+-- the octets at a place, or none where it is a removal
+abbrev pub octets : Board → List ℕ → ℕ → Option (List ℕ)
+octets b store i = cond (eqb (lengthAt b i) 0) none (some (octetsAt b store i))
+
+pub octets-mark : (b : Board) (store : List ℕ) (i : ℕ) → lengthAt b i ≡ 0 → octets b store i ≡ none
+octets-mark b store i e = rw (eq-eqb (lengthAt b i) 0 e)
+
+pub octets-path : (b : Board) (store : List ℕ) (i : ℕ) → (lengthAt b i ≡ 0 → ⊥) → octets b store i ≡ some (octetsAt b store i)
+octets-path b store i n = rw (ne-eqb (lengthAt b i) 0 n)
+
+module _ (b : Board) (store : List ℕ) (p : Proper b) (k : ℕ) where
+  -- a key has a place, or none
+  last-at : placeOf b k < places → last (begun b store p) k ≡ versionAt b (placeOf b k)
+  unfolding last
+  last-at l = rw (lt-ltb (placeOf b k) places l)
+
+  last-none : places ≤ placeOf b k → last (begun b store p) k ≡ 0
+  unfolding last
+  last-none l = rw (le-ltb (placeOf b k) places l)
+
+  held-at : placeOf b k < places → held (begun b store p) k ≡ octets b store (placeOf b k)
+  unfolding held hasPath
+  held-at l = rw (lt-ltb (placeOf b k) places l) (go (eqb (lengthAt b (placeOf b k)) 0))
+    where
+      go : (x : Bool) → cond (not x) (some (octetsAt b store (placeOf b k))) none ≡ cond x none (some (octetsAt b store (placeOf b k)))
+      go true = refl
+      go false = refl
+
+  held-none : places ≤ placeOf b k → held (begun b store p) k ≡ none
+  unfolding held hasPath
+  held-none l = rw (le-ltb (placeOf b k) places l)
+
+  pub begun-le : last (begun b store p) k ≤ b .version
+  begun-le = ⊎-elim (λ l. omega (arith, last-none l)) (λ l. omega (arith, last-at l, proper-sound b p (placeOf b k) l .high)) (from? places (placeOf b k))
+
+  pub begun-none : last (begun b store p) k ≤ 0 → held (begun b store p) k ≡ none
+  begun-none z = ⊎-elim held-none here (from? places (placeOf b k))
+    where
+      here : placeOf b k < places → held (begun b store p) k ≡ none
+      here l =
+          let s = proper-sound b p (placeOf b k) l in
+          ⊎-elim (λ e. held-at l ∙ octets-mark b store (placeOf b k) (s .none e .1)) (λ u. absurd (omega (arith, last-at l, s .low u))) (same? (keyAt b (placeOf b k)) 0)
+
+  pub begun-there : 0 < last (begun b store p) k → KeyPlace b k (placeOf b k) × Used b (placeOf b k) × (last (begun b store p) k ≡ versionAt b (placeOf b k))
+  begun-there v = ⊎-elim (λ l. absurd (omega (arith, last-none l))) (λ l. (key-place-is b k l, (λ e. omega (arith, last-at l, proper-sound b p (placeOf b k) l .none e .0)), last-at l)) (from? places (placeOf b k))
+
+module _ (b : Board) (store : List ℕ) (p : Proper b) where
+  pub begun-one : (j k : ℕ) → last (begun b store p) j ≡ last (begun b store p) k → 0 < last (begun b store p) j → j ≡ k
+  begun-one j k e v =
+      let x = begun-there b store p j v in
+      let y = begun-there b store p k (omega arith) in
+      let z : placeOf b j ≡ placeOf b k = p .versions-distinct (placeOf b j) (placeOf b k) (x .0 .here) (y .0 .here) (x .1) (sym (x .2) ∙ e ∙ y .2) in
+      sym (x .0 .key) ∙ ap (keyAt b) z ∙ y .0 .key
+
+  pub begun-zero : last (begun b store p) 0 ≡ 0
+  begun-zero = ⊎-elim (last-none b store p 0) (λ l. last-at b store p 0 l ∙ proper-sound b p (placeOf b 0) l .none (key-place-is b 0 l .key) .0) (from? places (placeOf b 0))
+
+  pub begun-here : (i : ℕ) → i < places → Used b i → (last (begun b store p) (keyAt b i) ≡ versionAt b i) × (held (begun b store p) (keyAt b i) ≡ octets b store i)
+  begun-here i l u =
+      let e : placeOf b (keyAt b i) ≡ i = key-place-found b p (keyAt b i) i u (record { here = l; key = refl }) in
+      let m : placeOf b (keyAt b i) < places = omega arith in
+      (last-at b store p (keyAt b i) m ∙ ap (versionAt b) e, held-at b store p (keyAt b i) m ∙ ap (octets b store) e)

@@ -1,0 +1,87 @@
+-- The body call hands out what the story says is held. Assumes nothing.
+use Prim.Native.Nat.{ℕ, _≤_, _<_}
+use native.Mathlib.Omega.{arith}
+use mathlib.Core.Path.{_≡_, sym, ap, _∙_}
+use mathlib.Core.Bool.{true, false, not, _&&_}
+use mathlib.Core.List.{List}
+use mathlib.Core.Option.{none, some}
+use mathlib.Core.Logic.{_⊎_, ⊎-elim}
+use lib.Dec.{eqb, ltb}
+use borrow.Author.Tests.{eq-eqb, ne-eqb, lt-ltb, le-ltb, le-leb}
+use Rattle.answers.specs.Verdicts.{acceptedWith}
+use Rattle.table.specs.declared.board.Board.{Board}
+use Rattle.table.specs.Sizes.{places, keyLeast, keyMost}
+use Rattle.table.specs.Table.{keyAt, lengthAt, Used}
+use Rattle.table.specs.Search.{placeOf}
+use Rattle.table.proofs.Logic.{from?}
+use Rattle.table.proofs.Search.{key-place-is, key-place-found}
+use Rattle.board.specs.Rules.{inRange, hasPath}
+use Rattle.board.specs.Body.{bodyRules, bodyNumber, octetsAt}
+use Rattle.board.specs.Body as bodies
+use Rattle.follow.specs.Story.{Body, Story, held, last}
+use Rattle.follow.specs.Run.{World, start, run}
+use Rattle.follow.specs.Promise.{BodyGiven, BodiesAreThoseHeld}
+use Rattle.follow.proofs.Cases.{some≢none, some-one}
+use Rattle.follow.proofs.Clean.{proper-of}
+use Rattle.follow.proofs.Begun.{octets, octets-mark, octets-path}
+use Rattle.follow.proofs.Keeps.{none-yet}
+use Rattle.follow.proofs.Table.{Stands, octets-none}
+use Rattle.follow.proofs.Theorem.{Good, is-board, good-run, good-start}
+
+-- a key that is held has a place of its own, with that body
+record Kept (b : Board) (store : List ℕ) (k : ℕ) (body : Body) : Type 0 where
+  place : placeOf b k < places
+  low : keyLeast ≤ k
+  high : k ≤ keyMost
+  long : lengthAt b (placeOf b k) ≡ 0 → ⊥
+  octets-are : octetsAt b store (placeOf b k) ≡ body
+
+kept-at : (b : Board) (store : List ℕ) (h : Story) (k : ℕ) (body : Body) → Stands b store h → held h k ≡ some body → Kept b store k body
+kept-at b store h k body r e = ⊎-elim there (λ y. absurd (some≢none body (sym e ∙ y .0))) (r .there k changed)
+  where
+    changed : 0 < last h k
+    changed = ⊎-elim (λ l. absurd (some≢none body (sym e ∙ none-yet h k l))) (λ l. l) (from? (last h k) 0)
+
+    there : (i : ℕ) × (i < places) × (keyAt b i ≡ k) → Kept b store k body
+    there y =
+        let u : Used b (y .0) = λ z. omega (arith, changed, r .zero-not, ap (last h) (sym (y .2) ∙ z)) in
+        let q : placeOf b k ≡ y .0 = key-place-found b (proper-of b (r .clean)) k (y .0) (λ z. u (y .2 ∙ z)) (record { here = y .1; key = y .2 }) in
+        let o : octets b store (y .0) ≡ some body = sym (r .here (y .0) (y .1) u .1) ∙ ap (held h) (y .2) ∙ e in
+        let n : lengthAt b (y .0) ≡ 0 → ⊥ = λ z. some≢none body (sym o ∙ octets-mark b store (y .0) z) in
+        record {
+          place = omega (arith, y .1);
+          low = omega (arith, u, y .2);
+          high = omega (arith, r .clean .sound-at (y .0) (y .1) .key, y .2);
+          long = λ z. n (ap (lengthAt b) (sym q) ∙ z);
+          octets-are = ap (octetsAt b store) q ∙ some-one (octetsAt b store (y .0)) body (sym (octets-path b store (y .0) n) ∙ o);
+        }
+
+-- a key that is not held has no place, or that of a removal
+no-path : (b : Board) (store : List ℕ) (h : Story) (k : ℕ) → Stands b store h → keyLeast ≤ k → held h k ≡ none → hasPath b k ≡ false
+unfolding hasPath
+no-path b store h k r low e = ⊎-elim (λ l. rw (le-ltb (placeOf b k) places l)) at-place (from? places (placeOf b k))
+  where
+    at-place : placeOf b k < places → ltb (placeOf b k) places && not (eqb (lengthAt b (placeOf b k)) 0) ≡ false
+    at-place l =
+        let y = key-place-is b k l in
+        let g = r .here (placeOf b k) l (λ z. omega (arith, y .key)) in
+        let n : lengthAt b (placeOf b k) ≡ 0 = octets-none b store (placeOf b k) (sym (g .1) ∙ ap (held h) (y .key) ∙ e) in
+        rw (lt-ltb (placeOf b k) places l, eq-eqb (lengthAt b (placeOf b k)) 0 n)
+
+range-is : (k : ℕ) → keyLeast ≤ k → k ≤ keyMost → inRange k ≡ true
+unfolding inRange
+range-is k l m = rw (le-leb keyLeast k l, le-leb k keyMost m)
+
+body-given : (x : World) → Good x → (k : ℕ) → BodyGiven x k
+unfolding bodyNumber bodyRules hasPath bodies.bodyOf
+body-given x g k = record {
+  path = λ body e.
+      let y = kept-at (x .board) (x .store) (x .story) k body (g .table) e in
+      let n : bodyNumber (x .board) (x .store) k ≡ acceptedWith 0 =
+      rw (is-board x g 0, range-is k (y .low) (y .high), lt-ltb (placeOf (x .board) k) places (y .place), ne-eqb (lengthAt (x .board) (placeOf (x .board) k)) 0 (y .long)) in
+      (n, rw n (y .octets-are));
+  no-path = λ e l m. rw (is-board x g 0, range-is k l m, no-path (x .board) (x .store) (x .story) k (g .table) l e);
+}
+
+pub bodies-are-those-held : BodiesAreThoseHeld
+bodies-are-those-held b store g acts k = body-given (run (start b store (g .proper)) acts) (good-run (start b store (g .proper)) acts (good-start b store g)) k

@@ -1,0 +1,41 @@
+-- Cases of tests and of optional bodies. Assumes nothing.
+use Prim.Native.Nat.{ℕ}
+use native.Mathlib.Omega.{arith}
+use mathlib.Core.Path.{_≡_, refl, sym}
+use mathlib.Core.Bool.{Bool, true, false, cond, _||_}
+use mathlib.Core.Option.{Option, none, some}
+use mathlib.Core.Logic.{_⊎_, inl, inr}
+use Rattle.table.proofs.Logic.{true≢false}
+use Rattle.follow.specs.Story.{Body}
+use Rattle.follow.specs.Floor.{isSome}
+
+pub some≢none : (x : Body) → some x ≡ none → ⊥
+some≢none x q = let z : _≡_ {A = ℕ} 0 1 = cc in omega arith
+
+pub some-one : (x y : Body) → some x ≡ some y → x ≡ y
+some-one x y q = cc
+
+pub none-of : (o : Option Body) → isSome o ≡ false → o ≡ none
+none-of none e = refl
+none-of (some x) e = absurd (true≢false e)
+
+pub or-cases : (x y : Bool) → x || y ≡ true → (x ≡ true) ⊎ (y ≡ true)
+or-cases true y e = inl refl
+or-cases false y e = inr e
+
+pub not-true-is-false : (x : Bool) → (x ≡ true → ⊥) → x ≡ false
+not-true-is-false true f = absurd (f refl)
+not-true-is-false false f = refl
+
+-- a test, its two cases
+pub cases : {A : Type 0} (P : A → Type 0) (t : Bool) (a b : A) → (t ≡ true → P a) → (t ≡ false → P b) → P (cond t a b)
+cases P true a b f g = f refl
+cases P false a b f g = g refl
+
+pub cond-yes : {A : Type 0} (t : Bool) (a b : A) → t ≡ true → cond t a b ≡ a
+cond-yes true a b e = refl
+cond-yes false a b e = absurd (true≢false (sym e))
+
+pub cond-no : {A : Type 0} (t : Bool) (a b : A) → t ≡ false → cond t a b ≡ b
+cond-no true a b e = absurd (true≢false e)
+cond-no false a b e = refl

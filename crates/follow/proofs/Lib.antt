@@ -1,0 +1,14 @@
+pub mod Cases
+pub mod Clean
+pub mod Begun
+pub mod Keeps
+pub mod Table
+pub mod Changed
+pub mod Steps
+pub mod Compacts
+pub mod Counts
+pub mod Floors
+pub mod Accepted
+pub mod Owed
+pub mod Theorem
+pub mod Bodies

@@ -1,0 +1,145 @@
+-- An accepted report or removal keeps the table in step with the story. Assumes nothing.
+use Prim.Native.Nat.{ℕ, _+_, _*_, _≤_, _<_, _%_}
+use native.Mathlib.Omega.{arith}
+use mathlib.Core.Path.{_≡_, refl, sym, _∙_}
+use mathlib.Core.List.{List}
+use mathlib.Core.Option.{some}
+use mathlib.Core.Logic.{_⊎_, inl, inr, ⊎-elim}
+use lib.ListN.{length}
+use lib.Seq.{getD-set-same, getD-set-other}
+use borrow.Author.Tests.{ne-eqb}
+use Rattle.octets.specs.Octets.{placed}
+use Rattle.octets.proofs.Laws.{length-placed, part-placed-same, part-placed-other}
+use Rattle.table.specs.declared.board.Board.{Board}
+use Rattle.table.specs.Sizes.{places, room, keyLeast, keyMost, versionMost, unit, bodyLeast}
+use Rattle.table.specs.Table.{versionAt, lengthAt, changed}
+use Rattle.table.specs.Search.{ReportPlace, keeps, takes, drops, targetOf, floorAfter, placeOf}
+use Rattle.table.proofs.Logic.{from?}
+use Rattle.table.proofs.Search.{report-place-is, floor-keeps, floor-takes, floor-drops, key-place-is}
+use Rattle.board.specs.Body.{octetsAt}
+use Rattle.board.specs.Remove.{removed}
+use Rattle.follow.specs.Story.{put, gone, Story, did}
+use Rattle.follow.proofs.Begun.{octets}
+use Rattle.follow.proofs.Table.{Stands}
+use Rattle.follow.proofs.Changed.{Fits, stands-changed}
+
+apart : (i j : ℕ) → (i ≡ j → ⊥) → (i < j) ⊎ (j < i)
+apart i j d = ⊎-elim (λ l. inl (omega (arith, d))) (λ l. inr l) (from? i j)
+
+-- ---- a report
+
+module _ (b : Board) (st : List ℕ) (h : Story) (k : ℕ) (src : List ℕ) (r : Stands b st h)
+    (k-low : keyLeast ≤ k) (k-high : k ≤ keyMost) (size-low : bodyLeast ≤ length src) (size-high : length src ≤ room) (size-four : length src % unit ≡ 0)
+    (next : b .version < versionMost) where
+  module _ (i : ℕ) (l : i < places) (f : ℕ) where
+    fits-in : room * i + length src ≤ length st
+    fits-in = omega (arith, r .enough)
+
+    body-new : octets (changed b i k (length src) f) (placed st (room * i) src) i ≡ some src
+    unfolding octetsAt
+    body-new =
+        rw (getD-set-same (b .lengths) i (length src) 0 (omega (arith, r .sized .lengths)), ne-eqb (length src) 0 (λ z. omega arith), part-placed-same st (room * i) src fits-in)
+
+    others-stay : (j : ℕ) → j < places → (i ≡ j → ⊥) → octets (changed b i k (length src) f) (placed st (room * i) src) j ≡ octets b st j
+    unfolding octetsAt
+    others-stay j m d =
+        let o = r .clean .sound-at j m .most in
+        rw (
+          getD-set-other (b .lengths) i j (length src) 0 (λ e. d (sym e)),
+          part-placed-other st (room * i) src (room * j) (lengthAt b j) fits-in (omega (arith, r .enough)) (⊎-elim (λ q. inr (omega arith)) (λ q. inl (omega arith)) (apart i j d)),
+        )
+
+  report-fits : (i : ℕ) → i < places → ReportPlace b k i → Fits b st (placed st (room * i) src) (put k src) i (length src) (floorAfter b k i)
+  report-fits i l (keeps y) =
+      let f = floor-keeps b k i (y .key) in
+      record {
+        place = l;
+        low = k-low;
+        high = k-high;
+        most = size-high;
+        least = λ z. size-low;
+        four = size-four;
+        next = next;
+        alone = λ j m d q. d (r .clean .one-key i j l m (λ z. omega (arith, y .key)) (y .key ∙ sym q));
+        rises = omega arith;
+        floor-in = omega (arith, r .clean .floor-in);
+        marks = λ j m d u z. omega (arith, r .clean .sound-at j m .mark u z);
+        dropped = λ u z. absurd (z (y .key));
+        body = body-new i l (floorAfter b k i);
+        store = length-placed st (room * i) src (fits-in i l 0);
+        others = others-stay i l (floorAfter b k i);
+      }
+  report-fits i l (takes n y) =
+      let f = floor-takes b k i (y .empty) in
+      record {
+        place = l;
+        low = k-low;
+        high = k-high;
+        most = size-high;
+        least = λ z. size-low;
+        four = size-four;
+        next = next;
+        alone = λ j m d q. n j m q;
+        rises = omega arith;
+        floor-in = omega (arith, r .clean .floor-in);
+        marks = λ j m d u z. omega (arith, r .clean .sound-at j m .mark u z);
+        dropped = λ u z. absurd (u (y .empty));
+        body = body-new i l (floorAfter b k i);
+        store = length-placed st (room * i) src (fits-in i l 0);
+        others = others-stay i l (floorAfter b k i);
+      }
+  report-fits i l (drops n z y) =
+      let f = floor-drops b k i (z i l) (n i l) in
+      let o = r .clean .sound-at i l in
+      let e = y .removal .bare in
+      record {
+        place = l;
+        low = k-low;
+        high = k-high;
+        most = size-high;
+        least = λ q. size-low;
+        four = size-four;
+        next = next;
+        alone = λ j m d q. n j m q;
+        rises = omega (arith, o .mark (z i l) e);
+        floor-in = omega (arith, o .high);
+        marks = λ j m d u q.
+            let v : versionAt b i ≡ versionAt b j → ⊥ = λ p. d (r .clean .one-version i j l m (z i l) u p) in
+            omega (arith, y .oldest j m (record { used = u; bare = q }));
+        dropped = λ u q. (e, omega arith);
+        body = body-new i l (floorAfter b k i);
+        store = length-placed st (room * i) src (fits-in i l 0);
+        others = others-stay i l (floorAfter b k i);
+      }
+
+  pub stands-report : targetOf b k < places → Stands (changed b (targetOf b k) k (length src) (floorAfter b k (targetOf b k))) (placed st (room * targetOf b k) src) (did (put k src) h)
+  stands-report l = stands-changed b st (placed st (room * targetOf b k) src) h (put k src) (targetOf b k) (length src) (floorAfter b k (targetOf b k)) r (report-fits (targetOf b k) l (report-place-is b k l))
+
+-- ---- a removal
+
+module _ (b : Board) (st : List ℕ) (h : Story) (k : ℕ) (r : Stands b st h) (l : placeOf b k < places) (k-low : keyLeast ≤ k) (k-high : k ≤ keyMost) (next : b .version < versionMost) where
+  remove-fits : Fits b st st (gone k) (placeOf b k) 0 (b .floor)
+  unfolding octetsAt
+  remove-fits =
+      let y = key-place-is b k l in
+      record {
+        place = l;
+        low = k-low;
+        high = k-high;
+        most = omega arith;
+        least = λ z. absurd (z refl);
+        four = refl;
+        next = next;
+        alone = λ j m d q. d (r .clean .one-key (placeOf b k) j l m (λ z. omega (arith, y .key)) (y .key ∙ sym q));
+        rises = omega arith;
+        floor-in = r .clean .floor-in;
+        marks = λ j m d v z. r .clean .sound-at j m .mark v z;
+        dropped = λ v z. absurd (z (y .key));
+        body = rw (getD-set-same (b .lengths) (placeOf b k) 0 0 (omega (arith, r .sized .lengths)));
+        store = refl;
+        others = λ j m d. rw (getD-set-other (b .lengths) (placeOf b k) j 0 0 (λ e. d (sym e)));
+      }
+
+  pub stands-remove : Stands (removed b k) st (did (gone k) h)
+  unfolding removed
+  stands-remove = stands-changed b st st h (gone k) (placeOf b k) 0 (b .floor) r remove-fits

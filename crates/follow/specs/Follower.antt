@@ -1,0 +1,47 @@
+-- A follower: its mark (s, w), and the paths that it holds.
+use Prim.Native.Nat.{ℕ, _≤_, _<_}
+use mathlib.Core.Path.{_≡_}
+use mathlib.Core.Bool.{cond}
+use mathlib.Core.Option.{Option, none, some}
+use lib.Dec.{eqb}
+use Rattle.table.specs.declared.board.Board.{Board}
+use Rattle.board.specs.Next.{freshMark}
+use Rattle.follow.specs.Story.{Body, Change, put, gone, Story, held, last}
+
+pub record Follower : Type 0 where
+  pub s : ℕ
+  pub w : ℕ
+  pub holds : ℕ → Option Body
+
+-- ---- what it does
+
+-- "A fresh mark is the board's version for s and 0 for w, with the follower empty."
+abbrev pub fresh : Board → Follower
+fresh b = record { s = freshMark b .s; w = freshMark b .w; holds = λ k. none }
+
+-- what it holds once a change is made: a report's path stands under its key; a removal leaves none there
+abbrev pub made : Change → (ℕ → Option Body) → ℕ → Option Body
+made (put k body) holds j = cond (eqb k j) (some body) (holds j)
+made (gone k) holds j = cond (eqb k j) none (holds j)
+
+-- handed a change of version v, it makes it, and "then sets w to that version"
+abbrev pub makes : Follower → Change → ℕ → Follower
+makes f c v = record { s = f .s; w = v; holds = made c (f .holds) }
+
+-- "when level it may set both to the version answered"
+abbrev pub levels : Follower → ℕ → Follower
+levels f v = record { s = v; w = v; holds = f .holds }
+
+-- ---- what it lacks
+
+-- A follower at mark (s, w) lacks the last change of key k: the change is newer than w and, where it is a removal, newer than s too.
+-- (A removal up to s is nothing to it: at version s it was fresh, and so empty, or level, and so had made it.)
+pub record Lacks (h : Story) (s w k : ℕ) : Type 0 where
+  pub newer : w < last h k
+  pub needed : held h k ≡ none → s < last h k
+
+-- The last change of key k is the oldest that it lacks, and bears the version v.
+pub record Oldest (h : Story) (s w k v : ℕ) : Type 0 where
+  pub lacked : Lacks h s w k
+  pub first : (j : ℕ) → Lacks h s w j → last h k ≤ last h j
+  pub bears : last h k ≡ v

@@ -1,0 +1,6 @@
+pub mod Story
+pub mod Floor
+pub mod Follower
+pub mod Heard
+pub mod Run
+pub mod Promise

@@ -1,0 +1,57 @@
+-- No follower is fooled.
+--
+-- A follower asks. It is refused as too old exactly if its mark lies below the floor of the story, and never with another number. Else it is
+-- handed the oldest change that it lacks, with its key, its version and its octets; or it is told that it is level, exactly if it lacks none;
+-- and told so, it holds exactly the paths last reported and not removed since, octet for octet, for every key.
+use Prim.Native.Nat.{ℕ, _≤_, _<_, max}
+use mathlib.Core.Path.{_≡_}
+use mathlib.Core.List.{List}
+use mathlib.Core.Option.{none, some}
+use mathlib.Core.Logic.{_↔_}
+use lib.ListN.{length}
+use Rattle.answers.specs.Numbers.{noPath, markTooOld}
+use Rattle.answers.specs.Verdicts.{refusedBy, acceptedWith}
+use Rattle.table.specs.declared.board.Board.{Board}
+use Rattle.table.specs.Sizes.{storeSize, keyLeast, keyMost}
+use Rattle.table.specs.Table.{Sized}
+use Rattle.table.specs.Proper.{Proper}
+use Rattle.board.specs.Body.{bodyNumber, bodyOf as bodyHanded}
+use Rattle.follow.specs.Story.{Body, Change, Story, keyOf, bodyOf, version, held}
+use Rattle.follow.specs.Floor.{floorOf}
+use Rattle.follow.specs.Follower.{Follower, Lacks, Oldest}
+use Rattle.follow.specs.Heard.{Heard, refusal, change, level}
+use Rattle.follow.specs.Run.{World, Act, start, run, answerTo}
+
+-- a follower f that hears a, where the story is h; what it hears is a refusal, a change or that it is level, so these are all cases
+pub record Answered (h : Story) (f : Follower) (a : Heard) : Type 0 where
+  -- too old exactly if the mark, the larger of s and w, lies below the floor; 23 exactly
+  pub too-old : (a ≡ refusal markTooOld) ↔ (max (f .s) (f .w) < floorOf h)
+  -- no refusal has another number
+  pub no-other : (n : ℕ) → a ≡ refusal n → n ≡ markTooOld
+  -- a change handed out is the oldest that it lacks, with that change's key, version and octets
+  pub handed : (c : Change) (v : ℕ) → a ≡ change c v → Oldest h (f .s) (f .w) (keyOf c) v × (bodyOf c ≡ held h (keyOf c))
+  -- level exactly if it is not too old and lacks none, with the story's version
+  pub level-if : (v : ℕ) → (a ≡ level v) ↔ ((v ≡ version h) × (floorOf h ≤ max (f .s) (f .w)) × ((k : ℕ) → Lacks h (f .s) (f .w) k → ⊥))
+  -- and told so, it holds what was last reported and not removed since, for every key
+  pub holds-all : (v : ℕ) → a ≡ level v → (k : ℕ) → f .holds k ≡ held h k
+
+-- a board and a store to begin with: the arrays whole, the record proper, the store long enough
+pub record Whole (b : Board) (store : List ℕ) : Type 0 where
+  pub sized : Sized b
+  pub proper : Proper b
+  pub enough : storeSize ≤ length store
+
+-- After any acts of anyone, each follower that asks is so answered.
+abbrev pub NoFollowerIsFooled : Type 0
+NoFollowerIsFooled = (b : Board) (store : List ℕ) (g : Whole b store) (acts : List Act) (n : ℕ) →
+    let x = run (start b store (g .proper)) acts in Answered (x .story) (x .followers n) (answerTo x n)
+
+-- ---- beside it: whoever asks the board itself
+
+-- the body call answers as the story does: a key that is held gives its path, another key in range gives 22
+pub record BodyGiven (x : World) (k : ℕ) : Type 0 where
+  pub path : (body : Body) → held (x .story) k ≡ some body → (bodyNumber (x .board) (x .store) k ≡ acceptedWith 0) × (bodyHanded (x .board) (x .store) k ≡ body)
+  pub no-path : held (x .story) k ≡ none → keyLeast ≤ k → k ≤ keyMost → bodyNumber (x .board) (x .store) k ≡ refusedBy noPath 0
+
+abbrev pub BodiesAreThoseHeld : Type 0
+BodiesAreThoseHeld = (b : Board) (store : List ℕ) (g : Whole b store) (acts : List Act) (k : ℕ) → BodyGiven (run (start b store (g .proper)) acts) k
