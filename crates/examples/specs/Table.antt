@@ -1,0 +1,78 @@
+-- P1 to P10 (document 01, "Examples on either side").
+use Prim.Native.Nat.{ℕ}
+use mathlib.Core.Bool.{true, false}
+use mathlib.Core.List.{List, [], _∷_, _++_}
+use lib.ListN.{set}
+use Rattle.answers.specs.declared.verdict.Verdict.{Verdict}
+use Rattle.answers.specs.Numbers.{wrongMsd, lengthWrong, nothingThere, structureTooLong, notAgreed}
+use Rattle.answers.specs.Verdicts.{refusedBy, acceptedWith}
+use Rattle.session.specs.declared.Limit.the-variants.{Free, Most}
+use Rattle.session.specs.declared.Opened.{Opened}
+use Rattle.session.specs.declared.Session.{Session}
+use Rattle.session.specs.Sessions.{openRefused, openCarries, sessionOf}
+use Rattle.open.specs.Open.{openOf}
+use Rattle.route.specs.Routes.{judgeOf}
+
+-- Object O.
+abbrev pub objectO : List ℕ
+objectO =
+    0x01 ∷ 0x10 ∷ 0x00 ∷ 0x20 ∷ 0x20 ∷ 0x1E ∷ 0x78 ∷ 0x07 ∷ 0x00 ∷ 0x22 ∷ 0x00 ∷ 0x12 ∷ 0x00 ∷ 0x00 ∷ 0x00 ∷ 0x01
+    ∷ 0x03 ∷ 0x00 ∷ 0x00 ∷ 0x00 ∷ 0x00 ∷ 0x1B ∷ 0x00 ∷ 0x06 ∷ 0x00 ∷ 0x00 ∷ 0x00 ∷ 0x00 ∷ 0x2C ∷ 0x04 ∷ 0x00 ∷ 0x00
+    ∷ []
+
+-- Object E.
+abbrev pub objectE : List ℕ
+objectE =
+    0x07 ∷ 0x10 ∷ 0x00 ∷ 0x1C ∷ 0x28 ∷ 0x18 ∷ 0x00 ∷ 0x02 ∷ 0x00 ∷ 0x00 ∷ 0x00 ∷ 0x01
+    ∷ 0x20 ∷ 0x01 ∷ 0x0D ∷ 0xB8 ∷ 0x00 ∷ 0x00 ∷ 0x00 ∷ 0x01 ∷ 0x00 ∷ 0x00 ∷ 0x00 ∷ 0x00 ∷ 0x00 ∷ 0x00 ∷ 0x00 ∷ 0x01
+    ∷ []
+
+-- E with a SID structure of four bit lengths: T set, both lengths 8 more.
+abbrev pub withBits : ℕ → ℕ → ℕ → ℕ → List ℕ
+withBits a b c d = set (set (set objectE 3 0x24) 5 0x20) 7 0x06 ++ a ∷ b ∷ c ∷ d ∷ 0x00 ∷ 0x00 ∷ 0x00 ∷ 0x00 ∷ []
+
+-- An OPEN object to read, or an ERO to judge with a PST, under the session of O and O.
+pub data Example : Type 0 where
+  opening : List ℕ → Example
+  route : List ℕ → ℕ → Example
+
+pub data Answer : Type 0 where
+  opened : Opened → Answer
+  judged : Verdict → Answer
+
+abbrev pub agreedO : Session
+agreedO = sessionOf (openOf objectO) (openOf objectO)
+
+abbrev pub run : Example → Answer
+run (opening s) = opened (openOf s)
+run (route s pst) = judged (judgeOf s true agreedO pst)
+
+abbrev pub examples : List Example
+examples =
+    opening objectO
+    ∷ opening (set objectO 16 0x00)
+    ∷ opening (set objectO 28 0x00)
+    ∷ route objectE 3
+    ∷ route objectE 1
+    ∷ route (set objectE 7 0x03) 3
+    ∷ route (set objectE 7 0x06) 3
+    ∷ route (withBits 40 24 16 48) 3
+    ∷ route (withBits 40 24 16 49) 3
+    ∷ route (withBits 64 64 64 64) 3
+    ∷ []
+
+-- P1: "SRv6, N 0, limit 4"; P2: "accepted without SRv6"; P3: "3"; P4: "one segment"; P5: "13"; P6: "9 at 4"; P7: "7 at 4";
+-- P8: "pass"; P9: "11"; P10: "11".
+abbrev pub answers : List Answer
+answers =
+    opened (openCarries true false (Most 4))
+    ∷ opened (openCarries false false Free)
+    ∷ opened (openRefused wrongMsd)
+    ∷ judged (acceptedWith 1)
+    ∷ judged (refusedBy notAgreed 0)
+    ∷ judged (refusedBy nothingThere 4)
+    ∷ judged (refusedBy lengthWrong 4)
+    ∷ judged (acceptedWith 1)
+    ∷ judged (refusedBy structureTooLong 4)
+    ∷ judged (refusedBy structureTooLong 4)
+    ∷ []
