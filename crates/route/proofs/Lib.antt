@@ -1,2 +1,4 @@
 pub mod Answer
 pub mod Laws
+pub mod Order
+pub mod Theorems

@@ -4,7 +4,7 @@ use Prim.Native.Nat.{ℕ, _<_}
 use mathlib.Core.Path.{_≡_}
 use mathlib.Core.List.{List}
 use mathlib.Core.Logic.{_⊎_}
-use mathlib.Core.Bool.{Bool, false}
+use mathlib.Core.Bool.{Bool, true, false}
 use lib.ListN.{getD}
 use Rattle.session.specs.declared.Session.{Session}
 use Rattle.frame.specs.Checks.{Check, check}
@@ -38,3 +38,12 @@ checkAt s ero session pst (whole k) = getD (wholeChecks ero session pst s) k (ch
 checkAt s ero session pst (inside i k) =
     getD (checksAt (brokenAt ero (session .n) s (getD (placesOf s) i 0)) (getD (placesOf s) i 0) order) k (check 0 0 false)
 checkAt s ero session pst last = getD (lastChecks ero (session .limit) (countOf s) (placesOf s)) 0 (check 0 0 false)
+
+-- A rule of this number is broken at this place, and nothing before it in document 01's order is.
+pub record FirstBroken (s : List ℕ) (ero : Bool) (session : Session) (pst number place : ℕ) : Type 0 where
+  pub stands : Where
+  pub among : Among (countOf s) stands
+  pub numbered : checkAt s ero session pst stands .number ≡ number
+  pub placed : checkAt s ero session pst stands .place ≡ place
+  pub broken : checkAt s ero session pst stands .broken ≡ true
+  pub nothing : (w : Where) → Among (countOf s) w → Before w stands → checkAt s ero session pst w .broken ≡ false

@@ -1,0 +1,131 @@
+-- Document 01's order of checks is the order of the list: a check's rank. Assumes nothing.
+use Prim.Native.Nat.{ℕ, zero, suc, _+_, _*_, _/_, _%_, _≤_, _<_}
+use mathlib.Core.Path.{_≡_, refl, sym, _∙_, ap}
+use mathlib.Core.List.{List, [], _∷_, _++_}
+use mathlib.Core.Bool.{Bool, true, false}
+use mathlib.Core.Logic.{_⊎_, inl, inr}
+use lib.Dec.{ltb, eqb}
+use lib.ListN.{length, getD}
+use native.Mathlib.Omega.{arith}
+use borrow.Author.Tests.{ltb-true, ltb-false, eqb-true, eqb-false}
+use Rattle.session.specs.declared.Session.{Session}
+use Rattle.frame.specs.Checks.{Check, check}
+use Rattle.frame.specs.Frames.{placesOf}
+use Rattle.frame.proofs.Checks.{checkOf}
+use Rattle.route.specs.Routes.{order, checksAt, subobjectChecks, brokenAt, lastChecks, checksOf, countOf}
+use Rattle.route.specs.Order.{Where, whole, inside, last, Among, Before, checkAt}
+
+-- ranks --------------------------------------------------------------------------------------------------------
+
+-- How many checks stand before this one in a route of n subobjects.
+abbrev pub rank : ℕ → Where → ℕ
+rank n (whole k) = k
+rank n (inside i k) = suc (suc (suc (suc (suc (5 * i + k)))))
+rank n last = suc (suc (suc (suc (suc (5 * n)))))
+
+pub rank-within : (n : ℕ) (w : Where) → Among n w → rank n w < 6 + 5 * n
+rank-within n (whole k) h = omega arith
+rank-within n (inside i k) h = omega (arith, h .0, h .1)
+rank-within n last h = omega arith
+
+pub before-lower : (n : ℕ) (v w : Where) → Among n v → Among n w → Before v w → rank n v < rank n w
+before-lower n (whole j) (whole k) h g b = b
+before-lower n (whole j) (inside i k) h g b = omega arith
+before-lower n (whole j) last h g b = omega arith
+before-lower n (inside i j) (whole k) h g b = absurd b
+before-lower n (inside i j) (inside l k) h g (inl a) = omega (arith, h .1)
+before-lower n (inside i j) (inside l k) h g (inr a) = omega (arith, a .0, a .1)
+before-lower n (inside i j) last h g b = omega (arith, h .0, h .1)
+before-lower n last w h g b = absurd b
+
+pub lower-before : (n : ℕ) (v w : Where) → Among n v → Among n w → rank n v < rank n w → Before v w
+lower-before n (whole j) (whole k) h g l = l
+lower-before n (whole j) (inside i k) h g l = tt
+lower-before n (whole j) last h g l = tt
+lower-before n (inside i j) (whole k) h g l = absurd (omega arith)
+lower-before n (inside i j) (inside m k) h g l = go (ltb i m) refl
+  where
+    go : (b : Bool) → ltb i m ≡ b → (i < m) ⊎ ((i ≡ m) × (j < k))
+    go true e = inl (ltb-true i m e)
+    go false e =
+        let o = ltb-false i m e in
+        let q : i ≡ m = omega (arith, h .1, g .1) in
+        inr (q, omega arith)
+lower-before n (inside i j) last h g l = tt
+lower-before n last (whole k) h g l = absurd (omega arith)
+lower-before n last (inside i k) h g l = absurd (omega (arith, g .0, g .1))
+lower-before n last last h g l = absurd (omega arith)
+
+-- Every rank is that of a check.
+pub record Standing (n r : ℕ) : Type 0 where
+  pub stands : Where
+  pub among : Among n stands
+  pub ranked : rank n stands ≡ r
+
+pub standing : (n r : ℕ) → r < 6 + 5 * n → Standing n r
+standing n zero h = record { stands = whole 0; among = omega arith; ranked = refl }
+standing n (suc zero) h = record { stands = whole 1; among = omega arith; ranked = refl }
+standing n (suc (suc zero)) h = record { stands = whole 2; among = omega arith; ranked = refl }
+standing n (suc (suc (suc zero))) h = record { stands = whole 3; among = omega arith; ranked = refl }
+standing n (suc (suc (suc (suc zero)))) h = record { stands = whole 4; among = omega arith; ranked = refl }
+standing n (suc (suc (suc (suc (suc m))))) h = go (eqb m (5 * n)) refl
+  where
+    go : (b : Bool) → eqb m (5 * n) ≡ b → Standing n (suc (suc (suc (suc (suc m)))))
+    go true e = record { stands = last; among = tt; ranked = let q = eqb-true m (5 * n) e in omega arith }
+    go false e =
+        let q = eqb-false m (5 * n) e in
+        let l : m < 5 * n = omega (arith, q) in
+        record { stands = inside (m / 5) (m % 5); among = (omega arith, omega arith); ranked = omega arith }
+
+-- the checks by rank -------------------------------------------------------------------------------------------
+
+sub-rank : (broken : ℕ → ℕ → Bool) (ps : List ℕ) (rest : List Check) (i k : ℕ) → i < length ps → k < 5
+    → checkOf (subobjectChecks broken ps ++ rest) (5 * i + k) ≡ checkOf (checksAt (broken (getD ps i 0)) (getD ps i 0) order) k
+sub-rank broken [] rest i k h l = absurd (omega arith)
+sub-rank broken (p ∷ ps) rest zero k h l =
+    let q : 5 * 0 + k ≡ k = omega arith in
+    ap (λ (x : ℕ). checkOf (subobjectChecks broken (p ∷ ps) ++ rest) x) q ∙ go k l
+  where
+    go : (k : ℕ) → k < 5 → checkOf (subobjectChecks broken (p ∷ ps) ++ rest) k ≡ checkOf (checksAt (broken p) p order) k
+    go zero l = refl
+    go (suc zero) l = refl
+    go (suc (suc zero)) l = refl
+    go (suc (suc (suc zero))) l = refl
+    go (suc (suc (suc (suc zero)))) l = refl
+    go (suc (suc (suc (suc (suc k))))) l = absurd (omega arith)
+sub-rank broken (p ∷ ps) rest (suc i) k h l =
+    let q : 5 * suc i + k ≡ suc (suc (suc (suc (suc (5 * i + k))))) = omega arith in
+    ap (λ (x : ℕ). checkOf (subobjectChecks broken (p ∷ ps) ++ rest) x) q ∙ sub-rank broken ps rest i k (omega arith) l
+
+last-rank : (broken : ℕ → ℕ → Bool) (ps : List ℕ) (c : Check) → checkOf (subobjectChecks broken ps ++ c ∷ []) (5 * length ps) ≡ c
+last-rank broken [] c = refl
+last-rank broken (p ∷ ps) c =
+    let q : 5 * suc (length ps) ≡ suc (suc (suc (suc (suc (5 * length ps))))) = omega arith in
+    ap (λ (x : ℕ). checkOf (subobjectChecks broken (p ∷ ps) ++ c ∷ []) x) q ∙ last-rank broken ps c
+
+sub-length : (broken : ℕ → ℕ → Bool) (ps : List ℕ) (c : Check) → length (subobjectChecks broken ps ++ c ∷ []) ≡ 5 * length ps + 1
+sub-length broken [] c = refl
+sub-length broken (p ∷ ps) c =
+    let q = sub-length broken ps c in
+    omega arith
+
+module _ (s : List ℕ) (ero : Bool) (session : Session) (pst : ℕ) where
+  pub checks-length : length (checksOf s ero session pst) ≡ 6 + 5 * countOf s
+  checks-length =
+      let q = sub-length (brokenAt ero (session .n) s) (placesOf s) (getD (lastChecks ero (session .limit) (countOf s) (placesOf s)) 0 (check 0 0 false)) in
+      omega arith
+
+  pub rank-check : (w : Where) → Among (countOf s) w → checkOf (checksOf s ero session pst) (rank (countOf s) w) ≡ checkAt s ero session pst w
+  rank-check (whole k) h = go k h
+    where
+      go : (k : ℕ) → k < 5 → checkOf (checksOf s ero session pst) k ≡ checkAt s ero session pst (whole k)
+      go zero l = refl
+      go (suc zero) l = refl
+      go (suc (suc zero)) l = refl
+      go (suc (suc (suc zero))) l = refl
+      go (suc (suc (suc (suc zero)))) l = refl
+      go (suc (suc (suc (suc (suc k))))) l = absurd (omega arith)
+  rank-check (inside i k) h =
+      sub-rank (brokenAt ero (session .n) s) (placesOf s) (lastChecks ero (session .limit) (countOf s) (placesOf s)) i k (h .0) (h .1)
+  rank-check last h =
+      last-rank (brokenAt ero (session .n) s) (placesOf s) (getD (lastChecks ero (session .limit) (countOf s) (placesOf s)) 0 (check 0 0 false))

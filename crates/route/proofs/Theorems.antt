@@ -1,0 +1,86 @@
+-- What a verdict means. Accepted exactly if no rule is broken; refused by n at p exactly if n is broken at p and nothing before it in
+-- document 01's order is. Assumes nothing.
+use Prim.Native.Nat.{ℕ, _+_, _*_, _<_}
+use mathlib.Core.Path.{_≡_, refl, sym, _∙_, ap}
+use mathlib.Core.List.{List}
+use mathlib.Core.Bool.{Bool, true, false}
+use lib.ListN.{length}
+use native.Mathlib.Omega.{arith}
+use Rattle.answers.specs.declared.verdict.Verdict.{Verdict}
+use Rattle.answers.specs.Verdicts.{refusedBy, acceptedWith}
+use Rattle.session.specs.declared.Session.{Session}
+use Rattle.frame.specs.Checks.{Check}
+use Rattle.frame.proofs.Checks.{checkOf, First, Found, none-all, all-none, none-first, first-answer, answer-first}
+use Rattle.route.specs.declared.picking.Picked.{Picked}
+use Rattle.route.specs.Routes.{checksOf, countOf, judgeOf, segmentOf}
+use Rattle.route.specs.Order.{Where, Among, Before, checkAt, FirstBroken}
+use Rattle.route.proofs.Answer.{accepted-none}
+use Rattle.route.proofs.Order.{rank, rank-within, before-lower, lower-before, Standing, standing, checks-length, rank-check}
+
+module _ (s : List ℕ) (ero : Bool) (session : Session) (pst : ℕ) where
+  -- Accepted: no rule is broken,
+  pub accepted-unbroken : judgeOf s ero session pst .number ≡ 0 → (w : Where) → Among (countOf s) w → checkAt s ero session pst w .broken ≡ false
+  accepted-unbroken z w a =
+      ap (λ (c : Check). c .broken) (sym (rank-check s ero session pst w a))
+      ∙ none-all (checksOf s ero session pst) (accepted-none s ero session pst z) (rank (countOf s) w)
+
+  -- and where no rule is broken, the route is accepted with the number of its subobjects.
+  pub unbroken-accepted : ((w : Where) → Among (countOf s) w → checkAt s ero session pst w .broken ≡ false)
+      → judgeOf s ero session pst ≡ acceptedWith (countOf s)
+  unfolding judgeOf
+  unbroken-accepted f =
+      none-first (checksOf s ero session pst) (acceptedWith (countOf s))
+      (all-none (checksOf s ero session pst)
+      (λ r h.
+      let t = standing (countOf s) r (omega (arith, checks-length s ero session pst)) in
+      ap (λ (x : ℕ). checkOf (checksOf s ero session pst) x .broken) (sym (t .ranked))
+      ∙ ap (λ (c : Check). c .broken) (rank-check s ero session pst (t .stands) (t .among))
+      ∙ f (t .stands) (t .among)))
+
+  -- Refused by n at p: n is broken at p, and nothing before it is,
+  pub refused-first : (n p : ℕ) → 0 < n → judgeOf s ero session pst ≡ refusedBy n p → FirstBroken s ero session pst n p
+  unfolding judgeOf
+  refused-first n p pos e =
+      let r = answer-first (checksOf s ero session pst) (acceptedWith (countOf s)) n p (λ z. omega (arith, z)) e in
+      let t = standing (countOf s) (r .rank) (omega (arith, checks-length s ero session pst, r .first .within)) in
+      let q = ap (λ (x : ℕ). checkOf (checksOf s ero session pst) x) (sym (t .ranked)) ∙ rank-check s ero session pst (t .stands) (t .among) in
+      record {
+        stands = t .stands;
+        among = t .among;
+        numbered = ap (λ (c : Check). c .number) (sym q) ∙ r .number;
+        placed = ap (λ (c : Check). c .place) (sym q) ∙ r .place;
+        broken = ap (λ (c : Check). c .broken) (sym q) ∙ r .first .here;
+        nothing =
+            λ w a b.
+            ap (λ (c : Check). c .broken) (sym (rank-check s ero session pst w a))
+            ∙ r .first .before (rank (countOf s) w) (omega (arith, before-lower (countOf s) w (t .stands) a (t .among) b, t .ranked));
+      }
+
+  -- and where n is broken at p and nothing before it is, the route is refused by n at p.
+  pub first-refused : (n p : ℕ) → FirstBroken s ero session pst n p → judgeOf s ero session pst ≡ refusedBy n p
+  unfolding judgeOf
+  first-refused n p f =
+      let q = rank-check s ero session pst (f .stands) (f .among) in
+      let a =
+      first-answer (checksOf s ero session pst) (acceptedWith (countOf s)) (rank (countOf s) (f .stands))
+      (record {
+        within = omega (arith, checks-length s ero session pst, rank-within (countOf s) (f .stands) (f .among));
+        here = ap (λ (c : Check). c .broken) q ∙ f .broken;
+        before =
+            λ j h.
+            let t = standing (countOf s) j (omega (arith, rank-within (countOf s) (f .stands) (f .among))) in
+            ap (λ (x : ℕ). checkOf (checksOf s ero session pst) x .broken) (sym (t .ranked))
+            ∙ ap (λ (c : Check). c .broken) (rank-check s ero session pst (t .stands) (t .among))
+            ∙ f .nothing (t .stands) (t .among)
+            (lower-before (countOf s) (t .stands) (f .stands) (t .among) (f .among) (omega (arith, t .ranked)));
+      }) in
+      a ∙ (λ i. refusedBy ((ap (λ (c : Check). c .number) q ∙ f .numbered) i) ((ap (λ (c : Check). c .place) q ∙ f .placed) i))
+
+-- Of any two answers that fit, both are the same.
+pub judge-determined : (s : List ℕ) (ero : Bool) (session : Session) (pst : ℕ) (a b : Verdict) → a ≡ judgeOf s ero session pst
+    → b ≡ judgeOf s ero session pst → a ≡ b
+judge-determined s ero session pst a b e f = e ∙ sym f
+
+pub segment-determined : (s : List ℕ) (ero : Bool) (session : Session) (pst i : ℕ) (a b : Picked) → a ≡ segmentOf s ero session pst i
+    → b ≡ segmentOf s ero session pst i → a ≡ b
+segment-determined s ero session pst i a b e f = e ∙ sym f
