@@ -5,15 +5,22 @@ use native.Mathlib.Numerals.{add-one, add-two}
 use native.Mathlib.Omega.{arith}
 use mathlib.Core.Path.{_≡_, refl, sym, _∙_, ap}
 use mathlib.Core.List.{List, [], _∷_}
-use mathlib.Core.Bool.{Bool, true, false, not, _||_}
+use mathlib.Core.Bool.{Bool, true, false, not, _&&_, _||_}
 use lib.ListN.{length, getD, take, drop, length-drop, drop-of-length-le}
 use lib.Seq.{drop-cons}
-use borrow.Author.Tests.{eq-eqb, ne-eqb}
+use lib.Dec.{leb}
+use borrow.Author.Tests.{eq-eqb, ne-eqb, leb-true}
 use Rattle.session.specs.declared.Limit.{Limit}
 use Rattle.session.specs.declared.Limit.the-variants.{Free, Most}
 use Rattle.octets.specs.Octets.{part}
 use Rattle.capability.specs.SetupTypes.{srv6, countOf, hasOf, listsSrv6}
 use Rattle.capability.specs.Msd.{Pair, pairsIn, wrongIn, knownMsd, leastOf, limitIn}
+
+-- tests --------------------------------------------------------------------------------------------------------
+
+pub and-leb : (a : Bool) (x y : ℕ) → (a && leb x y) ≡ true → x ≤ y
+and-leb true x y e = leb-true x y e
+and-leb false x y e = leb-true x y (cc)
 
 -- setup types --------------------------------------------------------------------------------------------------
 

@@ -2,8 +2,8 @@
 use Prim.Native.Nat.{ℕ, _+_, _-_, _≤_}
 use mathlib.Core.Path.{_≡_}
 use mathlib.Core.List.{List}
-use mathlib.Core.Bool.{Bool, cond, _&&_}
-use lib.Dec.{ltb, leb}
+use mathlib.Core.Bool.{Bool, cond}
+use lib.Dec.{ltb}
 use Rattle.octets.specs.Octets.{be16, pad4}
 use Rattle.items.specs.Tlvs.{head}
 use Rattle.items.specs.declared.Item.{Item}
@@ -13,11 +13,10 @@ use Rattle.items.specs.declared.Item.the-variants.{Whole, Broken}
 unfoldable pub itemAt : List ℕ → ℕ → ℕ → Bool → Item
 itemAt s at end short =
     cond (ltb (end - at) head) Broken
-    (cond (leb (head + pad4 (be16 s (at + 2))) (end - at))
-    (Whole (be16 s at) (at + head) (be16 s (at + 2)) (at + (head + pad4 (be16 s (at + 2)))))
-    (cond (short && leb (head + be16 s (at + 2)) (end - at)) (Whole (be16 s at) (at + head) (be16 s (at + 2)) end) Broken))
+    (cond (ltb (end - at) (head + cond short (be16 s (at + 2)) (pad4 (be16 s (at + 2))))) Broken
+    (Whole (be16 s at) (at + head) (be16 s (at + 2)) (at + head + pad4 (be16 s (at + 2)))))
 
--- An item lies before the end, and takes at least its head.
+-- A value lies before the end, and the next item behind its head.
 abbrev pub Within : ℕ → ℕ → Item → Type 0
-Within at end (Whole kind from len next) = (from ≡ at + head) × (at + head ≤ next) × (next ≤ end) × (from + len ≤ end)
+Within at end (Whole kind from len next) = (from ≡ at + head) × (at + head ≤ next) × (from + len ≤ end)
 Within at end Broken = Unit

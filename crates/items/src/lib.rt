@@ -4,7 +4,8 @@
 // A sub-TLV is laid out as a TLV is; only the padding of the last sub-TLV may be missing or cut.
 // What is too short for that is no TLV: Broken.
 ghost use mathlib.Core.Path.{_≡_};
-ghost use Prim.Native.Nat.{_≤_};
+ghost use mathlib.Core.Bool.{cond};
+ghost use Prim.Native.Nat.{_≤_, _<_};
 ghost use lib.ListN.{length};
 ghost use Rattle.items.specs.Places.{itemAt, Within};
 
@@ -22,9 +23,17 @@ pub enum Item {
     Broken,
 }
 
+// How much of a value and its padding must be there.
+fn needed(short: bool, len: usize, padded: usize) -> usize
+    requires { ⌜ len ≤ padded ⌝ }
+    ensures needed { λ r. ⌜ (r ≡ cond short len padded) × (len ≤ r) × (r ≤ padded) ⌝ }
+{
+    if short { len } else { padded }
+}
+
 // The TLV at `at` of those that end at `end`. With `short` its padding may be missing or cut at the end.
 pub fn item_at(s: &[u8], at: usize, end: usize, short: bool) -> Item
-    requires { ⌜ (at ≤ end) × (end ≤ length (now s)) ⌝ }
+    requires { ⌜ (at ≤ end) × (end ≤ length (now s)) × (end < 65536) ⌝ }
     ensures exact { λ r. ⌜ r ≡ itemAt (now (s .entry)) at end short ⌝ }
     ensures within { λ r. ⌜ Within at end r ⌝ }
 {
@@ -34,24 +43,15 @@ pub fn item_at(s: &[u8], at: usize, end: usize, short: bool) -> Item
     }
     let kind = octets::read16(s, at);
     let len = octets::read16(s, at + 2);
-    let from = at + HEAD;
-    let full = HEAD + octets::padded(len);
-    if full <= room {
-        return Item::Whole {
-            kind,
-            from,
-            len,
-            next: at + full,
-        };
+    let padded = octets::padded(len);
+    if room < HEAD + needed(short, len, padded) {
+        return Item::Broken;
     }
-    if octets::both(short, HEAD + len <= room) {
-        Item::Whole {
-            kind,
-            from,
-            len,
-            next: end,
-        }
-    } else {
-        Item::Broken
+    let from = at + HEAD;
+    Item::Whole {
+        kind,
+        from,
+        len,
+        next: from + padded,
     }
 }

@@ -21,9 +21,8 @@ use Rattle.items.proofs.Laws.{drop-part, items-end, items-turn}
 use Rattle.capability.specs.SetupTypes.{pathSetup, listSize, holdsList, subsOf, listsSrv6}
 use Rattle.capability.specs.Srv6.{srv6Capability, sizedOf, wrongOf, announcedOf}
 use Rattle.open.specs.declared.walk.Place.{Place}
-use Rattle.open.specs.declared.walk.Place.the-variants.{Missing, At}
 use Rattle.open.specs.Open.{absent, headed, measured, sizeOf, framed, openTlvs, setupOf, srv6Of, listed, fitting, holding, sized, breaks1, breaks2, breaks3, carriesOf, openOf}
-use Rattle.open.specs.Walk.{Sight, torn, seen, missingOf, keepOf, valueAt, Inside, orElse, insideOf, levelOf, onward, walkOf, carriedBy}
+use Rattle.open.specs.Walk.{Sight, torn, seen, nowhere, missingOf, keepOf, valueAt, Inside, orElse, insideOf, levelOf, onward, walkOf, carriedBy}
 
 -- tests --------------------------------------------------------------------------------------------------------
 
@@ -39,22 +38,34 @@ and-right false false e = e
 -- places -------------------------------------------------------------------------------------------------------
 
 pub absent-missing : (s : List ℕ) (p : Place) → absent (valueAt s p) ≡ missingOf p
-absent-missing s Missing = refl
-absent-missing s (At from len) = refl
+absent-missing s p = go (missingOf p) refl
+  where
+    go : (b : Bool) → missingOf p ≡ b → absent (valueAt s p) ≡ missingOf p
+    go true e = rw e
+    go false e = rw e
 
 pub value-missing : (s : List ℕ) (p : Place) → missingOf p ≡ true → valueAt s p ≡ none
-value-missing s Missing e = refl
-value-missing s (At from len) e = cc
+value-missing s p e = rw e
 
-pub value-kept : (s : List ℕ) (p : Place) (hit : Bool) (from len : ℕ) → orElse (valueAt s p) (cond hit (some (part s from len)) none) ≡ valueAt s (keepOf p hit from len)
-value-kept s Missing true from len = refl
-value-kept s Missing false from len = refl
-value-kept s (At f n) hit from len = refl
+pub value-there : (s : List ℕ) (p : Place) → missingOf p ≡ false → valueAt s p ≡ some (part s (p .from) (p .len))
+value-there s p e = rw e
 
-pub kept-inside : (n : ℕ) (p : Place) (hit : Bool) (from len : ℕ) → Inside n p → from + len ≤ n → Inside n (keepOf p hit from len)
-kept-inside n Missing true from len i h = h
-kept-inside n Missing false from len i h = tt
-kept-inside n (At f m) hit from len i h = i
+module _ (p : Place) (hit : Bool) (from len : ℕ) where
+  pub value-kept : (s : List ℕ) → eqb from nowhere ≡ false
+      → orElse (valueAt s p) (cond hit (some (part s from len)) none) ≡ valueAt s (keepOf p hit from len)
+  value-kept s h = go (missingOf p) hit refl refl
+    where
+      go : (b c : Bool) → missingOf p ≡ b → hit ≡ c → orElse (valueAt s p) (cond hit (some (part s from len)) none) ≡ valueAt s (keepOf p hit from len)
+      go true true e f = rw (e, f, h)
+      go true false e f = rw (e, f, e)
+      go false c e f = rw (e, e)
+
+  pub kept-inside : (n : ℕ) → Inside n p → from + len ≤ n → Inside n (keepOf p hit from len)
+  kept-inside n i h = go (missingOf p && hit) refl
+    where
+      go : (b : Bool) → (missingOf p && hit) ≡ b → Inside n (keepOf p hit from len)
+      go true e = rw e h
+      go false e = rw e i
 
 -- A part of a slice, as it is lent.
 pub part-lent : (s : List ℕ) (a n : ℕ) → take (a + n - a) (drop a s) ≡ part s a n
@@ -130,7 +141,7 @@ subs-part : (s : List ℕ) (from len size : ℕ) → size ≡ listSize (part s f
     → part s (from + size) (from + len - (from + size)) ≡ drop (listSize (part s from len)) (part s from len)
 subs-part s from len size e h k =
     let m : from + len - (from + size) ≡ len - size = omega arith in
-    rw (m, ← e) (sym (drop-part s from len size k h))
+    rw (m, ← e) (sym (drop-part s from len size k))
 
 pub inside-found : (s : List ℕ) (want from len size : ℕ) {found : Sight} → size ≡ listSize (part s from len) → size ≤ len → from + len ≤ length s
     → found ≡ walkOf true want (part s (from + size) (from + len - (from + size)))
@@ -155,25 +166,25 @@ left-start inner want s at stop h k = record {
 }
 
 module _ {inner : Bool} {want : ℕ} {s : List ℕ} {at stop : ℕ} {list sub : Option (List ℕ)} {whole : Sight} (l : Left inner want s at stop list sub whole) where
-  pub left-end : at ≡ stop → seen list sub ≡ whole
+  pub left-end : stop ≤ at → seen list sub ≡ whole
   left-end e = sym (rw (items-end (l .fuel) inner s at stop (omega arith) e) (onward-end inner want list sub)) ∙ l .same
 
-  module _ (h : at ≤ stop) (k : stop ≤ length s) (n : at ≡ stop → ⊥) where
+  module _ (h : at < stop) (k : stop ≤ length s) where
     pub left-broken : itemAt s at stop inner ≡ Broken → torn ≡ whole
-    left-broken e = sym (rw (items-turn (l .fuel) inner s at stop (omega arith) h k n, e)) ∙ l .same
+    left-broken e = sym (rw (items-turn (l .fuel) inner s at stop (omega arith) h k, e)) ∙ l .same
 
     pub left-torn : {kind from len next : ℕ} → itemAt s at stop inner ≡ Whole kind from len next
         → ((rest : Tlvs) → onward inner want list sub (tlv kind (part s from len) rest) ≡ torn) → torn ≡ whole
     left-torn {kind} {from} {len} {next} e f =
-        sym (rw (items-turn (l .fuel) inner s at stop (omega arith) h k n, e) (f (tlvsIn (pred (l .fuel)) inner (part s next (stop - next))))) ∙ l .same
+        sym (rw (items-turn (l .fuel) inner s at stop (omega arith) h k, e) (f (tlvsIn (pred (l .fuel)) inner (part s next (stop - next))))) ∙ l .same
 
-    pub left-next : {kind from len next : ℕ} {list′ sub′ : Option (List ℕ)} → itemAt s at stop inner ≡ Whole kind from len next → at < next → next ≤ stop
+    pub left-next : {kind from len next : ℕ} {list′ sub′ : Option (List ℕ)} → itemAt s at stop inner ≡ Whole kind from len next → at < next
         → ((rest : Tlvs) → onward inner want list sub (tlv kind (part s from len) rest) ≡ onward inner want list′ sub′ rest)
         → Left inner want s next stop list′ sub′ whole
-    left-next {kind} {from} {len} {next} e g m f = record {
+    left-next {kind} {from} {len} {next} e g f = record {
       fuel = pred (l .fuel);
       enough = omega arith;
-      same = sym (rw (items-turn (l .fuel) inner s at stop (omega arith) h k n, e) (f (tlvsIn (pred (l .fuel)) inner (part s next (stop - next))))) ∙ l .same;
+      same = sym (rw (items-turn (l .fuel) inner s at stop (omega arith) h k, e) (f (tlvsIn (pred (l .fuel)) inner (part s next (stop - next))))) ∙ l .same;
     }
 
 -- the answer ---------------------------------------------------------------------------------------------------

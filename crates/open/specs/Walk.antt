@@ -1,9 +1,11 @@
 -- What the walk over the TLVs answers, by places in the octets and by the values that lie there.
 use Prim.Native.Nat.{ℕ, _+_, _≤_}
+use mathlib.Core.Path.{_≡_}
 use mathlib.Core.List.{List}
 use mathlib.Core.Bool.{Bool, true, false, cond, _&&_}
 use mathlib.Core.Option.{Option, none, some}
 use lib.ListN.{length}
+use lib.Dec.{eqb}
 use Rattle.octets.specs.Octets.{part}
 use Rattle.answers.specs.Numbers.{capabilityMissing}
 use Rattle.session.specs.declared.Limit.the-variants.{Free, Most}
@@ -13,34 +15,32 @@ use Rattle.items.specs.Tlvs.{Tlvs, tlvsOf, wholeOf, firstOf}
 use Rattle.capability.specs.SetupTypes.{pathSetup, listSize, holdsList, subsOf, listsSrv6}
 use Rattle.capability.specs.Srv6.{announcedOf}
 use Rattle.open.specs.declared.walk.Place.{Place}
-use Rattle.open.specs.declared.walk.Place.the-variants.{Missing, At}
 use Rattle.open.specs.declared.walk.Found.{Found}
 use Rattle.open.specs.declared.walk.Found.the-variants.{Cut, Whole}
 
 -- places -------------------------------------------------------------------------------------------------------
 
+-- No value starts at 0.
+abbrev pub nowhere : ℕ
+nowhere = 0
+
 abbrev pub missingOf : Place → Bool
-missingOf Missing = true
-missingOf (At from len) = false
+missingOf p = eqb (p .from) nowhere
 
 -- The first hit is kept.
 abbrev pub keepOf : Place → Bool → ℕ → ℕ → Place
-keepOf Missing hit from len = cond hit (At from len) Missing
-keepOf (At f n) hit from len = At f n
+keepOf p hit from len = cond (missingOf p && hit) (record { from = from; len = len }) p
 
 abbrev pub valueAt : List ℕ → Place → Option (List ℕ)
-valueAt s Missing = none
-valueAt s (At from len) = some (part s from len)
+valueAt s p = cond (missingOf p) none (some (part s (p .from) (p .len)))
 
 -- A place lies within n octets.
 abbrev pub Inside : ℕ → Place → Type 0
-Inside n Missing = Unit
-Inside n (At from len) = from + len ≤ n
+Inside n p = p .from + p .len ≤ n
 
 -- So does that of TLV 34, which holds its padded list.
 abbrev pub Listed : List ℕ → Place → Type 0
-Listed s Missing = Unit
-Listed s (At from len) = (from + len ≤ length s) × (listSize (part s from len) ≤ len)
+Listed s p = Inside (length s) p × (missingOf p ≡ false → listSize (part s (p .from) (p .len)) ≤ p .len)
 
 abbrev pub Bounds : List ℕ → Found → Type 0
 Bounds s Cut = Unit

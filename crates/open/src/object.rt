@@ -6,10 +6,13 @@
 // 1: ill formed. 2: setup type 3 listed and no sub-TLV 27. 3: X is 0 and a pair's type is unknown.
 // The order is 1, 2, 3, and all of rule 1, to the last TLV, goes before 2 and 3.
 ghost use mathlib.Core.Path.{_≡_};
+ghost use mathlib.Core.Bool.{true};
+ghost use Prim.Native.Nat.{_<_};
 ghost use lib.ListN.{length};
 ghost use Rattle.open.specs.Walk.{Listed, Inside, valueAt, carriedBy};
 ghost use Rattle.open.specs.Open.{framed, openOf};
 use super::walk::Found;
+use super::walk::NOWHERE;
 use super::walk::Place;
 use answers::CAPABILITY_MISSING;
 use answers::OPEN_MALFORMED;
@@ -42,6 +45,7 @@ const VERSION_UNIT: usize = 32;
 // Class, type, version and length are an OPEN's.
 fn is_framed(s: &[u8]) -> bool
     ensures framed { λ r. ⌜ r ≡ framed (now (s .entry)) ⌝ }
+    ensures short { λ r. ⌜ (r ≡ true → length (now (s .entry)) < 65536) ⌝ }
 {
     if s.len() < TLVS {
         return false;
@@ -59,22 +63,20 @@ fn carried_by(s: &[u8], list: Place, sub: Place) -> Opened
     requires { ⌜ Listed (now s) list × Inside (length (now s)) sub ⌝ }
     ensures carried { λ r. ⌜ r ≡ carriedBy (valueAt (now (s .entry)) list) (valueAt (now (s .entry)) sub) ⌝ }
 {
-    match list {
-        Place::Missing => session::carried(false, false, Limit::Free),
-        Place::At(from, len) => {
-            let stop = from + len;
-            if !capability::lists_srv6(&s[from..stop]) {
-                return session::carried(false, false, Limit::Free);
-            }
-            match sub {
-                Place::Missing => session::refused_open(CAPABILITY_MISSING),
-                Place::At(first, size) => {
-                    let last = first + size;
-                    capability::announced(&s[first..last])
-                }
-            }
-        }
+    if list.from == NOWHERE {
+        return session::carried(false, false, Limit::Free);
     }
+    let from = list.from;
+    let stop = from + list.len;
+    if !capability::lists_srv6(&s[from..stop]) {
+        return session::carried(false, false, Limit::Free);
+    }
+    if sub.from == NOWHERE {
+        return session::refused_open(CAPABILITY_MISSING);
+    }
+    let first = sub.from;
+    let last = first + sub.len;
+    capability::announced(&s[first..last])
 }
 
 // The answer to an OPEN object: what it carries, or 1, 2 or 3.

@@ -4,17 +4,20 @@
 // Of several TLVs 34, or wanted sub-TLVs, the first is used and the others are only walked.
 // Cut: a TLV does not fit, or the first TLV 34 does not hold its padded list and whole sub-TLVs.
 ghost use mathlib.Core.Path.{_≡_};
-ghost use Prim.Native.Nat.{_-_, _≤_};
+ghost use Prim.Native.Nat.{_-_, _≤_, _<_};
 ghost use lib.ListN.{length};
 ghost use Rattle.octets.specs.Octets.{part};
-ghost use Rattle.open.specs.Walk.{missingOf, keepOf, sightOf, walkOf, Bounds};
+ghost use Rattle.open.specs.Walk.{keepOf, sightOf, walkOf, Bounds};
 use capability::PATH_SETUP;
 use items::Item;
 
+// The start of a value that was not found: none starts here.
+pub const NOWHERE: usize = 0;
+
 // Where a value lies: its start and its length.
-pub enum Place {
-    Missing,
-    At(usize, usize),
+pub struct Place {
+    pub from: usize,
+    pub len: usize,
 }
 
 // What a walk found: the value of the first TLV 34, and that of the first wanted sub-TLV in it.
@@ -23,39 +26,32 @@ pub enum Found {
     Whole(Place, Place),
 }
 
-fn missing(p: Place) -> bool
-    ensures missing { λ r. ⌜ r ≡ missingOf p ⌝ }
-{
-    match p {
-        Place::Missing => true,
-        Place::At(from, len) => false,
-    }
-}
-
 // The first hit is kept.
 fn keep(got: Place, hit: bool, from: usize, len: usize) -> Place
     ensures kept { λ r. ⌜ r ≡ keepOf got hit from len ⌝ }
 {
-    match got {
-        Place::Missing => if hit {
-            Place::At(from, len)
-        } else {
-            Place::Missing
-        },
-        Place::At(f, n) => Place::At(f, n),
+    if octets::both(got.from == NOWHERE, hit) {
+        return Place { from, len };
     }
+    got
 }
 
 // The TLVs from `start` to `end`, or with `inner` the sub-TLVs there.
 pub fn walk(s: &[u8], start: usize, end: usize, inner: bool, want: usize) -> Found
-    requires { ⌜ (start ≤ end) × (end ≤ length (now s)) ⌝ }
+    requires { ⌜ (start ≤ end) × (end ≤ length (now s)) × (end < 65536) ⌝ }
     ensures found { λ r. ⌜ sightOf (now (s .entry)) r ≡ walkOf inner want (part (now (s .entry)) start (end - start)) ⌝ }
     ensures within { λ r. ⌜ Bounds (now (s .entry)) r ⌝ }
 {
     let mut at = start;
-    let mut list = Place::Missing;
-    let mut sub = Place::Missing;
-    while at != end {
+    let mut list = Place {
+        from: NOWHERE,
+        len: 0,
+    };
+    let mut sub = Place {
+        from: NOWHERE,
+        len: 0,
+    };
+    while at < end {
         match items::item_at(s, at, end, inner) {
             Item::Broken => {
                 return Found::Cut;
@@ -68,7 +64,7 @@ pub fn walk(s: &[u8], start: usize, end: usize, inner: bool, want: usize) -> Fou
             } => {
                 if inner {
                     sub = keep(sub, kind == want, from, len);
-                } else if octets::both(missing(list), kind == PATH_SETUP) {
+                } else if octets::both(list.from == NOWHERE, kind == PATH_SETUP) {
                     let stop = from + len;
                     let size = capability::list_size(&s[from..stop]);
                     if len < size {
@@ -79,7 +75,7 @@ pub fn walk(s: &[u8], start: usize, end: usize, inner: bool, want: usize) -> Fou
                             return Found::Cut;
                         }
                         Found::Whole(outer, inside) => {
-                            list = Place::At(from, len);
+                            list = Place { from, len };
                             sub = inside;
                         }
                     }

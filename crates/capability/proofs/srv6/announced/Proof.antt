@@ -1,5 +1,5 @@
+use Rattle.capability.proofs.Laws.{and-leb}
 use Rattle.capability.specs.Srv6.{announcedOf, sizedOf, nOf, xOf, wrongOf, limitOf}
-use Rattle.items.proofs.Laws.{and-leb}
 use Rattle.octets.proofs.Laws.{rest-lent}
 use borrow.Author.Tests.{eq-eqb, ne-eqb, not-true, not-false}
 use lib.ListN.{length}

@@ -1,5 +1,11 @@
-use Rattle.open.proofs.Laws.{framed-short, framed-long}
-use mathlib.Core.Path.{_≡_, sym, _∙_}
+use Rattle.open.proofs.Laws.{and-left, and-right, framed-short, framed-long}
+use borrow.Author.Tests.{eqb-true}
+use lib.Dec.{eqb}
+use lib.ListN.{length}
+use mathlib.Core.Bool.{false≢true}
+use mathlib.Core.Path.{_≡_, refl, sym, _∙_}
+use native.Mathlib.Omega.{arith}
+use Prim.Native.Nat.{_≤_, _%_}
 use borrow.Author.Needs.{needs}
 use Rattle.open.proofs.object.is_framed.Statement.{statement}
 use Rattle.open.proofs.object.is_framed.Tie as tie
@@ -9,56 +15,62 @@ use Rattle.octets.proofs.both.Reads as both-reads
 use Rattle.octets.proofs.octet.Reads as octet-reads
 use Rattle.octets.proofs.read16.Reads as read16-reads
 
--- src/object.rt:34:9
+-- src/object.rt:51:9
 returns : tie.Need-returns
-returns c = sym (framed-short (c .before .before .args .s .now) (c .if1 .taken))
+returns c = (sym (framed-short (c .before .before .args .s .now) (c .if1 .taken)), λ e. absurd (false≢true e))
 
--- src/object.rt:36:17
+-- src/object.rt:53:17
 octet-requires : tie.Need-octet-requires
 octet-requires c κs = search needs
 
--- src/object.rt:37:16
+-- src/object.rt:54:16
 octet-requires-2 : tie.Need-octet-requires-2
 octet-requires-2 c κs = search needs
 
--- src/object.rt:38:19
+-- src/object.rt:55:19
 octet-requires-3 : tie.Need-octet-requires-3
 octet-requires-3 c κs = search needs
 
--- src/object.rt:39:16
+-- src/object.rt:56:16
 read16-requires : tie.Need-read16-requires
 read16-requires c κs = search needs
 
--- src/object.rt:40:31
+-- src/object.rt:57:31
 both-requires : tie.Need-both-requires
 both-requires c κs = search needs
 
--- src/object.rt:40:9
+-- src/object.rt:57:9
 both-requires-2 : tie.Need-both-requires-2
 both-requires-2 c κs = search needs
 
--- src/object.rt:41:26
+-- src/object.rt:58:26
 both-requires-3 : tie.Need-both-requires-3
 both-requires-3 c κs = search needs
 
--- src/object.rt:41:5
+-- src/object.rt:58:5
 both-requires-4 : tie.Need-both-requires-4
 both-requires-4 c κs = search needs
 
--- src/object.rt:30:1
+-- src/object.rt:46:1
 returns-2 : tie.Need-returns-2
-returns-2 c =
-    let s = c .before .before .before .before .before .before .before .before .before .before .args .s .now in
-    rw (
-      framed-long s (c .before .before .before .before .before .before .before .before .if1 .left),
-      c .both4 .ensures,
-      c .before .both3 .ensures,
-      c .before .before .both2 .ensures,
-      c .before .before .before .both .ensures,
-      c .before .before .before .before .read16 .ensures .0,
-      c .before .before .before .before .before .octet3 .ensures .0,
-      c .before .before .before .before .before .before .octet2 .ensures .0,
-      c .before .before .before .before .before .before .before .octet .ensures .0,
+returns-2 c = let s = c .before .before .before .before .before .before .before .before .before .before .args .s .now in
+    let n = c .before .before .before .before .read16 .result in (
+      rw (
+        framed-long s (c .before .before .before .before .before .before .before .before .if1 .left),
+        c .both4 .ensures,
+        c .before .both3 .ensures,
+        c .before .before .both2 .ensures,
+        c .before .before .before .both .ensures,
+        c .before .before .before .before .read16 .ensures .0,
+        c .before .before .before .before .before .octet3 .ensures .0,
+        c .before .before .before .before .before .before .octet2 .ensures .0,
+        c .before .before .before .before .before .before .before .octet .ensures .0,
+      ),
+      λ e. omega (
+        arith,
+        eqb-true n (length s) (and-left (eqb n (length s)) (eqb (length s % 4) 0)
+            (sym (c .before .both3 .ensures) ∙ and-right (c .before .before .both2 .result) (c .before .both3 .result) (sym (c .both4 .ensures) ∙ e))),
+      ),
     )
 
 pub is-framed-spec : {M : Type 1} → statement M

@@ -1,7 +1,6 @@
 use Rattle.open.proofs.Laws
-use Rattle.open.specs.Walk.{Sight, torn, seen, valueAt, missingOf, keepOf, Inside, Listed, sightOf, insideOf, onward, walkOf}
+use Rattle.open.specs.Walk.{Sight, torn, seen, nowhere, valueAt, missingOf, keepOf, Inside, Listed, sightOf, insideOf, onward, walkOf}
 use Rattle.open.specs.Open.{absent}
-use Rattle.open.specs.declared.walk.Place.the-variants.{Missing, At}
 use Rattle.open.specs.declared.walk.Place.{Place}
 use Rattle.capability.specs.SetupTypes.{pathSetup, listSize, holdsList}
 use Rattle.items.proofs.Laws.{drop-part}
@@ -16,7 +15,7 @@ use borrow.Author.Tests.{eq-eqb, ne-eqb, lt-ltb, le-ltb, le-leb, lt-leb}
 use borrow.Author.Needs.{needs}
 use native.Mathlib.Omega.{arith}
 use mathlib.Core.Option.{Option, none, some}
-use mathlib.Core.Bool.{Bool, true, false, cond, _&&_}
+use mathlib.Core.Bool.{Bool, true, false, cond, _&&_, false≢true}
 use mathlib.Core.Path.{_≡_, refl, sym, _∙_}
 use Prim.Native.Nat.{ℕ, suc, pred, _+_, _-_, _≤_, _<_}
 use Prim.Native.Nat.{ℕ, _<_}
@@ -29,7 +28,6 @@ use Rattle.capability.proofs.list_size.Reads as list-size-reads
 use Rattle.items.proofs.item_at.Reads as item-at-reads
 use Rattle.octets.proofs.both.Reads as both-reads
 use Rattle.open.proofs.walk.keep.Reads as keep-reads
-use Rattle.open.proofs.walk.missing.Reads as missing-reads
 use Rattle.open.proofs.walk.+walk.{statement}
 use Rattle.open.proofs.walk.+walk.Tie.{close}
 
@@ -43,11 +41,15 @@ abbrev walk-below : ℕ → In 1 walk-kinds.ps
 walk-below t = and 1 walk-kinds.ps (falls 1 walk-kinds.ps _<_ μ-walk t) walk.Pre
 
 abbrev walk-Inv-loop : walk-lts.InvT-loop
-walk-Inv-loop s start end inner want at₀ list₀ sub₀ at list sub = (start ≤ at) × (at ≤ end) × (end ≤ length s) × Listed s list × Inside (length s) sub
+walk-Inv-loop s start end inner want at₀ list₀ sub₀ at list sub = (start ≤ at) × Listed s list × Inside (length s) sub
     × Laws.Left inner want s at end (valueAt s list) (valueAt s sub) (walkOf inner want (part s start (end - start)))
 
 abbrev walk-μ-loop : walk-lts.MeasureT-loop
 walk-μ-loop s start end inner want at₀ list₀ sub₀ at list sub = end - at
+
+-- what the walk starts with
+abbrev lost : Place
+lost = record { from = nowhere; len = 0 }
 
 -- where an item has been read: what is known of it, and the invariant after it
 abbrev Read : ℕ → Type 0
@@ -56,8 +58,6 @@ Read t = walk-lts.After-known-told (
   item-at-reads.Learnt,
   keep-reads.Asked,
   keep-reads.Learnt,
-  missing-reads.Asked,
-  missing-reads.Learnt,
   both-reads.Asked,
   both-reads.Learnt,
   list-size-reads.Asked,
@@ -70,6 +70,10 @@ within : (t : ℕ) (c : Read t)
     → Within (c .before .before .before .before .before .loop .at) (c .before .before .before .before .before .before .before .args .end)
     (Whole (c .before .kind .given .0 .0) (c .before .kind .given .0 .1 .0) (c .before .kind .given .0 .1 .1 .0) (c .before .kind .given .0 .1 .1 .1 .0))
 within t c = rw (c .before .kind .given .1) at (c .before .before .before .item-at .ensures .1)
+
+-- no value starts at 0
+there : (t : ℕ) (c : Read t) → eqb (c .before .kind .given .0 .1 .0) nowhere ≡ false
+there t c = let b = within t c in ne-eqb (c .before .kind .given .0 .1 .0) nowhere (λ e. omega arith)
 
 -- the walk is at the item read, with `rest` behind it
 abbrev Here : (t : ℕ) → Read t → Tlvs → Sight
@@ -84,17 +88,15 @@ stepped : (t : ℕ) (c : Read t) (list sub : Place)
     let v = c .before .kind .given .0 in
     Listed (a .s .now) list → Inside (length (a .s .now)) sub
     → ((rest : Tlvs) → Here t c rest ≡ onward (a .inner) (a .want) (valueAt (a .s .now) list) (valueAt (a .s .now) sub) rest)
-    → walk-Inv-loop (a .s .now) (a .start) (a .end) (a .inner) (a .want) (a .start) Missing Missing (v .1 .1 .1 .0) list sub)
+    → walk-Inv-loop (a .s .now) (a .start) (a .end) (a .inner) (a .want) (a .start) lost lost (v .1 .1 .1 .0) list sub)
 stepped t c list sub i j e =
     let l = c .before .before .before .before .before .loop in
     let b = within t c in (
       omega arith,
-      omega arith,
-      omega arith,
       i,
       j,
-      Laws.left-next (l .inv .5) (omega arith) (omega arith) (c .before .before .before .before .loop-test .taken)
-          (sym (c .before .before .before .item-at .ensures .0) ∙ c .before .kind .given .1) (omega arith) (omega arith) e,
+      Laws.left-next (l .inv .3) (c .before .before .before .before .loop-test .taken) (omega arith)
+          (sym (c .before .before .before .item-at .ensures .0) ∙ c .before .kind .given .1) (omega arith) e,
     )
 
 stopped : (t : ℕ) (c : Read t)
@@ -102,7 +104,7 @@ stopped : (t : ℕ) (c : Read t)
     ((rest : Tlvs) → Here t c rest ≡ torn) → torn ≡ walkOf (a .inner) (a .want) (part (a .s .now) (a .start) (a .end - a .start)))
 stopped t c e =
     let l = c .before .before .before .before .before .loop in
-    Laws.left-torn (l .inv .5) (omega arith) (omega arith) (c .before .before .before .before .loop-test .taken)
+    Laws.left-torn (l .inv .3) (c .before .before .before .before .loop-test .taken) (omega arith)
     (sym (c .before .before .before .item-at .ensures .0) ∙ c .before .kind .given .1) e
 
 -- where the first TLV 34 has been read
@@ -112,8 +114,6 @@ Enter t = walk-lts.Then2 (
   item-at-reads.Learnt,
   keep-reads.Asked,
   keep-reads.Learnt,
-  missing-reads.Asked,
-  missing-reads.Learnt,
   both-reads.Asked,
   both-reads.Learnt,
   list-size-reads.Asked,
@@ -134,11 +134,11 @@ entered t c rest =
     let l = r .before .before .before .before .before .loop in
     let v = r .before .kind .given .0 in
     let f = sym (c .before .both .ensures) ∙ c .if2 .taken in
-    let m = sym (c .before .before .missing .ensures) ∙ Laws.and-left (c .before .before .missing .result) (eqb (v .0) pathSetup) f in
+    let m = Laws.and-left (missingOf (l .list)) (eqb (v .0) pathSetup) f in
     rw (c .before .before .before .if1 .left)
     (Laws.onward-enter (a .want) (v .0) (part (a .s .now) (v .1 .0) (v .1 .1 .0)) rest (valueAt (a .s .now) (l .list)) (valueAt (a .s .now) (l .sub))
     (Laws.value-missing (a .s .now) (l .list) m)
-    (Laws.and-right (c .before .before .missing .result) (eqb (v .0) pathSetup) f))
+    (Laws.and-right (missingOf (l .list)) (eqb (v .0) pathSetup) f))
 
 -- where its list has been measured
 abbrev Sized : ℕ → Type 0
@@ -147,8 +147,6 @@ Sized t = walk-lts.After-list-size (
   item-at-reads.Learnt,
   keep-reads.Asked,
   keep-reads.Learnt,
-  missing-reads.Asked,
-  missing-reads.Learnt,
   both-reads.Asked,
   both-reads.Learnt,
   list-size-reads.Asked,
@@ -179,8 +177,6 @@ Held t = walk-lts.Else3 (
   item-at-reads.Learnt,
   keep-reads.Asked,
   keep-reads.Learnt,
-  missing-reads.Asked,
-  missing-reads.Learnt,
   both-reads.Asked,
   both-reads.Learnt,
   list-size-reads.Asked,
@@ -204,8 +200,6 @@ Walked t = walk-lts.After-walk (
   item-at-reads.Learnt,
   keep-reads.Asked,
   keep-reads.Learnt,
-  missing-reads.Asked,
-  missing-reads.Learnt,
   both-reads.Asked,
   both-reads.Learnt,
   list-size-reads.Asked,
@@ -226,14 +220,12 @@ walked t c =
     Laws.inside-found (r .before .before .before .before .before .before .before .args .s .now) (r .before .before .before .before .before .before .before .args .want) (v .1 .0) (v .1 .1 .0) (c .before .before .list-size .result)
     (size-same t (c .before .before)) (c .before .if3 .left) (omega arith) (c .walk .ensures .0)
 
--- src/walk.rt:58:5
+-- src/walk.rt:54:5
 walk-loop-holds : (t : ℕ) → walk-lts.Need-loop-holds (
   item-at-reads.Asked,
   item-at-reads.Learnt,
   keep-reads.Asked,
   keep-reads.Learnt,
-  missing-reads.Asked,
-  missing-reads.Learnt,
   both-reads.Asked,
   both-reads.Learnt,
   list-size-reads.Asked,
@@ -242,16 +234,14 @@ walk-loop-holds : (t : ℕ) → walk-lts.Need-loop-holds (
   walk.Post,
 ) (walk-at t) walk.Post walk-Inv-loop walk-μ-loop
 walk-loop-holds t c = let a = c .before .args in
-    (search needs, search needs, search needs, tt, tt, Laws.left-start (a .inner) (a .want) (a .s .now) (a .start) (a .end) (omega arith) (omega arith))
+    (search needs, (omega arith, λ e. absurd (false≢true (sym e))), omega arith, Laws.left-start (a .inner) (a .want) (a .s .now) (a .start) (a .end) (omega arith) (omega arith))
 
--- src/walk.rt:59:15
+-- src/walk.rt:55:15
 walk-item-at-requires : (t : ℕ) → walk-lts.Need-item-at-requires (
   item-at-reads.Asked,
   item-at-reads.Learnt,
   keep-reads.Asked,
   keep-reads.Learnt,
-  missing-reads.Asked,
-  missing-reads.Learnt,
   both-reads.Asked,
   both-reads.Learnt,
   list-size-reads.Asked,
@@ -261,14 +251,12 @@ walk-item-at-requires : (t : ℕ) → walk-lts.Need-item-at-requires (
 ) (walk-at t) walk.Post walk-Inv-loop walk-μ-loop
 walk-item-at-requires t c κs = search needs
 
--- src/walk.rt:61:17
+-- src/walk.rt:57:17
 walk-enum-told : (t : ℕ) → walk-lts.Need-enum-told (
   item-at-reads.Asked,
   item-at-reads.Learnt,
   keep-reads.Asked,
   keep-reads.Learnt,
-  missing-reads.Asked,
-  missing-reads.Learnt,
   both-reads.Asked,
   both-reads.Learnt,
   list-size-reads.Asked,
@@ -278,14 +266,12 @@ walk-enum-told : (t : ℕ) → walk-lts.Need-enum-told (
 ) (walk-at t) walk.Post walk-Inv-loop walk-μ-loop
 walk-enum-told t c = search needs
 
--- src/walk.rt:61:17
+-- src/walk.rt:57:17
 walk-returns : (t : ℕ) → walk-lts.Need-returns (
   item-at-reads.Asked,
   item-at-reads.Learnt,
   keep-reads.Asked,
   keep-reads.Learnt,
-  missing-reads.Asked,
-  missing-reads.Learnt,
   both-reads.Asked,
   both-reads.Learnt,
   list-size-reads.Asked,
@@ -294,16 +280,14 @@ walk-returns : (t : ℕ) → walk-lts.Need-returns (
   walk.Post,
 ) (walk-at t) walk.Post walk-Inv-loop walk-μ-loop
 walk-returns t c = let l = c .before .before .before .before .loop in
-    (Laws.left-broken (l .inv .5) (omega arith) (omega arith) (c .before .before .before .loop-test .taken) (sym (c .before .before .item-at .ensures .0) ∙ c .enum-told .given .1), tt)
+    (Laws.left-broken (l .inv .3) (c .before .before .before .loop-test .taken) (omega arith) (sym (c .before .before .item-at .ensures .0) ∙ c .enum-told .given .1), tt)
 
--- src/walk.rt:64:17
+-- src/walk.rt:60:17
 walk-enum-known-kind : (t : ℕ) → walk-lts.Need-enum-known-kind (
   item-at-reads.Asked,
   item-at-reads.Learnt,
   keep-reads.Asked,
   keep-reads.Learnt,
-  missing-reads.Asked,
-  missing-reads.Learnt,
   both-reads.Asked,
   both-reads.Learnt,
   list-size-reads.Asked,
@@ -313,14 +297,12 @@ walk-enum-known-kind : (t : ℕ) → walk-lts.Need-enum-known-kind (
 ) (walk-at t) walk.Post walk-Inv-loop walk-μ-loop
 walk-enum-known-kind t c = search needs
 
--- src/walk.rt:70:21
+-- src/walk.rt:66:21
 walk-keep-requires : (t : ℕ) → walk-lts.Need-keep-requires (
   item-at-reads.Asked,
   item-at-reads.Learnt,
   keep-reads.Asked,
   keep-reads.Learnt,
-  missing-reads.Asked,
-  missing-reads.Learnt,
   both-reads.Asked,
   both-reads.Learnt,
   list-size-reads.Asked,
@@ -330,31 +312,12 @@ walk-keep-requires : (t : ℕ) → walk-lts.Need-keep-requires (
 ) (walk-at t) walk.Post walk-Inv-loop walk-μ-loop
 walk-keep-requires t c κs = search needs
 
--- src/walk.rt:71:40
-walk-missing-requires : (t : ℕ) → walk-lts.Need-missing-requires (
-  item-at-reads.Asked,
-  item-at-reads.Learnt,
-  keep-reads.Asked,
-  keep-reads.Learnt,
-  missing-reads.Asked,
-  missing-reads.Learnt,
-  both-reads.Asked,
-  both-reads.Learnt,
-  list-size-reads.Asked,
-  list-size-reads.Learnt,
-  walk-below t,
-  walk.Post,
-) (walk-at t) walk.Post walk-Inv-loop walk-μ-loop
-walk-missing-requires t c κs = search needs
-
--- src/walk.rt:71:27
+-- src/walk.rt:67:27
 walk-both-requires : (t : ℕ) → walk-lts.Need-both-requires (
   item-at-reads.Asked,
   item-at-reads.Learnt,
   keep-reads.Asked,
   keep-reads.Learnt,
-  missing-reads.Asked,
-  missing-reads.Learnt,
   both-reads.Asked,
   both-reads.Learnt,
   list-size-reads.Asked,
@@ -364,14 +327,12 @@ walk-both-requires : (t : ℕ) → walk-lts.Need-both-requires (
 ) (walk-at t) walk.Post walk-Inv-loop walk-μ-loop
 walk-both-requires t c κs = search needs
 
--- src/walk.rt:72:32
+-- src/walk.rt:68:32
 walk-add-stop : (t : ℕ) → walk-lts.Need-add-stop (
   item-at-reads.Asked,
   item-at-reads.Learnt,
   keep-reads.Asked,
   keep-reads.Learnt,
-  missing-reads.Asked,
-  missing-reads.Learnt,
   both-reads.Asked,
   both-reads.Learnt,
   list-size-reads.Asked,
@@ -381,14 +342,12 @@ walk-add-stop : (t : ℕ) → walk-lts.Need-add-stop (
 ) (walk-at t) walk.Post walk-Inv-loop walk-μ-loop
 walk-add-stop t c = let b = within t (c .before .before .before .before) in omega arith
 
--- src/walk.rt:73:54
+-- src/walk.rt:69:54
 walk-sub-list-size : (t : ℕ) → walk-lts.Need-sub-list-size (
   item-at-reads.Asked,
   item-at-reads.Learnt,
   keep-reads.Asked,
   keep-reads.Learnt,
-  missing-reads.Asked,
-  missing-reads.Learnt,
   both-reads.Asked,
   both-reads.Learnt,
   list-size-reads.Asked,
@@ -398,14 +357,12 @@ walk-sub-list-size : (t : ℕ) → walk-lts.Need-sub-list-size (
 ) (walk-at t) walk.Post walk-Inv-loop walk-μ-loop
 walk-sub-list-size t c = search needs
 
--- src/walk.rt:73:54
+-- src/walk.rt:69:54
 walk-part-list-size-start : (t : ℕ) → walk-lts.Need-part-list-size-start (
   item-at-reads.Asked,
   item-at-reads.Learnt,
   keep-reads.Asked,
   keep-reads.Learnt,
-  missing-reads.Asked,
-  missing-reads.Learnt,
   both-reads.Asked,
   both-reads.Learnt,
   list-size-reads.Asked,
@@ -415,14 +372,12 @@ walk-part-list-size-start : (t : ℕ) → walk-lts.Need-part-list-size-start (
 ) (walk-at t) walk.Post walk-Inv-loop walk-μ-loop
 walk-part-list-size-start t c = search needs
 
--- src/walk.rt:73:54
+-- src/walk.rt:69:54
 walk-part-list-size-end : (t : ℕ) → walk-lts.Need-part-list-size-end (
   item-at-reads.Asked,
   item-at-reads.Learnt,
   keep-reads.Asked,
   keep-reads.Learnt,
-  missing-reads.Asked,
-  missing-reads.Learnt,
   both-reads.Asked,
   both-reads.Learnt,
   list-size-reads.Asked,
@@ -432,14 +387,12 @@ walk-part-list-size-end : (t : ℕ) → walk-lts.Need-part-list-size-end (
 ) (walk-at t) walk.Post walk-Inv-loop walk-μ-loop
 walk-part-list-size-end t c = let b = within t (c .before .before .before .before) in omega arith
 
--- src/walk.rt:73:25
+-- src/walk.rt:69:25
 walk-list-size-requires : (t : ℕ) → walk-lts.Need-list-size-requires (
   item-at-reads.Asked,
   item-at-reads.Learnt,
   keep-reads.Asked,
   keep-reads.Learnt,
-  missing-reads.Asked,
-  missing-reads.Learnt,
   both-reads.Asked,
   both-reads.Learnt,
   list-size-reads.Asked,
@@ -449,14 +402,12 @@ walk-list-size-requires : (t : ℕ) → walk-lts.Need-list-size-requires (
 ) (walk-at t) walk.Post walk-Inv-loop walk-μ-loop
 walk-list-size-requires t c κs = search needs
 
--- src/walk.rt:75:25
+-- src/walk.rt:71:25
 walk-returns-2 : (t : ℕ) → walk-lts.Need-returns-2 (
   item-at-reads.Asked,
   item-at-reads.Learnt,
   keep-reads.Asked,
   keep-reads.Learnt,
-  missing-reads.Asked,
-  missing-reads.Learnt,
   both-reads.Asked,
   both-reads.Learnt,
   list-size-reads.Asked,
@@ -470,14 +421,12 @@ walk-returns-2 t c = let r = c .before .before .before .before .before .before .
     let e : holdsList v ≡ false = lt-leb (listSize v) (length v) (omega (arith, size-same t (c .before), value-long t (c .before), c .if3 .taken)) in
     (stopped t r (λ rest. entered t (c .before .before .before) rest ∙ Laws.inside-unheld (a .want) (valueAt (a .s .now) (r .before .before .before .before .before .loop .sub)) v (wholeOf rest) e), tt)
 
--- src/walk.rt:77:35
+-- src/walk.rt:73:35
 walk-add-walk : (t : ℕ) → walk-lts.Need-add-walk (
   item-at-reads.Asked,
   item-at-reads.Learnt,
   keep-reads.Asked,
   keep-reads.Learnt,
-  missing-reads.Asked,
-  missing-reads.Learnt,
   both-reads.Asked,
   both-reads.Learnt,
   list-size-reads.Asked,
@@ -487,14 +436,12 @@ walk-add-walk : (t : ℕ) → walk-lts.Need-add-walk (
 ) (walk-at t) walk.Post walk-Inv-loop walk-μ-loop
 walk-add-walk t c = let b = within t (c .before .before .before .before .before .before .before) in omega arith
 
--- src/walk.rt:77:27
+-- src/walk.rt:73:27
 walk-walk-requires : (t : ℕ) → walk-lts.Need-walk-requires (
   item-at-reads.Asked,
   item-at-reads.Learnt,
   keep-reads.Asked,
   keep-reads.Learnt,
-  missing-reads.Asked,
-  missing-reads.Learnt,
   both-reads.Asked,
   both-reads.Learnt,
   list-size-reads.Asked,
@@ -504,14 +451,12 @@ walk-walk-requires : (t : ℕ) → walk-lts.Need-walk-requires (
 ) (walk-at t) walk.Post walk-Inv-loop walk-μ-loop
 walk-walk-requires t c κs = let b = within t (c .before .before .before .before .before .before .before) in (rw (← c .before .before .before .before .before .before .before .before .before .before .before .before .before .before .pre .0) (omega arith), omega arith)
 
--- src/walk.rt:79:29
+-- src/walk.rt:75:29
 walk-enum-told-2 : (t : ℕ) → walk-lts.Need-enum-told-2 (
   item-at-reads.Asked,
   item-at-reads.Learnt,
   keep-reads.Asked,
   keep-reads.Learnt,
-  missing-reads.Asked,
-  missing-reads.Learnt,
   both-reads.Asked,
   both-reads.Learnt,
   list-size-reads.Asked,
@@ -521,14 +466,12 @@ walk-enum-told-2 : (t : ℕ) → walk-lts.Need-enum-told-2 (
 ) (walk-at t) walk.Post walk-Inv-loop walk-μ-loop
 walk-enum-told-2 t c = search needs
 
--- src/walk.rt:79:29
+-- src/walk.rt:75:29
 walk-returns-3 : (t : ℕ) → walk-lts.Need-returns-3 (
   item-at-reads.Asked,
   item-at-reads.Learnt,
   keep-reads.Asked,
   keep-reads.Learnt,
-  missing-reads.Asked,
-  missing-reads.Learnt,
   both-reads.Asked,
   both-reads.Learnt,
   list-size-reads.Asked,
@@ -542,14 +485,12 @@ walk-returns-3 t c = let r = c .before .before .before .before .before .before .
     let w = rw (c .enum-told2 .given .1) at (walked t (c .before .before)) in
     (stopped t r (λ rest. entered t (c .before .before .before .before .before .before) rest ∙ Laws.inside-torn (a .want) (valueAt (a .s .now) (r .before .before .before .before .before .loop .sub)) v (wholeOf rest) (held t (c .before .before .before)) w), tt)
 
--- src/walk.rt:81:38
+-- src/walk.rt:77:38
 walk-enum-known-outer : (t : ℕ) → walk-lts.Need-enum-known-outer (
   item-at-reads.Asked,
   item-at-reads.Learnt,
   keep-reads.Asked,
   keep-reads.Learnt,
-  missing-reads.Asked,
-  missing-reads.Learnt,
   both-reads.Asked,
   both-reads.Learnt,
   list-size-reads.Asked,
@@ -559,14 +500,12 @@ walk-enum-known-outer : (t : ℕ) → walk-lts.Need-enum-known-outer (
 ) (walk-at t) walk.Post walk-Inv-loop walk-μ-loop
 walk-enum-known-outer t c = search needs
 
--- src/walk.rt:58:5
+-- src/walk.rt:54:5
 walk-loop-less : (t : ℕ) → walk-lts.Need-loop-less (
   item-at-reads.Asked,
   item-at-reads.Learnt,
   keep-reads.Asked,
   keep-reads.Learnt,
-  missing-reads.Asked,
-  missing-reads.Learnt,
   both-reads.Asked,
   both-reads.Learnt,
   list-size-reads.Asked,
@@ -576,14 +515,12 @@ walk-loop-less : (t : ℕ) → walk-lts.Need-loop-less (
 ) (walk-at t) walk.Post walk-Inv-loop walk-μ-loop
 walk-loop-less t c = let b = within t (c .before .before) in omega arith
 
--- src/walk.rt:58:5
+-- src/walk.rt:54:5
 walk-loop-again : (t : ℕ) → walk-lts.Need-loop-again (
   item-at-reads.Asked,
   item-at-reads.Learnt,
   keep-reads.Asked,
   keep-reads.Learnt,
-  missing-reads.Asked,
-  missing-reads.Learnt,
   both-reads.Asked,
   both-reads.Learnt,
   list-size-reads.Asked,
@@ -597,19 +534,17 @@ walk-loop-again t c = let r = c .before .before in
     let v = r .before .kind .given .0 in
     let b = within t r in
     rw (c .keep .ensures)
-    (stepped t r (l .list) (keepOf (l .sub) (eqb (v .0) (a .want)) (v .1 .0) (v .1 .1 .0)) (l .inv .3)
-    (Laws.kept-inside (length (a .s .now)) (l .sub) (eqb (v .0) (a .want)) (v .1 .0) (v .1 .1 .0) (l .inv .4) (omega arith))
-    (λ rest. rw (c .before .if1 .taken, ← Laws.value-kept (a .s .now) (l .sub) (eqb (v .0) (a .want)) (v .1 .0) (v .1 .1 .0))
+    (stepped t r (l .list) (keepOf (l .sub) (eqb (v .0) (a .want)) (v .1 .0) (v .1 .1 .0)) (l .inv .1)
+    (Laws.kept-inside (l .sub) (eqb (v .0) (a .want)) (v .1 .0) (v .1 .1 .0) (length (a .s .now)) (l .inv .2) (omega arith))
+    (λ rest. rw (c .before .if1 .taken, ← Laws.value-kept (l .sub) (eqb (v .0) (a .want)) (v .1 .0) (v .1 .1 .0) (a .s .now) (there t r))
     (Laws.onward-inner (a .want) (v .0) (part (a .s .now) (v .1 .0) (v .1 .1 .0)) rest (valueAt (a .s .now) (l .list)) (valueAt (a .s .now) (l .sub)))))
 
--- src/walk.rt:58:5
+-- src/walk.rt:54:5
 walk-loop-less-2 : (t : ℕ) → walk-lts.Need-loop-less-2 (
   item-at-reads.Asked,
   item-at-reads.Learnt,
   keep-reads.Asked,
   keep-reads.Learnt,
-  missing-reads.Asked,
-  missing-reads.Learnt,
   both-reads.Asked,
   both-reads.Learnt,
   list-size-reads.Asked,
@@ -619,14 +554,12 @@ walk-loop-less-2 : (t : ℕ) → walk-lts.Need-loop-less-2 (
 ) (walk-at t) walk.Post walk-Inv-loop walk-μ-loop
 walk-loop-less-2 t c = let b = within t (c .before .before .before .before .before .before .before .before .before .before .before) in omega arith
 
--- src/walk.rt:58:5
+-- src/walk.rt:54:5
 walk-loop-again-2 : (t : ℕ) → walk-lts.Need-loop-again-2 (
   item-at-reads.Asked,
   item-at-reads.Learnt,
   keep-reads.Asked,
   keep-reads.Learnt,
-  missing-reads.Asked,
-  missing-reads.Learnt,
   both-reads.Asked,
   both-reads.Learnt,
   list-size-reads.Asked,
@@ -642,19 +575,19 @@ walk-loop-again-2 t c = let r = c .before .before .before .before .before .befor
     let b = within t r in
     let w = rw (c .before .outer .given .1) at (walked t (c .before .before .before)) in
     let i = rw (c .before .outer .given .1) at (c .before .before .before .walk .ensures .1) in
-    stepped t r (At (v .1 .0) (v .1 .1 .0)) inside (omega arith, rw (← size-same t (c .before .before .before .before .before)) (c .before .before .before .before .if3 .left)) (i .1)
-    (λ rest. entered t (c .before .before .before .before .before .before .before) rest
+    let here : Place = record { from = v .1 .0; len = v .1 .1 .0 } in
+    stepped t r here inside (omega arith, λ _. rw (← size-same t (c .before .before .before .before .before)) (c .before .before .before .before .if3 .left)) (i .1)
+    (λ rest. rw (Laws.value-there (a .s .now) here (there t r))
+    (entered t (c .before .before .before .before .before .before .before) rest
     ∙ Laws.inside-seen (a .want) (valueAt (a .s .now) (r .before .before .before .before .before .loop .sub)) p (wholeOf rest) (held t (c .before .before .before .before)) w
-    ∙ Laws.onward-found (a .inner) (a .want) p (valueAt (a .s .now) inside) rest (c .before .before .before .before .before .before .before .before .before .before .if1 .left))
+    ∙ Laws.onward-found (a .inner) (a .want) p (valueAt (a .s .now) inside) rest (c .before .before .before .before .before .before .before .before .before .before .if1 .left)))
 
--- src/walk.rt:58:5
+-- src/walk.rt:54:5
 walk-loop-less-3 : (t : ℕ) → walk-lts.Need-loop-less-3 (
   item-at-reads.Asked,
   item-at-reads.Learnt,
   keep-reads.Asked,
   keep-reads.Learnt,
-  missing-reads.Asked,
-  missing-reads.Learnt,
   both-reads.Asked,
   both-reads.Learnt,
   list-size-reads.Asked,
@@ -664,14 +597,12 @@ walk-loop-less-3 : (t : ℕ) → walk-lts.Need-loop-less-3 (
 ) (walk-at t) walk.Post walk-Inv-loop walk-μ-loop
 walk-loop-less-3 t c = let b = within t (c .before .before .before .before) in omega arith
 
--- src/walk.rt:58:5
+-- src/walk.rt:54:5
 walk-loop-again-3 : (t : ℕ) → walk-lts.Need-loop-again-3 (
   item-at-reads.Asked,
   item-at-reads.Learnt,
   keep-reads.Asked,
   keep-reads.Learnt,
-  missing-reads.Asked,
-  missing-reads.Learnt,
   both-reads.Asked,
   both-reads.Learnt,
   list-size-reads.Asked,
@@ -684,19 +615,17 @@ walk-loop-again-3 t c = let r = c .before .before .before .before in
     let l = r .before .before .before .before .before .loop in
     let v = r .before .kind .given .0 in
     let f = sym (c .before .both .ensures) ∙ c .if2 .left in
-    stepped t r (l .list) (l .sub) (l .inv .3) (l .inv .4)
+    stepped t r (l .list) (l .sub) (l .inv .1) (l .inv .2)
     (λ rest. rw (c .before .before .before .if1 .left)
     (Laws.onward-past (a .want) (v .0) (part (a .s .now) (v .1 .0) (v .1 .1 .0)) rest (valueAt (a .s .now) (l .list)) (valueAt (a .s .now) (l .sub))
-    (rw (Laws.absent-missing (a .s .now) (l .list), ← c .before .before .missing .ensures) f)))
+    (rw (Laws.absent-missing (a .s .now) (l .list)) f)))
 
--- src/walk.rt:50:1
+-- src/walk.rt:40:1
 walk-returns-4 : (t : ℕ) → walk-lts.Need-returns-4 (
   item-at-reads.Asked,
   item-at-reads.Learnt,
   keep-reads.Asked,
   keep-reads.Learnt,
-  missing-reads.Asked,
-  missing-reads.Learnt,
   both-reads.Asked,
   both-reads.Learnt,
   list-size-reads.Asked,
@@ -704,7 +633,7 @@ walk-returns-4 : (t : ℕ) → walk-lts.Need-returns-4 (
   walk-below t,
   walk.Post,
 ) (walk-at t) walk.Post walk-Inv-loop walk-μ-loop
-walk-returns-4 t c = let l = c .before .loop in (Laws.left-end (l .inv .5) (c .loop-test .left), (l .inv .3, l .inv .4))
+walk-returns-4 t c = let l = c .before .loop in (Laws.left-end (l .inv .3) (c .loop-test .left), (l .inv .1, l .inv .2))
 
 pub +walk-spec : {M : Type 1} → statement M
 +walk-spec = close μ-walk λ t. walk-lts.spec (
@@ -712,8 +641,6 @@ pub +walk-spec : {M : Type 1} → statement M
   item-at-reads.Learnt,
   keep-reads.Asked,
   keep-reads.Learnt,
-  missing-reads.Asked,
-  missing-reads.Learnt,
   both-reads.Asked,
   both-reads.Learnt,
   list-size-reads.Asked,
@@ -731,7 +658,6 @@ pub +walk-spec : {M : Type 1} → statement M
     (walk-returns t)
     (walk-enum-known-kind t)
     (walk-keep-requires t)
-    (walk-missing-requires t)
     (walk-both-requires t)
     (walk-add-stop t)
     (walk-sub-list-size t)
