@@ -11,4 +11,5 @@ pub mod Floors
 pub mod Accepted
 pub mod Owed
 pub mod Theorem
+pub mod Asks
 pub mod Bodies
