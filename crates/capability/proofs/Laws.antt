@@ -1,11 +1,11 @@
 -- Laws of the octet-by-octet and pair-by-pair loops, in the order of the definitions.
-use Prim.Native.Nat.{ℕ, suc, _+_, _-_, _≤_, _<_, min}
+use Prim.Native.Nat.{ℕ, suc, _+_, _-_, _≤_, _<_}
 use native.Mathlib.Nat.{min-comm}
 use native.Mathlib.Numerals.{add-one, add-two}
 use native.Mathlib.Omega.{arith}
-use mathlib.Core.Path.{_≡_, refl, sym, _∙_, ap}
+use mathlib.Core.Path.{_≡_, refl, ap}
 use mathlib.Core.List.{List, [], _∷_}
-use mathlib.Core.Bool.{Bool, true, false, not, _&&_, _||_}
+use mathlib.Core.Bool.{Bool, true, false, _&&_}
 use lib.ListN.{length, getD, take, drop, length-drop, drop-of-length-le}
 use lib.Seq.{drop-cons}
 use lib.Dec.{leb}
@@ -14,7 +14,7 @@ use Rattle.session.specs.declared.Limit.{Limit}
 use Rattle.session.specs.declared.Limit.the-variants.{Free, Most}
 use Rattle.octets.specs.Octets.{part}
 use Rattle.capability.specs.SetupTypes.{srv6, countOf, hasOf, listsSrv6}
-use Rattle.capability.specs.Msd.{Pair, pairsIn, wrongIn, knownMsd, leastOf, limitIn}
+use Rattle.capability.specs.Msd.{pairsIn, leastOf}
 
 -- tests --------------------------------------------------------------------------------------------------------
 

@@ -1,13 +1,13 @@
 -- "Sub-TLV 27 holds 2 reserved octets, 2 flag octets, then pairs of MSD type and MSD value" (document 01, "The OPEN object").
 use Prim.Native.Nat.{ℕ, _/_, _%_}
 use mathlib.Core.List.{List}
-use mathlib.Core.Bool.{Bool, true, false, cond, not, _&&_}
+use mathlib.Core.Bool.{Bool, true, cond, not, _&&_}
 use lib.ListN.{length, drop}
 use lib.Dec.{eqb, leb}
 use Rattle.octets.specs.Octets.{octetOf}
 use Rattle.answers.specs.Numbers.{openMalformed, wrongMsd}
 use Rattle.session.specs.declared.Limit.{Limit}
-use Rattle.session.specs.declared.Limit.the-variants.{Free, Most}
+use Rattle.session.specs.declared.Limit.the-variants.{Free}
 use Rattle.session.specs.declared.Opened.{Opened}
 use Rattle.session.specs.Sessions.{openRefused, openCarries}
 use Rattle.capability.specs.Msd.{Pair, pairsIn, wrongIn, limitIn}

@@ -2,16 +2,16 @@
 use Prim.Native.Nat.{ℕ, zero, suc, pred, _+_, _-_, _≤_, _<_}
 use native.Mathlib.Nat.{add-assoc, add-zero, le-refl}
 use native.Mathlib.Omega.{arith}
-use mathlib.Core.Path.{_≡_, refl, sym, _∙_, ap}
+use mathlib.Core.Path.{_≡_, refl, sym, _∙_}
 use mathlib.Core.List.{List, []}
-use mathlib.Core.Bool.{Bool, true, false, cond, _&&_}
-use lib.ListN.{length, getD, take, drop, length-drop, drop-of-length-le}
-use lib.Seq.{take-all, ext-getD}
-use lib.Dec.{eqb, ltb, leb}
-use borrow.Author.Tests.{eq-eqb, ne-eqb, lt-ltb, le-ltb, le-leb, lt-leb, ltb-true, ltb-false, leb-true, leb-false}
+use mathlib.Core.Bool.{Bool, true, false, cond}
+use lib.ListN.{length, drop, drop-of-length-le}
+use lib.Seq.{ext-getD}
+use lib.Dec.{ltb, leb}
+use borrow.Author.Tests.{ne-eqb, lt-ltb, le-ltb, le-leb, lt-leb, ltb-true, ltb-false, leb-true, leb-false}
 use Rattle.octets.specs.Octets.{be16, pad4, part}
 use Rattle.octets.proofs.Laws.{length-part, getD-part, rest-lent}
-use Rattle.items.specs.Tlvs.{Tlvs, end, cut, tlv, head, kindOf, lengthOf, valueOf, behindOf, fitsIn, turn, tlvsIn, tlvsOf}
+use Rattle.items.specs.Tlvs.{Tlvs, end, cut, tlv, head, fitsIn, turn, tlvsIn}
 use Rattle.items.specs.Places.{itemAt}
 use Rattle.items.specs.declared.Item.{Item}
 use Rattle.items.specs.declared.Item.the-variants.{Whole, Broken}

@@ -14,15 +14,15 @@ use Rattle.octets.proofs.Laws.{length-part, rest-lent}
 use Rattle.answers.specs.Numbers.{openMalformed}
 use Rattle.session.specs.declared.Opened.{Opened}
 use Rattle.session.specs.Sessions.{openRefused}
-use Rattle.items.specs.Tlvs.{Tlvs, end, cut, tlv, tlvsIn, tlvsOf, wholeOf, firstOf}
+use Rattle.items.specs.Tlvs.{Tlvs, end, tlv, tlvsIn, tlvsOf, wholeOf, firstOf}
 use Rattle.items.specs.Places.{itemAt}
 use Rattle.items.specs.declared.Item.the-variants.{Whole, Broken}
 use Rattle.items.proofs.Laws.{drop-part, items-end, items-turn}
 use Rattle.capability.specs.SetupTypes.{pathSetup, listSize, holdsList, subsOf, listsSrv6}
-use Rattle.capability.specs.Srv6.{srv6Capability, sizedOf, wrongOf, announcedOf}
+use Rattle.capability.specs.Srv6.{srv6Capability, announcedOf}
 use Rattle.open.specs.declared.walk.Place.{Place}
 use Rattle.open.specs.Open.{absent, headed, measured, sizeOf, framed, openTlvs, setupOf, srv6Of, listed, fitting, holding, sized, breaks1, breaks2, breaks3, carriesOf, openOf}
-use Rattle.open.specs.Walk.{Sight, torn, seen, nowhere, missingOf, keepOf, valueAt, Inside, orElse, insideOf, levelOf, onward, walkOf, carriedBy}
+use Rattle.open.specs.Walk.{Sight, torn, seen, nowhere, missingOf, keepOf, valueAt, Inside, orElse, insideOf, onward, walkOf, carriedBy}
 
 -- tests --------------------------------------------------------------------------------------------------------
 

@@ -8,7 +8,7 @@ use lib.Dec.{eqb, leb}
 use Rattle.octets.specs.Octets.{octetOf, be16}
 use Rattle.answers.specs.Numbers.{openMalformed, capabilityMissing, wrongMsd}
 use Rattle.session.specs.declared.Limit.{Limit}
-use Rattle.session.specs.declared.Limit.the-variants.{Free, Most}
+use Rattle.session.specs.declared.Limit.the-variants.{Free}
 use Rattle.session.specs.declared.Opened.{Opened}
 use Rattle.session.specs.Sessions.{openRefused, openCarries}
 use Rattle.items.specs.Tlvs.{Tlvs, tlvsOf, wholeOf, firstOf}

@@ -2,23 +2,16 @@ use Rattle.capability.specs.Msd.{knownMsd}
 use borrow.Author.Needs.{needs}
 use Rattle.capability.proofs.msd.known.Statement.{statement}
 use Rattle.capability.proofs.msd.known.Tie as tie
-use Rattle.capability.proofs.msd.known.Reads as reads
-use Rattle.capability.proofs.msd.known.Lts as lts
-use Rattle.octets.proofs.either.Reads as either-reads
 
--- src/msd.rt:20:9
 either-requires : tie.Need-either-requires
 either-requires c κs = search needs
 
--- src/msd.rt:21:9
 either-requires-2 : tie.Need-either-requires-2
 either-requires-2 c κs = search needs
 
--- src/msd.rt:22:5
 either-requires-3 : tie.Need-either-requires-3
 either-requires-3 c κs = search needs
 
--- src/msd.rt:17:1
 returns : tie.Need-returns
 unfolding knownMsd
 returns c = rw (c .either3 .ensures, c .before .either2 .ensures, c .before .before .either .ensures)

@@ -1,29 +1,22 @@
-use Rattle.session.specs.declared.Limit.the-variants.{Free, Most}
+use Rattle.session.specs.declared.Limit.the-variants.{Most}
 use native.Mathlib.Omega.{arith}
-use mathlib.Core.Path.{ap, sym, _∙_}
+use mathlib.Core.Path.{ap}
 use borrow.Author.Needs.{needs}
 use Rattle.capability.proofs.msd.least.Statement.{statement}
 use Rattle.capability.proofs.msd.least.Tie as tie
-use Rattle.capability.proofs.msd.least.Reads as reads
-use Rattle.capability.proofs.msd.least.Lts as lts
 
--- src/msd.rt:44:24
 enum-told : tie.Need-enum-told
 enum-told c = search needs
 
--- src/msd.rt:45:21
 enum-known-got : tie.Need-enum-known-got
 enum-known-got c = search needs
 
--- src/msd.rt:40:1
 returns : tie.Need-returns
 returns c = simp (c .enum-told .given .1)
 
--- src/msd.rt:40:1
 returns-2 : tie.Need-returns-2
 returns-2 c = rw (c .before .before .got .given .1) (ap Most (omega arith))
 
--- src/msd.rt:40:1
 returns-3 : tie.Need-returns-3
 returns-3 c = rw (c .before .before .got .given .1) (ap Most (omega arith))
 

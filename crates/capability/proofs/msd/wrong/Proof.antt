@@ -5,13 +5,9 @@ use borrow.Author.Tests.{not-true, not-false}
 use borrow.Author.Needs.{needs}
 use native.Mathlib.Omega.{arith}
 use mathlib.Core.Path.{_≡_, refl, sym, _∙_}
-use Prim.Native.Nat.{ℕ, _+_, _-_, _≤_, _<_}
+use Prim.Native.Nat.{_-_, _≤_}
 use Rattle.capability.proofs.msd.wrong.Statement.{statement}
 use Rattle.capability.proofs.msd.wrong.Tie as tie
-use Rattle.capability.proofs.msd.wrong.Reads as reads
-use Rattle.capability.proofs.msd.wrong.Lts as lts
-use Rattle.capability.proofs.msd.known.Reads as known-reads
-use Rattle.octets.proofs.wide.Reads as wide-reads
 
 abbrev Inv-loop : tie.InvT-loop
 Inv-loop p i₀ i = (i ≤ length p) × (wrongIn (pairsIn (drop i p)) ≡ wrongIn (pairsIn p))
@@ -19,47 +15,37 @@ Inv-loop p i₀ i = (i ≤ length p) × (wrongIn (pairsIn (drop i p)) ≡ wrongI
 abbrev μ-loop : tie.MeasureT-loop
 μ-loop p i₀ i = length p - i
 
--- src/msd.rt:30:5
 loop-holds : tie.Need-loop-holds Inv-loop μ-loop
 loop-holds c = (search needs, refl)
 
--- src/msd.rt:30:11
 add-loop : tie.Need-add-loop Inv-loop μ-loop
 add-loop c = search needs
 
--- src/msd.rt:31:32
 shared-slice-read-wide : tie.Need-shared-slice-read-wide Inv-loop μ-loop
 shared-slice-read-wide c = search needs
 
--- src/msd.rt:31:19
 wide-requires : tie.Need-wide-requires Inv-loop μ-loop
 wide-requires c κs = search needs
 
--- src/msd.rt:31:13
 known-requires : tie.Need-known-requires Inv-loop μ-loop
 known-requires c κs = search needs
 
--- src/msd.rt:32:13
 returns : tie.Need-returns Inv-loop μ-loop
 returns c = let l = c .before .before .before .before .before .loop in
     let k = rw (c .before .before .wide .ensures .0) at (sym (c .before .known .ensures) ∙ not-true _ (c .if1 .taken)) in
     sym (rw (pairs-next (c .before .before .before .before .before .before .before .args .p .now) (l .i) (c .before .before .before .before .loop-test .taken), k)) ∙ l .inv .1
 
--- src/msd.rt:34:13
 add-i : tie.Need-add-i Inv-loop μ-loop
 add-i c = search needs
 
--- src/msd.rt:30:5
 loop-less : tie.Need-loop-less Inv-loop μ-loop
 loop-less c = search needs
 
--- src/msd.rt:30:5
 loop-again : tie.Need-loop-again Inv-loop μ-loop
 loop-again c = let l = c .before .before .before .before .before .loop in
     let k = rw (c .before .before .wide .ensures .0) at (sym (c .before .known .ensures) ∙ not-false _ (c .if1 .left)) in
     (omega arith, sym (rw (pairs-next (c .before .before .before .before .before .before .before .args .p .now) (l .i) (c .before .before .before .before .loop-test .taken), k)) ∙ l .inv .1)
 
--- src/msd.rt:26:1
 returns-2 : tie.Need-returns-2 Inv-loop μ-loop
 returns-2 c = sym (rw (pairs-end (c .before .before .before .args .p .now) (c .before .loop .i) (c .loop-test .left))) ∙ c .before .loop .inv .1
 

@@ -3,74 +3,54 @@ use Rattle.capability.specs.Srv6.{announcedOf, sizedOf, nOf, xOf, wrongO
 use Rattle.octets.proofs.Laws.{rest-lent}
 use borrow.Author.Tests.{eq-eqb, ne-eqb, not-true, not-false}
 use lib.ListN.{length}
-use mathlib.Core.Path.{_≡_, refl, ap, sym, _∙_}
+use mathlib.Core.Path.{sym, _∙_}
 use native.Mathlib.Omega.{arith}
 use lib.Dec.{eqb}
 use Prim.Native.Nat.{_≤_, _%_}
 use borrow.Author.Needs.{needs}
 use Rattle.capability.proofs.srv6.announced.Statement.{statement}
 use Rattle.capability.proofs.srv6.announced.Tie as tie
-use Rattle.capability.proofs.srv6.announced.Reads as reads
-use Rattle.capability.proofs.srv6.announced.Lts as lts
-use Rattle.capability.proofs.msd.lowest.Reads as lowest-reads
-use Rattle.capability.proofs.msd.wrong.Reads as wrong-reads
-use Rattle.octets.proofs.both.Reads as both-reads
-use Rattle.octets.proofs.octet.Reads as octet-reads
-use Rattle.session.proofs.carried.Reads as carried-reads
-use Rattle.session.proofs.refused_open.Reads as refused-open-reads
 
 -- With a size that is not refused, the pairs start within the value.
 long : (c : tie.Else1) → 4 ≤ length (c .before .before .before .args .w .now)
 long c = and-leb (eqb (length (c .before .before .before .args .w .now) % 2) 0) 4 (length (c .before .before .before .args .w .now)) (sym (c .before .both .ensures) ∙ not-false _ (c .if1 .left))
 
--- src/srv6.rt:25:9
 both-requires : tie.Need-both-requires
 both-requires c κs = search needs
 
--- src/srv6.rt:26:9
 refused-open-requires : tie.Need-refused-open-requires
 refused-open-requires c κs = search needs
 
--- src/srv6.rt:26:9
 returns : tie.Need-returns
 unfolding announcedOf sizedOf
 returns c = rw (c .refused-open .ensures, sym (c .before .before .both .ensures) ∙ not-true _ (c .before .if1 .taken))
 
--- src/srv6.rt:28:9
 octet-requires : tie.Need-octet-requires
 octet-requires c κs = search needs
 
--- src/srv6.rt:31:9
 carried-requires : tie.Need-carried-requires
 carried-requires c κs = search needs
 
--- src/srv6.rt:31:9
 returns-2 : tie.Need-returns-2
 unfolding announcedOf sizedOf wrongOf xOf nOf limitOf
 returns-2 c = rw (c .carried .ensures, sym (c .before .before .before .before .both .ensures) ∙ not-false _ (c .before .before .before .if1 .left))
     (simp (← c .before .before .octet .ensures .0, eq-eqb _ _ (c .before .if2 .taken)))
 
--- src/srv6.rt:33:26
 sub-wrong : tie.Need-sub-wrong
 sub-wrong c = long (c .before .before)
 
--- src/srv6.rt:33:26
 part-wrong-start : tie.Need-part-wrong-start
 part-wrong-start c = omega (arith, long (c .before .before))
 
--- src/srv6.rt:33:26
 part-wrong-end : tie.Need-part-wrong-end
 part-wrong-end c = search needs
 
--- src/srv6.rt:33:8
 wrong-requires : tie.Need-wrong-requires
 wrong-requires c κs = search needs
 
--- src/srv6.rt:34:9
 refused-open-requires-2 : tie.Need-refused-open-requires-2
 refused-open-requires-2 c κs = search needs
 
--- src/srv6.rt:34:9
 returns-3 : tie.Need-returns-3
 unfolding announcedOf sizedOf wrongOf xOf
 returns-3 c = rw (c .refused-open2 .ensures, sym (c .before .before .before .before .before .before .before .both .ensures) ∙ not-false _ (c .before .before .before .before .before .before .if1 .left))
@@ -80,27 +60,21 @@ returns-3 c = rw (c .refused-open2 .ensures, sym (c .before .before .before .bef
       rw rest-lent at (sym (c .before .before .wrong .ensures) ∙ c .before .if3 .taken),
     ))
 
--- src/srv6.rt:36:50
 sub-lowest : tie.Need-sub-lowest
 sub-lowest c = long (c .before .before .before .before .before)
 
--- src/srv6.rt:36:50
 part-lowest-start : tie.Need-part-lowest-start
 part-lowest-start c = omega (arith, long (c .before .before .before .before .before))
 
--- src/srv6.rt:36:50
 part-lowest-end : tie.Need-part-lowest-end
 part-lowest-end c = search needs
 
--- src/srv6.rt:36:31
 lowest-requires : tie.Need-lowest-requires
 lowest-requires c κs = search needs
 
--- src/srv6.rt:36:5
 carried-requires-2 : tie.Need-carried-requires-2
 carried-requires-2 c κs = search needs
 
--- src/srv6.rt:22:1
 returns-4 : tie.Need-returns-4
 unfolding announcedOf sizedOf wrongOf xOf nOf limitOf
 returns-4 c = rw (c .carried2 .ensures, sym (c .before .before .before .before .before .before .before .before .before .both .ensures) ∙ not-false _ (c .before .before .before .before .before .before .before .before .if1 .left))

@@ -1,22 +1,15 @@
 use Rattle.open.proofs.Laws.{part-lent, value-missing, value-there}
 use Rattle.open.specs.Walk.{missingOf}
-use Rattle.capability.specs.SetupTypes.{listSize, listsSrv6}
+use Rattle.capability.specs.SetupTypes.{listsSrv6}
 use Rattle.octets.proofs.Laws.{length-part}
 use Rattle.octets.specs.Octets.{part}
 use borrow.Author.Tests.{eq-eqb, ne-eqb, not-true, not-false}
 use mathlib.Core.Bool.{false}
-use mathlib.Core.Path.{_≡_, refl, sym, _∙_}
+use mathlib.Core.Path.{_≡_, sym, _∙_}
 use native.Mathlib.Omega.{arith}
-use Prim.Native.Nat.{_+_, _≤_}
 use borrow.Author.Needs.{needs}
 use Rattle.open.proofs.object.carried_by.Statement.{statement}
 use Rattle.open.proofs.object.carried_by.Tie as tie
-use Rattle.open.proofs.object.carried_by.Reads as reads
-use Rattle.open.proofs.object.carried_by.Lts as lts
-use Rattle.capability.proofs.lists_srv6.Reads as lists-srv6-reads
-use Rattle.capability.proofs.announced.Reads as announced-reads
-use Rattle.session.proofs.carried.Reads as carried-reads
-use Rattle.session.proofs.refused_open.Reads as refused-open-reads
 
 -- where TLV 34 is known
 there : (c : tie.Else1) → missingOf (c .before .before .before .args .list) ≡ false
@@ -27,50 +20,39 @@ listing : (c : tie.After-lists-srv6)
     → (let a = c .before .before .before .before .before .before .args in c .lists-srv6 .result ≡ listsSrv6 (part (a .s .now) (a .list .from) (a .list .len)))
 listing c = let a = c .before .before .before .before .before .before .args in rw (part-lent (a .s .now) (a .list .from) (a .list .len)) at (c .lists-srv6 .ensures)
 
--- src/object.rt:64:9
 carried-requires : tie.Need-carried-requires
 carried-requires c κs = search needs
 
--- src/object.rt:64:9
 returns : tie.Need-returns
 returns c = let a = c .before .before .before .before .args in rw (c .carried .ensures, value-missing (a .s .now) (a .list) (eq-eqb _ _ (c .before .if1 .taken)))
 
--- src/object.rt:67:16
 add-stop : tie.Need-add-stop
 add-stop c = search needs
 
--- src/object.rt:68:32
 sub-lists-srv6 : tie.Need-sub-lists-srv6
 sub-lists-srv6 c = search needs
 
--- src/object.rt:68:32
 part-lists-srv6-start : tie.Need-part-lists-srv6-start
 part-lists-srv6-start c = search needs
 
--- src/object.rt:68:32
 part-lists-srv6-end : tie.Need-part-lists-srv6-end
 part-lists-srv6-end c = search needs
 
--- src/object.rt:68:9
 lists-srv6-requires : tie.Need-lists-srv6-requires
 lists-srv6-requires c κs = let a = c .before .before .before .before .before .args in
     rw (part-lent (a .s .now) (a .list .from) (a .list .len), length-part (a .s .now) (a .list .from) (a .list .len) (omega arith))
     (c .before .before .before .before .before .pre .0 .1 (there (c .before .before)))
 
--- src/object.rt:69:9
 carried-requires-2 : tie.Need-carried-requires-2
 carried-requires-2 c κs = search needs
 
--- src/object.rt:69:9
 returns-2 : tie.Need-returns-2
 returns-2 c = let a = c .before .before .before .before .before .before .before .before .args in
     rw (c .carried2 .ensures, value-there (a .s .now) (a .list) (there (c .before .before .before .before .before)), sym (listing (c .before .before)) ∙ not-true _ (c .before .if2 .taken))
 
--- src/object.rt:72:9
 refused-open-requires : tie.Need-refused-open-requires
 refused-open-requires c κs = search needs
 
--- src/object.rt:72:9
 returns-3 : tie.Need-returns-3
 returns-3 c = let a = c .before .before .before .before .before .before .before .before .before .before .args in
     rw (
@@ -80,27 +62,21 @@ returns-3 c = let a = c .before .before .before .before .before .before .before 
       value-missing (a .s .now) (a .sub) (eq-eqb _ _ (c .before .if3 .taken)),
     )
 
--- src/object.rt:75:16
 add-last : tie.Need-add-last
 add-last c = search needs
 
--- src/object.rt:76:27
 sub-announced : tie.Need-sub-announced
 sub-announced c = search needs
 
--- src/object.rt:76:27
 part-announced-start : tie.Need-part-announced-start
 part-announced-start c = search needs
 
--- src/object.rt:76:27
 part-announced-end : tie.Need-part-announced-end
 part-announced-end c = search needs
 
--- src/object.rt:76:5
 announced-requires : tie.Need-announced-requires
 announced-requires c κs = search needs
 
--- src/object.rt:59:1
 returns-4 : tie.Need-returns-4
 returns-4 c = let a = c .before .before .before .before .before .before .before .before .before .before .before .before .args in
     rw (

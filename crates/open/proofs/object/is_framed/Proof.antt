@@ -3,55 +3,40 @@ use borrow.Author.Tests.{eqb-true}
 use lib.Dec.{eqb}
 use lib.ListN.{length}
 use mathlib.Core.Bool.{false≢true}
-use mathlib.Core.Path.{_≡_, refl, sym, _∙_}
+use mathlib.Core.Path.{sym, _∙_}
 use native.Mathlib.Omega.{arith}
-use Prim.Native.Nat.{_≤_, _%_}
+use Prim.Native.Nat.{_%_}
 use borrow.Author.Needs.{needs}
 use Rattle.open.proofs.object.is_framed.Statement.{statement}
 use Rattle.open.proofs.object.is_framed.Tie as tie
-use Rattle.open.proofs.object.is_framed.Reads as reads
-use Rattle.open.proofs.object.is_framed.Lts as lts
-use Rattle.octets.proofs.both.Reads as both-reads
-use Rattle.octets.proofs.octet.Reads as octet-reads
-use Rattle.octets.proofs.read16.Reads as read16-reads
 
--- src/object.rt:51:9
 returns : tie.Need-returns
 returns c = (sym (framed-short (c .before .before .args .s .now) (c .if1 .taken)), λ e. absurd (false≢true e))
 
--- src/object.rt:53:17
 octet-requires : tie.Need-octet-requires
 octet-requires c κs = search needs
 
--- src/object.rt:54:16
 octet-requires-2 : tie.Need-octet-requires-2
 octet-requires-2 c κs = search needs
 
--- src/object.rt:55:19
 octet-requires-3 : tie.Need-octet-requires-3
 octet-requires-3 c κs = search needs
 
--- src/object.rt:56:16
 read16-requires : tie.Need-read16-requires
 read16-requires c κs = search needs
 
--- src/object.rt:57:31
 both-requires : tie.Need-both-requires
 both-requires c κs = search needs
 
--- src/object.rt:57:9
 both-requires-2 : tie.Need-both-requires-2
 both-requires-2 c κs = search needs
 
--- src/object.rt:58:26
 both-requires-3 : tie.Need-both-requires-3
 both-requires-3 c κs = search needs
 
--- src/object.rt:58:5
 both-requires-4 : tie.Need-both-requires-4
 both-requires-4 c κs = search needs
 
--- src/object.rt:46:1
 returns-2 : tie.Need-returns-2
 returns-2 c = let s = c .before .before .before .before .before .before .before .before .before .before .args .s .now in
     let n = c .before .before .before .before .read16 .result in (

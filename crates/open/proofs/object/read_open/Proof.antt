@@ -2,21 +2,14 @@ use Rattle.open.proofs.Laws.{long-framed, part-rest, unframed, answered
 use Rattle.open.specs.Open.{framed}
 use Rattle.open.specs.Walk.{sightOf, walkOf}
 use Rattle.capability.specs.Srv6.{srv6Capability}
-use lib.ListN.{length, drop}
+use lib.ListN.{drop}
 use mathlib.Core.Bool.{true, false}
-use Prim.Native.Nat.{_≤_}
 use borrow.Author.Tests.{not-true, not-false}
-use mathlib.Core.Path.{_≡_, refl, sym, _∙_}
+use mathlib.Core.Path.{_≡_, sym, _∙_}
 use native.Mathlib.Omega.{arith}
 use borrow.Author.Needs.{needs}
 use Rattle.open.proofs.object.read_open.Statement.{statement}
 use Rattle.open.proofs.object.read_open.Tie as tie
-use Rattle.open.proofs.object.read_open.Reads as reads
-use Rattle.open.proofs.object.read_open.Lts as lts
-use Rattle.open.proofs.object.carried_by.Reads as carried-by-reads
-use Rattle.open.proofs.object.is_framed.Reads as is-framed-reads
-use Rattle.open.proofs.walk.walk.Reads as walk-reads
-use Rattle.session.proofs.refused_open.Reads as refused-open-reads
 
 good : (c : tie.Else1) → framed (c .before .before .before .args .s .now) ≡ true
 good c = sym (c .before .is-framed .ensures .0) ∙ not-false _ (c .if1 .left)
@@ -25,44 +18,34 @@ good c = sym (c .before .is-framed .ensures .0) ∙ not-false _ (c .if1 .left)
 walked : (c : tie.After-walk) → sightOf (c .before .before .before .before .args .s .now) (c .walk .result) ≡ walkOf false srv6Capability (drop 8 (c .before .before .before .before .args .s .now))
 walked c = rw (part-rest (c .before .before .before .before .args .s .now) 8) at (c .walk .ensures .0)
 
--- src/object.rt:86:9
 is-framed-requires : tie.Need-is-framed-requires
 is-framed-requires c κs = search needs
 
--- src/object.rt:87:9
 refused-open-requires : tie.Need-refused-open-requires
 refused-open-requires c κs = search needs
 
--- src/object.rt:87:9
 returns : tie.Need-returns
 returns c = c .refused-open .ensures ∙ unframed _ (sym (c .before .before .is-framed .ensures .0) ∙ not-true _ (c .before .if1 .taken))
 
--- src/object.rt:89:11
 walk-requires : tie.Need-walk-requires
 walk-requires c κs = let h = long-framed _ (good c) in omega (arith, c .before .is-framed .ensures .1 (not-false _ (c .if1 .left)))
 
--- src/object.rt:90:23
 enum-told : tie.Need-enum-told
 enum-told c = search needs
 
--- src/object.rt:90:23
 refused-open-requires-2 : tie.Need-refused-open-requires-2
 refused-open-requires-2 c κs = search needs
 
--- src/object.rt:91:22
 enum-known-list : tie.Need-enum-known-list
 enum-known-list c = search needs
 
--- src/object.rt:91:36
 carried-by-requires : tie.Need-carried-by-requires
 carried-by-requires c κs = rw (c .before .list .given .1) at (c .before .before .before .walk .ensures .1)
 
--- src/object.rt:83:1
 returns-2 : tie.Need-returns-2
 returns-2 c = c .refused-open2 .ensures
     ∙ rw (← rw (c .before .enum-told .given .1) at (walked (c .before .before .before))) at (answered _ (good (c .before .before .before .before)))
 
--- src/object.rt:83:1
 returns-3 : tie.Need-returns-3
 returns-3 c = c .carried-by .ensures
     ∙ rw (← rw (c .before .before .list .given .1) at (walked (c .before .before .before .before))) at (answered _ (good (c .before .before .before .before .before)))

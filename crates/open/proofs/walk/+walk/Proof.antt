@@ -1,23 +1,21 @@
 use Rattle.open.proofs.Laws
-use Rattle.open.specs.Walk.{Sight, torn, seen, nowhere, valueAt, missingOf, keepOf, Inside, Listed, sightOf, insideOf, onward, walkOf}
-use Rattle.open.specs.Open.{absent}
+use Rattle.open.specs.Walk.{Sight, torn, nowhere, valueAt, missingOf, keepOf, Inside, Listed, sightOf, insideOf, onward, walkOf}
 use Rattle.open.specs.declared.walk.Place.{Place}
 use Rattle.capability.specs.SetupTypes.{pathSetup, listSize, holdsList}
-use Rattle.items.proofs.Laws.{drop-part}
-use Rattle.items.specs.declared.Item.the-variants.{Whole, Broken}
+use Rattle.items.specs.declared.Item.the-variants.{Whole}
 use Rattle.items.specs.Places.{Within}
 use Rattle.items.specs.Tlvs.{Tlvs, tlv, wholeOf}
 use Rattle.octets.proofs.Laws.{length-part}
 use Rattle.octets.specs.Octets.{part}
 use lib.Dec.{eqb}
 use lib.ListN.{length, drop}
-use borrow.Author.Tests.{eq-eqb, ne-eqb, lt-ltb, le-ltb, le-leb, lt-leb}
+use borrow.Author.Tests.{ne-eqb, le-leb, lt-leb}
 use borrow.Author.Needs.{needs}
 use native.Mathlib.Omega.{arith}
-use mathlib.Core.Option.{Option, none, some}
-use mathlib.Core.Bool.{Bool, true, false, cond, _&&_, false≢true}
-use mathlib.Core.Path.{_≡_, refl, sym, _∙_}
-use Prim.Native.Nat.{ℕ, suc, pred, _+_, _-_, _≤_, _<_}
+use mathlib.Core.Option.{some}
+use mathlib.Core.Bool.{true, false, cond, false≢true}
+use mathlib.Core.Path.{_≡_, sym, _∙_}
+use Prim.Native.Nat.{ℕ, _+_, _-_, _≤_, _<_}
 use Prim.Native.Nat.{ℕ, _<_}
 use borrow.Fn.Kinds.{In}
 use borrow.Fn.PlainCycle.{Measures, is, falls, and}
@@ -220,7 +218,6 @@ walked t c =
     Laws.inside-found (r .before .before .before .before .before .before .before .args .s .now) (r .before .before .before .before .before .before .before .args .want) (v .1 .0) (v .1 .1 .0) (c .before .before .list-size .result)
     (size-same t (c .before .before)) (c .before .if3 .left) (omega arith) (c .walk .ensures .0)
 
--- src/walk.rt:54:5
 walk-loop-holds : (t : ℕ) → walk-lts.Need-loop-holds (
   item-at-reads.Asked,
   item-at-reads.Learnt,
@@ -236,7 +233,6 @@ walk-loop-holds : (t : ℕ) → walk-lts.Need-loop-holds (
 walk-loop-holds t c = let a = c .before .args in
     (search needs, (omega arith, λ e. absurd (false≢true (sym e))), omega arith, Laws.left-start (a .inner) (a .want) (a .s .now) (a .start) (a .end) (omega arith) (omega arith))
 
--- src/walk.rt:55:15
 walk-item-at-requires : (t : ℕ) → walk-lts.Need-item-at-requires (
   item-at-reads.Asked,
   item-at-reads.Learnt,
@@ -251,7 +247,6 @@ walk-item-at-requires : (t : ℕ) → walk-lts.Need-item-at-requires (
 ) (walk-at t) walk.Post walk-Inv-loop walk-μ-loop
 walk-item-at-requires t c κs = search needs
 
--- src/walk.rt:57:17
 walk-enum-told : (t : ℕ) → walk-lts.Need-enum-told (
   item-at-reads.Asked,
   item-at-reads.Learnt,
@@ -266,7 +261,6 @@ walk-enum-told : (t : ℕ) → walk-lts.Need-enum-told (
 ) (walk-at t) walk.Post walk-Inv-loop walk-μ-loop
 walk-enum-told t c = search needs
 
--- src/walk.rt:57:17
 walk-returns : (t : ℕ) → walk-lts.Need-returns (
   item-at-reads.Asked,
   item-at-reads.Learnt,
@@ -282,7 +276,6 @@ walk-returns : (t : ℕ) → walk-lts.Need-returns (
 walk-returns t c = let l = c .before .before .before .before .loop in
     (Laws.left-broken (l .inv .3) (c .before .before .before .loop-test .taken) (omega arith) (sym (c .before .before .item-at .ensures .0) ∙ c .enum-told .given .1), tt)
 
--- src/walk.rt:60:17
 walk-enum-known-kind : (t : ℕ) → walk-lts.Need-enum-known-kind (
   item-at-reads.Asked,
   item-at-reads.Learnt,
@@ -297,7 +290,6 @@ walk-enum-known-kind : (t : ℕ) → walk-lts.Need-enum-known-kind (
 ) (walk-at t) walk.Post walk-Inv-loop walk-μ-loop
 walk-enum-known-kind t c = search needs
 
--- src/walk.rt:66:21
 walk-keep-requires : (t : ℕ) → walk-lts.Need-keep-requires (
   item-at-reads.Asked,
   item-at-reads.Learnt,
@@ -312,7 +304,6 @@ walk-keep-requires : (t : ℕ) → walk-lts.Need-keep-requires (
 ) (walk-at t) walk.Post walk-Inv-loop walk-μ-loop
 walk-keep-requires t c κs = search needs
 
--- src/walk.rt:67:27
 walk-both-requires : (t : ℕ) → walk-lts.Need-both-requires (
   item-at-reads.Asked,
   item-at-reads.Learnt,
@@ -327,7 +318,6 @@ walk-both-requires : (t : ℕ) → walk-lts.Need-both-requires (
 ) (walk-at t) walk.Post walk-Inv-loop walk-μ-loop
 walk-both-requires t c κs = search needs
 
--- src/walk.rt:68:32
 walk-add-stop : (t : ℕ) → walk-lts.Need-add-stop (
   item-at-reads.Asked,
   item-at-reads.Learnt,
@@ -342,7 +332,6 @@ walk-add-stop : (t : ℕ) → walk-lts.Need-add-stop (
 ) (walk-at t) walk.Post walk-Inv-loop walk-μ-loop
 walk-add-stop t c = let b = within t (c .before .before .before .before) in omega arith
 
--- src/walk.rt:69:54
 walk-sub-list-size : (t : ℕ) → walk-lts.Need-sub-list-size (
   item-at-reads.Asked,
   item-at-reads.Learnt,
@@ -357,7 +346,6 @@ walk-sub-list-size : (t : ℕ) → walk-lts.Need-sub-list-size (
 ) (walk-at t) walk.Post walk-Inv-loop walk-μ-loop
 walk-sub-list-size t c = search needs
 
--- src/walk.rt:69:54
 walk-part-list-size-start : (t : ℕ) → walk-lts.Need-part-list-size-start (
   item-at-reads.Asked,
   item-at-reads.Learnt,
@@ -372,7 +360,6 @@ walk-part-list-size-start : (t : ℕ) → walk-lts.Need-part-list-size-start (
 ) (walk-at t) walk.Post walk-Inv-loop walk-μ-loop
 walk-part-list-size-start t c = search needs
 
--- src/walk.rt:69:54
 walk-part-list-size-end : (t : ℕ) → walk-lts.Need-part-list-size-end (
   item-at-reads.Asked,
   item-at-reads.Learnt,
@@ -387,7 +374,6 @@ walk-part-list-size-end : (t : ℕ) → walk-lts.Need-part-list-size-end (
 ) (walk-at t) walk.Post walk-Inv-loop walk-μ-loop
 walk-part-list-size-end t c = let b = within t (c .before .before .before .before) in omega arith
 
--- src/walk.rt:69:25
 walk-list-size-requires : (t : ℕ) → walk-lts.Need-list-size-requires (
   item-at-reads.Asked,
   item-at-reads.Learnt,
@@ -402,7 +388,6 @@ walk-list-size-requires : (t : ℕ) → walk-lts.Need-list-size-requires (
 ) (walk-at t) walk.Post walk-Inv-loop walk-μ-loop
 walk-list-size-requires t c κs = search needs
 
--- src/walk.rt:71:25
 walk-returns-2 : (t : ℕ) → walk-lts.Need-returns-2 (
   item-at-reads.Asked,
   item-at-reads.Learnt,
@@ -421,7 +406,6 @@ walk-returns-2 t c = let r = c .before .before .before .before .before .before .
     let e : holdsList v ≡ false = lt-leb (listSize v) (length v) (omega (arith, size-same t (c .before), value-long t (c .before), c .if3 .taken)) in
     (stopped t r (λ rest. entered t (c .before .before .before) rest ∙ Laws.inside-unheld (a .want) (valueAt (a .s .now) (r .before .before .before .before .before .loop .sub)) v (wholeOf rest) e), tt)
 
--- src/walk.rt:73:35
 walk-add-walk : (t : ℕ) → walk-lts.Need-add-walk (
   item-at-reads.Asked,
   item-at-reads.Learnt,
@@ -436,7 +420,6 @@ walk-add-walk : (t : ℕ) → walk-lts.Need-add-walk (
 ) (walk-at t) walk.Post walk-Inv-loop walk-μ-loop
 walk-add-walk t c = let b = within t (c .before .before .before .before .before .before .before) in omega arith
 
--- src/walk.rt:73:27
 walk-walk-requires : (t : ℕ) → walk-lts.Need-walk-requires (
   item-at-reads.Asked,
   item-at-reads.Learnt,
@@ -451,7 +434,6 @@ walk-walk-requires : (t : ℕ) → walk-lts.Need-walk-requires (
 ) (walk-at t) walk.Post walk-Inv-loop walk-μ-loop
 walk-walk-requires t c κs = let b = within t (c .before .before .before .before .before .before .before) in (rw (← c .before .before .before .before .before .before .before .before .before .before .before .before .before .before .pre .0) (omega arith), omega arith)
 
--- src/walk.rt:75:29
 walk-enum-told-2 : (t : ℕ) → walk-lts.Need-enum-told-2 (
   item-at-reads.Asked,
   item-at-reads.Learnt,
@@ -466,7 +448,6 @@ walk-enum-told-2 : (t : ℕ) → walk-lts.Need-enum-told-2 (
 ) (walk-at t) walk.Post walk-Inv-loop walk-μ-loop
 walk-enum-told-2 t c = search needs
 
--- src/walk.rt:75:29
 walk-returns-3 : (t : ℕ) → walk-lts.Need-returns-3 (
   item-at-reads.Asked,
   item-at-reads.Learnt,
@@ -485,7 +466,6 @@ walk-returns-3 t c = let r = c .before .before .before .before .before .before .
     let w = rw (c .enum-told2 .given .1) at (walked t (c .before .before)) in
     (stopped t r (λ rest. entered t (c .before .before .before .before .before .before) rest ∙ Laws.inside-torn (a .want) (valueAt (a .s .now) (r .before .before .before .before .before .loop .sub)) v (wholeOf rest) (held t (c .before .before .before)) w), tt)
 
--- src/walk.rt:77:38
 walk-enum-known-outer : (t : ℕ) → walk-lts.Need-enum-known-outer (
   item-at-reads.Asked,
   item-at-reads.Learnt,
@@ -500,7 +480,6 @@ walk-enum-known-outer : (t : ℕ) → walk-lts.Need-enum-known-outer (
 ) (walk-at t) walk.Post walk-Inv-loop walk-μ-loop
 walk-enum-known-outer t c = search needs
 
--- src/walk.rt:54:5
 walk-loop-less : (t : ℕ) → walk-lts.Need-loop-less (
   item-at-reads.Asked,
   item-at-reads.Learnt,
@@ -515,7 +494,6 @@ walk-loop-less : (t : ℕ) → walk-lts.Need-loop-less (
 ) (walk-at t) walk.Post walk-Inv-loop walk-μ-loop
 walk-loop-less t c = let b = within t (c .before .before) in omega arith
 
--- src/walk.rt:54:5
 walk-loop-again : (t : ℕ) → walk-lts.Need-loop-again (
   item-at-reads.Asked,
   item-at-reads.Learnt,
@@ -539,7 +517,6 @@ walk-loop-again t c = let r = c .before .before in
     (λ rest. rw (c .before .if1 .taken, ← Laws.value-kept (l .sub) (eqb (v .0) (a .want)) (v .1 .0) (v .1 .1 .0) (a .s .now) (there t r))
     (Laws.onward-inner (a .want) (v .0) (part (a .s .now) (v .1 .0) (v .1 .1 .0)) rest (valueAt (a .s .now) (l .list)) (valueAt (a .s .now) (l .sub)))))
 
--- src/walk.rt:54:5
 walk-loop-less-2 : (t : ℕ) → walk-lts.Need-loop-less-2 (
   item-at-reads.Asked,
   item-at-reads.Learnt,
@@ -554,7 +531,6 @@ walk-loop-less-2 : (t : ℕ) → walk-lts.Need-loop-less-2 (
 ) (walk-at t) walk.Post walk-Inv-loop walk-μ-loop
 walk-loop-less-2 t c = let b = within t (c .before .before .before .before .before .before .before .before .before .before .before) in omega arith
 
--- src/walk.rt:54:5
 walk-loop-again-2 : (t : ℕ) → walk-lts.Need-loop-again-2 (
   item-at-reads.Asked,
   item-at-reads.Learnt,
@@ -582,7 +558,6 @@ walk-loop-again-2 t c = let r = c .before .before .before .before .before .befor
     ∙ Laws.inside-seen (a .want) (valueAt (a .s .now) (r .before .before .before .before .before .loop .sub)) p (wholeOf rest) (held t (c .before .before .before .before)) w
     ∙ Laws.onward-found (a .inner) (a .want) p (valueAt (a .s .now) inside) rest (c .before .before .before .before .before .before .before .before .before .before .if1 .left)))
 
--- src/walk.rt:54:5
 walk-loop-less-3 : (t : ℕ) → walk-lts.Need-loop-less-3 (
   item-at-reads.Asked,
   item-at-reads.Learnt,
@@ -597,7 +572,6 @@ walk-loop-less-3 : (t : ℕ) → walk-lts.Need-loop-less-3 (
 ) (walk-at t) walk.Post walk-Inv-loop walk-μ-loop
 walk-loop-less-3 t c = let b = within t (c .before .before .before .before) in omega arith
 
--- src/walk.rt:54:5
 walk-loop-again-3 : (t : ℕ) → walk-lts.Need-loop-again-3 (
   item-at-reads.Asked,
   item-at-reads.Learnt,
@@ -620,7 +594,6 @@ walk-loop-again-3 t c = let r = c .before .before .before .before in
     (Laws.onward-past (a .want) (v .0) (part (a .s .now) (v .1 .0) (v .1 .1 .0)) rest (valueAt (a .s .now) (l .list)) (valueAt (a .s .now) (l .sub))
     (rw (Laws.absent-missing (a .s .now) (l .list)) f)))
 
--- src/walk.rt:40:1
 walk-returns-4 : (t : ℕ) → walk-lts.Need-returns-4 (
   item-at-reads.Asked,
   item-at-reads.Learnt,

@@ -2,19 +2,13 @@ use mathlib.Core.Path.{sym, _∙_}
 use borrow.Author.Needs.{needs}
 use Rattle.open.proofs.walk.keep.Statement.{statement}
 use Rattle.open.proofs.walk.keep.Tie as tie
-use Rattle.open.proofs.walk.keep.Reads as reads
-use Rattle.open.proofs.walk.keep.Lts as lts
-use Rattle.octets.proofs.both.Reads as both-reads
 
--- src/walk.rt:33:8
 both-requires : tie.Need-both-requires
 both-requires c κs = search needs
 
--- src/walk.rt:34:9
 returns : tie.Need-returns
 returns c = rw (sym (c .before .both .ensures) ∙ c .if1 .taken)
 
--- src/walk.rt:30:1
 returns-2 : tie.Need-returns-2
 returns-2 c = rw (sym (c .before .both .ensures) ∙ c .if1 .left)
 
