@@ -1,0 +1,65 @@
+-- The lines that the programs answer by (console.md, the table's last column; document 01, the checking program).
+use Prim.Native.Nat.{ℕ}
+use mathlib.Core.List.{List, [], _∷_, _++_}
+use Rattle.answers.specs.declared.verdict.Verdict.{Verdict}
+use Rattle.printing.specs.Text.{decimalOf, octetsText, spaced}
+
+-- ## Lines
+
+abbrev pub newline : ℕ
+newline = 10
+
+-- words behind a line's first, and the newline
+abbrev pub onward : List (List ℕ) → List ℕ
+onward [] = newline ∷ []
+onward (w ∷ ws) = spaced w ++ onward ws
+
+-- words separated by one space, and the newline
+abbrev pub lineOf : List ℕ → List (List ℕ) → List ℕ
+lineOf w ws = w ++ onward ws
+
+-- "Every acceptance begins `0 0`"
+abbrev pub acceptance : List (List ℕ) → List ℕ
+acceptance ws = lineOf (48 ∷ []) ((48 ∷ []) ∷ ws)
+
+-- ## The lines
+
+-- "Every refusal is answered `NUMBER PLACE`"
+abbrev pub refusalLine : ℕ → ℕ → List ℕ
+refusalLine number place = lineOf (decimalOf number) (decimalOf place ∷ [])
+
+-- `bad line N`
+abbrev pub badLine : ℕ → List ℕ
+badLine n = lineOf (98 ∷ 97 ∷ 100 ∷ []) ((108 ∷ 105 ∷ 110 ∷ 101 ∷ []) ∷ decimalOf n ∷ [])
+
+-- `0 0`
+abbrev pub doneLine : List ℕ
+doneLine = acceptance []
+
+-- `0 0 COUNT`, `0 0 AT`
+abbrev pub oneLine : ℕ → List ℕ
+oneLine a = acceptance (decimalOf a ∷ [])
+
+-- `0 0 S W`, `0 0 VERSION FLOOR`
+abbrev pub twoLine : ℕ → ℕ → List ℕ
+twoLine a b = acceptance (decimalOf a ∷ decimalOf b ∷ [])
+
+-- `0 0 OCTETS`
+abbrev pub octetsLine : List ℕ → List ℕ
+octetsLine s = acceptance (octetsText s ∷ [])
+
+-- `0 0 path KEY VERSION OCTETS`
+abbrev pub pathLine : ℕ → ℕ → List ℕ → List ℕ
+pathLine key version s = acceptance ((112 ∷ 97 ∷ 116 ∷ 104 ∷ []) ∷ decimalOf key ∷ decimalOf version ∷ octetsText s ∷ [])
+
+-- `0 0 removed KEY VERSION`
+abbrev pub removedLine : ℕ → ℕ → List ℕ
+removedLine key version = acceptance ((114 ∷ 101 ∷ 109 ∷ 111 ∷ 118 ∷ 101 ∷ 100 ∷ []) ∷ decimalOf key ∷ decimalOf version ∷ [])
+
+-- `0 0 level VERSION`
+abbrev pub levelLine : ℕ → List ℕ
+levelLine version = acceptance ((108 ∷ 101 ∷ 118 ∷ 101 ∷ 108 ∷ []) ∷ decimalOf version ∷ [])
+
+-- The checking program's line: "number, place, count"
+abbrev pub verdictLine : Verdict → List ℕ
+verdictLine v = lineOf (decimalOf (v .number)) (decimalOf (v .place) ∷ decimalOf (v .count) ∷ [])
