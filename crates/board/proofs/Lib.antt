@@ -1,1 +1,3 @@
 pub mod Shared
+pub mod Verdicts
+pub mod Keeps

@@ -1,6 +1,6 @@
 -- Report (document 01, "The board": "Report (key, ERO, session, PST): 17, 18, the route checks, 19, 20, 21").
 use Prim.Native.Nat.{ℕ, _*_}
-use mathlib.Core.Bool.{Bool, not, cond}
+use mathlib.Core.Bool.{Bool, true, not, cond}
 use mathlib.Core.List.{List}
 use lib.ListN.{length, drop}
 use lib.Dec.{eqb, ltb, leb}
@@ -8,6 +8,8 @@ use Rattle.answers.specs.declared.verdict.Verdict.{Verdict}
 use Rattle.answers.specs.Numbers.{notABoard, keyOutOfRange, bodyTooLong, versionsUsedUp, allPaths}
 use Rattle.answers.specs.Verdicts.{refusedBy, kept}
 use Rattle.octets.specs.Octets.{placed}
+use Rattle.session.specs.declared.Session.{Session}
+use Rattle.route.specs.Routes.{judgeOf}
 use Rattle.table.specs.declared.board.Board.{Board}
 use Rattle.table.specs.Sizes.{places, room, versionMost, header}
 use Rattle.table.specs.Table.{changed}
@@ -48,5 +50,9 @@ unfoldable pub storeWith : Board → List ℕ → ℕ → List ℕ → Verdict �
 storeWith b store k ero route =
     kept (reportVerdict b store k ero route .number) store (placed store (room * targetOf b k) (bodyIn ero))
 
--- reportAnswer b store k ero session pst = reportWith b store k ero (judgeOf ero true session pst), and reportStore likewise with storeWith, stand here as
--- soon as crate route is there.
+-- "Report (key, ERO, session, PST)": the route checks are those of an ERO under the session and the PST
+unfoldable pub reportAnswer : Board → List ℕ → ℕ → List ℕ → Session → ℕ → Answer
+reportAnswer b store k ero session pst = reportWith b store k ero (judgeOf ero true session pst)
+
+unfoldable pub reportStore : Board → List ℕ → ℕ → List ℕ → Session → ℕ → List ℕ
+reportStore b store k ero session pst = storeWith b store k ero (judgeOf ero true session pst)

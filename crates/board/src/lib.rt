@@ -17,3 +17,4 @@ pub use rule::remove_rules;
 pub use rule::report_rules;
 pub use whole::is_board;
 pub use whole::length_at;
+pub use whole::start_of;

@@ -1,8 +1,10 @@
 // 17 is answered exactly if the store is shorter than 49,152 octets or the record isn't proper.
 ghost use mathlib.Core.Path.{_≡_};
+ghost use Prim.Native.Nat.{_*_, _<_};
 ghost use Rattle.table.specs.Table.{boardOf};
 ghost use Rattle.board.specs.Rules.{isBoard, lengthIn};
 use table::PLACES;
+use table::ROOM;
 use table::STORE;
 use table::wide16;
 
@@ -21,6 +23,14 @@ pub fn is_board<'a>(
         return false;
     }
     proper::is_proper(keys, versions, lengths, top, floor)
+}
+
+// Place i, from 0, starts at 384 times i.
+pub fn start_of(i: usize) -> usize
+    requires { ⌜ i < 128 ⌝ }
+    ensures start { λ r. ⌜ r ≡ 384 * i ⌝ }
+{
+    ROOM * i
 }
 
 // The length at a place; 0 for no place.

@@ -24,26 +24,7 @@ use Rattle.board.specs.Rules.{isBoard, inRange, lengthIn, answerOf}
 use Rattle.board.specs.Remove.{removeRules, removeVerdict, removed, removeAnswer}
 use Rattle.board.specs.Compact.{compactRules, compactVerdict, compacted, compactAnswer}
 use Rattle.board.proofs.Shared.{path-test}
-
--- ---- a verdict and what stays
-pub kept-old : {A : Type 0} (n : ℕ) (x y : A) → (n ≡ 0 → ⊥) → kept n x y ≡ x
-kept-old zero x y d = absurd (d refl)
-kept-old (suc n) x y d = refl
-
-pub kept-new : {A : Type 0} (n : ℕ) (x y : A) → n ≡ 0 → kept n x y ≡ y
-kept-new zero x y e = refl
-kept-new (suc n) x y e = absurd (omega arith)
-
--- a rule that was passed
-pub rule-passed : (t : Bool) (n p : ℕ) (x : Verdict) → cond t (refusedBy (suc n) p) x .number ≡ 0 → (t ≡ false) × (x .number ≡ 0)
-rule-passed true n p x e = absurd (omega arith)
-rule-passed false n p x e = (refl, e)
-
-pub range-passed : (k : ℕ) → not (inRange k) ≡ false → (keyLeast ≤ k) × (k ≤ keyMost)
-unfolding inRange
-range-passed k e =
-    let p = and-true (leb keyLeast k) (leb k keyMost) (not-false (leb keyLeast k && leb k keyMost) e) in
-    (leb-true keyLeast k (p .0), leb-true k keyMost (p .1))
+use Rattle.board.proofs.Verdicts.{kept-old, kept-new, rule-passed}
 
 -- ---- 17
 pub board-not : (b : Board) (n : ℕ) (r : Bool) → r ≡ isBoard b n → not r ≡ true → isBoard b n ≡ false

@@ -7,6 +7,8 @@ use Rattle.table.specs.declared.board.Board.{Board}
 use Rattle.board.specs.declared.answer.Answer.{Answer}
 use Rattle.board.specs.declared.answer.Handed.{Handed}
 use Rattle.board.specs.Rules.{answerOf}
+use Rattle.session.specs.declared.Session.{Session}
+use Rattle.board.specs.Report.{reportAnswer, reportStore}
 use Rattle.board.specs.Remove.{removeAnswer}
 use Rattle.board.specs.Compact.{compactAnswer}
 use Rattle.board.specs.Body.{bodyNumber, bodyOf}
@@ -29,3 +31,11 @@ body-determined b store k x y p q = p ∙ sym q
 
 pub next-determined : (b : Board) (store : List ℕ) (s w : ℕ) (x y : Handed) → x ≡ nextAnswer b store s w → y ≡ nextAnswer b store s w → x ≡ y
 next-determined b store s w x y p q = p ∙ sym q
+
+pub report-determined : (b : Board) (store : List ℕ) (k : ℕ) (ero : List ℕ) (session : Session) (pst : ℕ) (v w : Verdict) (c d : Board) (x y : List ℕ)
+    → answerOf v c ≡ reportAnswer b store k ero session pst
+    → answerOf w d ≡ reportAnswer b store k ero session pst
+    → x ≡ reportStore b store k ero session pst
+    → y ≡ reportStore b store k ero session pst
+    → ((v ≡ w) × (c ≡ d)) × (x ≡ y)
+report-determined b store k ero session pst v w c d x y p q r t = (answers-same (reportAnswer b store k ero session pst) v w c d p q, r ∙ sym t)

@@ -26,7 +26,8 @@ use Rattle.board.specs.Rules.{isBoard, inRange, lengthIn, hasPath}
 use Rattle.board.specs.Body.{bodyRules, bodyNumber, octetsAt, bodyOf}
 use Rattle.board.specs.Next.{nextRules, nextVerdict, changeAt, handedAt, nextAnswer}
 use Rattle.board.proofs.Shared.{path-test}
-use Rattle.lent.proofs.Answers.{kept-old, kept-new, rule-passed, board-not, board-is, board-room, board-proper}
+use Rattle.board.proofs.Verdicts.{kept-old, kept-new, rule-passed}
+use Rattle.lent.proofs.Answers.{board-not, board-is, board-room, board-proper}
 
 -- ---- the number of a body
 module _ (b : Board) (store : List ℕ) (k : ℕ) where
@@ -71,14 +72,14 @@ module _ (b : Board) (store : List ℕ) (k : ℕ) where
       let q = length-here at n m f in
       (m, omega arith, omega arith)
 
-  pub body-is : (v : Verdict) (at n : ℕ) → v ≡ bodyNumber b store k → v .number ≡ 0 → at ≡ placeOf b k → n ≡ lengthIn (b .lengths) at
-      → take (room * at + n - room * at) (drop (room * at) store) ≡ bodyOf b store k
+  pub body-is : (v : Verdict) (at n from : ℕ) → v ≡ bodyNumber b store k → v .number ≡ 0 → at ≡ placeOf b k → n ≡ lengthIn (b .lengths) at → from ≡ room * at
+      → take (from + n - from) (drop from store) ≡ bodyOf b store k
   unfolding bodyOf octetsAt part
-  body-is v at n e z p f =
+  body-is v at n from e z p f g =
       let l = body-here v e z in
       let q = length-here at n (omega arith) f in
-      let d : room * at + n - room * at ≡ n = omega arith in
-      rw (d, ← e, kept-new (v .number) [] (octetsAt b store (placeOf b k)) z, octetsAt, ← p, q)
+      let d : from + n - from ≡ n = omega arith in
+      rw (d, ← e, kept-new (v .number) [] (octetsAt b store (placeOf b k)) z, octetsAt, ← p, g, q)
 
 -- ---- next
 module _ (b : Board) (store : List ℕ) (s w : ℕ) where

@@ -12,12 +12,8 @@ use Rattle.table.specs.declared.board.Board.{Board}
 use Rattle.table.specs.Sizes.{places}
 use Rattle.table.specs.Table.{boardOf, keyAt, versionAt, removalB}
 use Rattle.board.specs.Compact.{dropped, row, compacted}
+use Rattle.board.proofs.Keeps.{length-row}
 use Rattle.lent.specs.Sweep.{keysKept, versionsKept}
-
-pub length-row : (f : ℕ → ℕ) (n : ℕ) → length (row f n) ≡ n
-unfolding row
-length-row f zero = refl
-length-row f (suc n) = length-append (row f n) (f n ∷ []) ∙ omega (arith, length-row f n)
 
 -- the first i places are swept, the others as they were
 unfoldable pub swept : (ℕ → ℕ) → List ℕ → ℕ → List ℕ

@@ -3,9 +3,11 @@
 mod compacting;
 mod looking;
 mod removing;
+mod reporting;
 
 pub use compacting::compact;
 pub use looking::body;
 pub use looking::body_number;
 pub use looking::next;
 pub use removing::remove;
+pub use reporting::report;

@@ -15,10 +15,10 @@ use board::body_rules;
 use board::is_board;
 use board::length_at;
 use board::next_rules;
+use board::start_of;
 use places::next_place;
 use places::place_of;
 use table::PLACES;
-use table::ROOM;
 use table::wide16;
 use table::wide32;
 
@@ -58,7 +58,7 @@ pub fn body<'a, 'b>(
         return &store[0..0];
     }
     let at = place_of(keys, key);
-    let from = ROOM * at;
+    let from = start_of(at);
     let to = from + length_at(lengths, at);
     &store[from..to]
 }

@@ -23,14 +23,14 @@ returns c = body-none (boardOf (c .before .before .before .before .before .args 
 place-of-requires : tie.Need-place-of-requires
 place-of-requires c κs = search needs
 
-mul-from : tie.Need-mul-from
-mul-from c = let h = body-here (boardOf (c .before .before .before .before .before .args .keys .now) (c .before .before .before .before .before .args .versions .now) (c .before .before .before .before .before .args .lengths .now) (c .before .before .before .before .before .args .version) (c .before .before .before .before .before .args .floor)) (c .before .before .before .before .before .args .store .now) (c .before .before .before .before .before .args .key) _ (c .before .before .before .body-number .ensures) (c .before .if1 .left) in omega (arith, c .place-of .ensures)
+start-of-requires : tie.Need-start-of-requires
+start-of-requires c κs = let h = body-here (boardOf (c .before .before .before .before .before .args .keys .now) (c .before .before .before .before .before .args .versions .now) (c .before .before .before .before .before .args .lengths .now) (c .before .before .before .before .before .args .version) (c .before .before .before .before .before .args .floor)) (c .before .before .before .before .before .args .store .now) (c .before .before .before .before .before .args .key) _ (c .before .before .before .body-number .ensures) (c .before .if1 .left) in omega (arith, c .place-of .ensures)
 
 length-at-requires : tie.Need-length-at-requires
 length-at-requires c κs = search needs
 
 add-to : tie.Need-add-to
-add-to c = let h = body-room (boardOf (c .before .before .before .before .before .before .args .keys .now) (c .before .before .before .before .before .before .args .versions .now) (c .before .before .before .before .before .before .args .lengths .now) (c .before .before .before .before .before .before .args .version) (c .before .before .before .before .before .before .args .floor)) (c .before .before .before .before .before .before .args .store .now) (c .before .before .before .before .before .before .args .key) _ _ _ (c .before .before .before .before .body-number .ensures) (c .before .before .if1 .left) (c .before .place-of .ensures) (c .length-at .ensures) in omega arith
+add-to c = let h = body-room (boardOf (c .before .before .before .before .before .before .before .args .keys .now) (c .before .before .before .before .before .before .before .args .versions .now) (c .before .before .before .before .before .before .before .args .lengths .now) (c .before .before .before .before .before .before .before .args .version) (c .before .before .before .before .before .before .before .args .floor)) (c .before .before .before .before .before .before .before .args .store .now) (c .before .before .before .before .before .before .before .args .key) _ _ _ (c .before .before .before .before .before .body-number .ensures) (c .before .before .before .if1 .left) (c .before .before .place-of .ensures) (c .length-at .ensures) in omega (arith, c .before .start-of .ensures)
 
 sub-result-2 : tie.Need-sub-result-2
 sub-result-2 c = search needs
@@ -39,10 +39,10 @@ part-result-start-2 : tie.Need-part-result-start-2
 part-result-start-2 c = search needs
 
 part-result-end-2 : tie.Need-part-result-end-2
-part-result-end-2 c = let h = body-room (boardOf (c .before .before .before .before .before .before .args .keys .now) (c .before .before .before .before .before .before .args .versions .now) (c .before .before .before .before .before .before .args .lengths .now) (c .before .before .before .before .before .before .args .version) (c .before .before .before .before .before .before .args .floor)) (c .before .before .before .before .before .before .args .store .now) (c .before .before .before .before .before .before .args .key) _ _ _ (c .before .before .before .before .body-number .ensures) (c .before .before .if1 .left) (c .before .place-of .ensures) (c .length-at .ensures) in omega arith
+part-result-end-2 c = let h = body-room (boardOf (c .before .before .before .before .before .before .before .args .keys .now) (c .before .before .before .before .before .before .before .args .versions .now) (c .before .before .before .before .before .before .before .args .lengths .now) (c .before .before .before .before .before .before .before .args .version) (c .before .before .before .before .before .before .before .args .floor)) (c .before .before .before .before .before .before .before .args .store .now) (c .before .before .before .before .before .before .before .args .key) _ _ _ (c .before .before .before .before .before .body-number .ensures) (c .before .before .before .if1 .left) (c .before .before .place-of .ensures) (c .length-at .ensures) in omega (arith, c .before .start-of .ensures)
 
 returns-2 : tie.Need-returns-2
-returns-2 c = body-is (boardOf (c .before .before .before .before .before .before .before .args .keys .now) (c .before .before .before .before .before .before .before .args .versions .now) (c .before .before .before .before .before .before .before .args .lengths .now) (c .before .before .before .before .before .before .before .args .version) (c .before .before .before .before .before .before .before .args .floor)) (c .before .before .before .before .before .before .before .args .store .now) (c .before .before .before .before .before .before .before .args .key) _ _ _ (c .before .before .before .before .before .body-number .ensures) (c .before .before .before .if1 .left) (c .before .before .place-of .ensures) (c .before .length-at .ensures)
+returns-2 c = body-is (boardOf (c .before .before .before .before .before .before .before .before .args .keys .now) (c .before .before .before .before .before .before .before .before .args .versions .now) (c .before .before .before .before .before .before .before .before .args .lengths .now) (c .before .before .before .before .before .before .before .before .args .version) (c .before .before .before .before .before .before .before .before .args .floor)) (c .before .before .before .before .before .before .before .before .args .store .now) (c .before .before .before .before .before .before .before .before .args .key) _ _ _ _ (c .before .before .before .before .before .before .body-number .ensures) (c .before .before .before .before .if1 .left) (c .before .before .before .place-of .ensures) (c .before .length-at .ensures) (c .before .before .start-of .ensures)
 
 pub body-spec : {M : Type 1} → statement M
 body-spec =
@@ -54,7 +54,7 @@ body-spec =
     part-result-end
     returns
     place-of-requires
-    mul-from
+    start-of-requires
     length-at-requires
     add-to
     sub-result-2
