@@ -84,25 +84,25 @@ finished {ero} body rest b w ea eb e =
       filled = rw n (λ z. d .filled (omega arith));
     }
 
-finish-number : (b : List ℕ) (w : Writer) → finishAnswer b w .verdict .number ≡ finishNumber (length b) w
+pub finish-number : (b : List ℕ) (w : Writer) → finishAnswer b w .verdict .number ≡ finishNumber (length b) w
 unfolding finishAnswer
 finish-number b w = number-answered (finishNumber (length b) w) w w
 
-add-number : (b : List ℕ) (w : Writer) (g : Segment) → addAnswer b w g .verdict .number ≡ addNumber (length b) w g
+pub add-number : (b : List ℕ) (w : Writer) (g : Segment) → addAnswer b w g .verdict .number ≡ addNumber (length b) w g
 unfolding addAnswer
 add-number b w g = number-answered (addNumber (length b) w g) w _
 
-begin-number : (b : List ℕ) (w : Writer) (ero : Bool) → beginAnswer b w ero .verdict .number ≡ beginNumber (length b)
+pub begin-number : (b : List ℕ) (w : Writer) (ero : Bool) → beginAnswer b w ero .verdict .number ≡ beginNumber (length b)
 unfolding beginAnswer
 begin-number b w ero = number-answered (beginNumber (length b)) w _
 
 -- A call that accepts hands on its state and its buffer.
-add-onward : (b : List ℕ) (w : Writer) (g : Segment) (next : List ℕ → Writer → Run) → addNumber (length b) w g ≡ 0
+pub add-onward : (b : List ℕ) (w : Writer) (g : Segment) (next : List ℕ → Writer → Run) → addNumber (length b) w g ≡ 0
     → onward (addRun b w g) next ≡ next (placed b (w .at) (subobjectOf g)) (record { ero = w .ero; at = w .at + length (subobjectOf g) })
 unfolding addAnswer addBuffer
 add-onward b w g next e = rw e
 
-begin-onward : (b : List ℕ) (w : Writer) (ero : Bool) (next : List ℕ → Writer → Run) → beginNumber (length b) ≡ 0
+pub begin-onward : (b : List ℕ) (w : Writer) (ero : Bool) (next : List ℕ → Writer → Run) → beginNumber (length b) ≡ 0
     → onward (beginRun b w ero) next ≡ next (over (headerOf ero 4) b) (record { ero = ero; at = 4 })
 unfolding beginAnswer beginBuffer
 begin-onward b w ero next e = rw e

@@ -108,11 +108,11 @@ pub record Reads (ero : Bool) (s : List ℕ) (at : ℕ) (g : Segment) : Type 0 w
   pub r11 : rule11 (headOfSegment g) (bitsAt s at (headOfSegment g)) ≡ false
 
 -- Where no structure is there, nothing is summed.
-bits-off : (h : Head) (sum : ℕ) → hasStructure h ≡ false → rule11 h sum ≡ false
+pub bits-off : (h : Head) (sum : ℕ) → hasStructure h ≡ false → rule11 h sum ≡ false
 unfolding rule11
 bits-off h sum e = rw e
 
-sum-back : {s : List ℕ} {at : ℕ} (x : List ℕ) → Stands s at x → length x ≡ 4 → sumAt s at ≡ sumAt x 0
+pub sum-back : {s : List ℕ} {at : ℕ} (x : List ℕ) → Stands s at x → length x ≡ 4 → sumAt s at ≡ sumAt x 0
 unfolding sumAt octetOf
 sum-back {s} {at} x t l =
     let e0 = stands-first x t (omega arith) in

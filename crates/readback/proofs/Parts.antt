@@ -1,0 +1,113 @@
+-- Laws about parts of octet strings, and about octets that are all 0.
+use Prim.Native.Nat.{ℕ, suc, _+_, _-_, _*_, _/_, _%_, _≤_, _<_}
+use mathlib.Core.Path.{_≡_, refl, sym, _∙_, ap}
+use mathlib.Core.Bool.{Bool, true, false, cond, _&&_}
+use mathlib.Core.List.{List, [], _∷_, _++_, append-assoc}
+use lib.Dec.{eqb}
+use lib.ListN.{length, getD, take, drop, replicate, length-append, length-drop, length-replicate}
+use lib.Seq.{length-take-le, take-at, drop-at, take-add, drop-drop, take-all}
+use native.Mathlib.Omega.{arith}
+use borrow.Author.Tests.{eqb-true, eq-eqb}
+use Rattle.octets.specs.Octets.{octetOf, part, over, partOf}
+use Rattle.octets.proofs.Laws.{length-part, length-over, getD-part}
+use Rattle.layout.specs.Spare.{zeros}
+use Rattle.readback.specs.Ignored.{Octets}
+use Rattle.readback.proofs.Stands.{and-true, drop-zeros}
+
+-- parts --------------------------------------------------------------------------------------------------------
+
+pub part-add : (s : List ℕ) (at n m : ℕ) → part s at (n + m) ≡ part s at n ++ part s (at + n) m
+unfolding part
+part-add s at n m = take-add n m (drop at s) ∙ rw (drop-drop n at s)
+
+pub part-none : (s : List ℕ) (at : ℕ) → part s at 0 ≡ []
+unfolding part
+part-none s at = refl
+
+pub length-partOf : (s : List ℕ) (at n m : ℕ) → at + n ≤ length s → n ≤ m → length (partOf s at n m) ≡ m
+unfolding partOf
+length-partOf s at n m h k =
+    let l = length-part s at n h in
+    let z = length-replicate {A = ℕ} m 0 in
+    length-over (part s at n) (replicate m 0) (omega arith) ∙ z
+
+-- An array holds the part that it was filled with, and 0 behind it.
+pub take-partOf : (s : List ℕ) (at n m : ℕ) → at + n ≤ length s → take n (partOf s at n m) ≡ part s at n
+unfolding partOf over
+take-partOf s at n m h = take-at (part s at n) (drop (length (part s at n)) (replicate m 0)) n (length-part s at n h)
+
+pub drop-partOf : (s : List ℕ) (at n m : ℕ) → at + n ≤ length s → n ≤ m → drop n (partOf s at n m) ≡ replicate (m - n) 0
+unfolding partOf over
+drop-partOf s at n m h k =
+    let l = length-part s at n h in
+    drop-at (part s at n) (drop (length (part s at n)) (replicate m 0)) n l ∙ rw l (drop-zeros n m k)
+
+-- Two strings that start with as many octets.
+pub append-same : (a b c d : List ℕ) → length a ≡ length b → a ++ c ≡ b ++ d → (a ≡ b) × (c ≡ d)
+append-same a b c d l e = (
+  sym (take-at a c (length b) l) ∙ ap (take (length b)) e ∙ take-at b d (length b) refl,
+  sym (drop-at a c (length b) l) ∙ ap (drop (length b)) e ∙ drop-at b d (length b) refl,
+)
+
+-- Eight octets one by one.
+pub eight : (x : List ℕ) → length x ≡ 8
+    → x ≡ getD x 0 0 ∷ getD x 1 0 ∷ getD x 2 0 ∷ getD x 3 0 ∷ getD x 4 0 ∷ getD x 5 0 ∷ getD x 6 0 ∷ getD x 7 0 ∷ []
+eight [] e = absurd (omega arith)
+eight (a ∷ []) e = absurd (omega arith)
+eight (a ∷ b ∷ []) e = absurd (omega arith)
+eight (a ∷ b ∷ c ∷ []) e = absurd (omega arith)
+eight (a ∷ b ∷ c ∷ d ∷ []) e = absurd (omega arith)
+eight (a ∷ b ∷ c ∷ d ∷ f ∷ []) e = absurd (omega arith)
+eight (a ∷ b ∷ c ∷ d ∷ f ∷ g ∷ []) e = absurd (omega arith)
+eight (a ∷ b ∷ c ∷ d ∷ f ∷ g ∷ h ∷ []) e = absurd (omega arith)
+eight (a ∷ b ∷ c ∷ d ∷ f ∷ g ∷ h ∷ i ∷ []) e = refl
+eight (a ∷ b ∷ c ∷ d ∷ f ∷ g ∷ h ∷ i ∷ j ∷ l) e = absurd (omega arith)
+
+-- octets -------------------------------------------------------------------------------------------------------
+
+pub octet-small : (s : List ℕ) → Octets s → (i : ℕ) → octetOf s i < 256
+unfolding octetOf
+octet-small [] o i = omega arith
+octet-small (x ∷ s) o ℕ.zero = o .0
+octet-small (x ∷ s) o (ℕ.suc i) = octet-small s (o .1) i
+
+-- zeros --------------------------------------------------------------------------------------------------------
+
+pub zeros-replicate : (n : ℕ) → zeros (replicate n 0) ≡ true
+zeros-replicate ℕ.zero = refl
+zeros-replicate (ℕ.suc n) = zeros-replicate n
+
+pub zeros-append : (x y : List ℕ) → zeros x ≡ true → zeros y ≡ true → zeros (x ++ y) ≡ true
+zeros-append [] y e f = f
+zeros-append (a ∷ x) y e f = let p = and-true (eqb a 0) (zeros x) e in rw (p .0) (zeros-append x y (p .1) f)
+
+pub zeros-split : (x y : List ℕ) → zeros (x ++ y) ≡ true → (zeros x ≡ true) × (zeros y ≡ true)
+zeros-split [] y e = (refl, e)
+zeros-split (a ∷ x) y e =
+    let p = and-true (eqb a 0) (zeros (x ++ y)) e in
+    let q = zeros-split x y (p .1) in
+    (rw (p .0) (q .0), q .1)
+
+pub zeros-cons : (a : ℕ) (x : List ℕ) → a ≡ 0 → zeros x ≡ true → zeros (a ∷ x) ≡ true
+zeros-cons a x e f = rw (eq-eqb a 0 e) f
+
+pub zeros-uncons : (a : ℕ) (x : List ℕ) → zeros (a ∷ x) ≡ true → (a ≡ 0) × (zeros x ≡ true)
+zeros-uncons a x e = let p = and-true (eqb a 0) (zeros x) e in (eqb-true a 0 (p .0), p .1)
+
+-- Six numbers and what is behind them.
+module _ (a b c d e f : ℕ) (x : List ℕ) where
+  pub six-zeros : a ≡ 0 → b ≡ 0 → c ≡ 0 → d ≡ 0 → e ≡ 0 → f ≡ 0 → zeros x ≡ true → zeros (a ∷ b ∷ c ∷ d ∷ e ∷ f ∷ x) ≡ true
+  six-zeros ea eb ec ed ee ef ex =
+      zeros-cons a (b ∷ c ∷ d ∷ e ∷ f ∷ x) ea
+      (zeros-cons b (c ∷ d ∷ e ∷ f ∷ x) eb
+      (zeros-cons c (d ∷ e ∷ f ∷ x) ec (zeros-cons d (e ∷ f ∷ x) ed (zeros-cons e (f ∷ x) ee (zeros-cons f x ef ex)))))
+
+  pub zeros-six : zeros (a ∷ b ∷ c ∷ d ∷ e ∷ f ∷ x) ≡ true → (a ≡ 0) × (b ≡ 0) × (c ≡ 0) × (d ≡ 0) × (e ≡ 0) × (f ≡ 0) × (zeros x ≡ true)
+  zeros-six z =
+      let ua = zeros-uncons a (b ∷ c ∷ d ∷ e ∷ f ∷ x) z in
+      let ub = zeros-uncons b (c ∷ d ∷ e ∷ f ∷ x) (ua .1) in
+      let uc = zeros-uncons c (d ∷ e ∷ f ∷ x) (ub .1) in
+      let ud = zeros-uncons d (e ∷ f ∷ x) (uc .1) in
+      let ue = zeros-uncons e (f ∷ x) (ud .1) in
+      let uf = zeros-uncons f x (ue .1) in
+      (ua .0, ub .0, uc .0, ud .0, ue .0, uf .0, uf .1)
