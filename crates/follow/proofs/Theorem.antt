@@ -20,7 +20,7 @@ use Rattle.table.proofs.Proper.{is-proper, empty-sized, empty-proper}
 use Rattle.table.proofs.Search.{report-place-is}
 use Rattle.board.specs.Rules.{isBoard}
 use Rattle.board.specs.Body.{octetsAt}
-use Rattle.board.specs.Report.{bodyIn, reportVerdict, reportWith, storeWith, reported}
+use Rattle.board.specs.Report.{bodyIn, reportVerdict, reportWith, storeWith, reported, reportAnswer, reportStore}
 use Rattle.board.specs.Remove.{removeVerdict, removeAnswer, removed}
 use Rattle.board.specs.Compact.{compactVerdict, compactAnswer, compacted}
 use Rattle.board.specs.declared.answer.Handed.the-variants.{Path, Removed}
@@ -32,7 +32,7 @@ use Rattle.follow.specs.Story.{Change, put, gone, Story, begun, did, com
 use Rattle.follow.specs.Floor.{floorOf, floorPut}
 use Rattle.follow.specs.Follower.{Follower, fresh, levels}
 use Rattle.follow.specs.Heard.{Heard, refusal, change, level, heardIn, does}
-use Rattle.follow.specs.Run.{reportAnswer, reportStore, World, Act, report, remove, compact, begin, ask, told, answerTo, following, step, run, start}
+use Rattle.follow.specs.Run.{World, Act, report, remove, compact, begin, ask, told, answerTo, following, step, run, start}
 use Rattle.follow.specs.Promise.{Answered, Whole, NoFollowerIsFooled}
 use Rattle.follow.proofs.Cases.{cases}
 use Rattle.follow.proofs.Clean.{proper-of}

@@ -4,14 +4,13 @@
 -- cite; it gets the record and the whole store as the last one left them. A follower that is cut off makes no act, for as long as it
 -- likes; an answer that was lost on the line was no act of the follower; and a run may end anywhere.
 use Prim.Native.Nat.{ℕ}
-use mathlib.Core.Bool.{Bool, true, cond}
+use mathlib.Core.Bool.{Bool, cond}
 use mathlib.Core.List.{List, [], _∷_}
 use lib.Dec.{eqb}
 use Rattle.table.specs.declared.board.Board.{Board}
 use Rattle.table.specs.Proper.{Proper}
-use Rattle.route.specs.Routes.{judgeOf}
 use Rattle.board.specs.declared.answer.Answer.{Answer}
-use Rattle.board.specs.Report.{bodyIn, reportWith, storeWith}
+use Rattle.board.specs.Report.{bodyIn, reportAnswer, reportStore}
 use Rattle.board.specs.Remove.{removeAnswer}
 use Rattle.board.specs.Compact.{compactAnswer}
 use Rattle.board.specs.Next.{nextAnswer}
@@ -25,15 +24,6 @@ pub record World : Type 0 where
   pub store : List ℕ
   pub story : Story
   pub followers : ℕ → Follower
-
--- ---- the calls
-
--- the board's answer to a report, and the store after it: the route checks are those of the ERO
-unfoldable pub reportAnswer : Board → List ℕ → ℕ → List ℕ → Session → ℕ → Answer
-reportAnswer b store k ero session pst = reportWith b store k ero (judgeOf ero true session pst)
-
-unfoldable pub reportStore : Board → List ℕ → ℕ → List ℕ → Session → ℕ → List ℕ
-reportStore b store k ero session pst = storeWith b store k ero (judgeOf ero true session pst)
 
 -- ---- the acts
 

@@ -19,14 +19,14 @@ use Rattle.table.specs.Search.{firstWhere, leastWhere, placeIn, oldestOf, targe
 use Rattle.table.specs.Proper.{Proper, allBelow, placeOk, soundB, freshB, newB, distinctB, properB}
 use Rattle.table.proofs.Proper.{empty-sized}
 use Rattle.board.specs.Rules.{isBoard, inRange, hasPath}
-use Rattle.board.specs.Report.{reportRules, reportVerdict, reported, reportWith, storeWith}
+use Rattle.board.specs.Report.{reportRules, reportVerdict, reported, reportWith, storeWith, reportAnswer, reportStore}
 use Rattle.board.specs.Remove.{removeRules, removeVerdict, removed, removeAnswer}
 use Rattle.board.specs.Compact.{compactRules, compactVerdict, dropped, row, compacted, compactAnswer}
 use Rattle.board.specs.Next.{nextRules, nextVerdict, changeAt, handedAt, nextAnswer}
 use Rattle.follow.specs.Story.{put, gone, did, compactedTo, version, held, last}
 use Rattle.follow.specs.Floor.{floorOf}
 use Rattle.follow.specs.Heard.{heardIn, refusal, change, level}
-use Rattle.follow.specs.Run.{reportAnswer, reportStore, World, report, remove, compact, step, run}
+use Rattle.follow.specs.Run.{World, report, remove, compact, step, run}
 use Rattle.follow.proofs.Theorem.{good-run, good-start}
 use Rattle.worked.specs.Example.{path, object, agreed, keyA, keyB, calls, dawn, noon, dusk, hears}
 
