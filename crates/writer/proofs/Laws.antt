@@ -14,11 +14,12 @@ use Rattle.subobject.specs.declared.segment.Segment.{Segment}
 use Rattle.subobject.specs.Layout.{expectedLength}
 use Rattle.subobject.specs.Rules.{rule8, rule9, rule11}
 use Rattle.subobject.specs.Segments.{headOfSegment, subobjectOf, bitsOf}
+use Rattle.frame.specs.Frames.{classOf}
 use Rattle.layout.specs.Held.{Held}
 use Rattle.layout.proofs.Laws.{length-subobject}
 use Rattle.writer.specs.declared.state.Writer.{Writer}
 use Rattle.writer.specs.declared.state.Written.{Written}
-use Rattle.writer.specs.Writing.{eroClass, rroClass, headerLength, headerOf, passes, badPlace, refusedAs, acceptedAs, answered, unfit, noRoom, addNumber, finishNumber}
+use Rattle.writer.specs.Writing.{headerLength, headerOf, passes, badPlace, refusedAs, acceptedAs, answered, unfit, noRoom, addNumber, finishNumber}
 
 -- tests --------------------------------------------------------------------------------------------------------
 
@@ -121,10 +122,10 @@ buffer-accepted n b after e q = e ∙ rw q
 
 -- octets stored one by one -------------------------------------------------------------------------------------
 
-pub header-stored : (b : List ℕ) (ero : Bool) (class : ℕ) → class ≡ cond ero eroClass rroClass → 4 ≤ length b
+pub header-stored : (b : List ℕ) (ero : Bool) (class : ℕ) → class ≡ classOf ero → 4 ≤ length b
     → set (set (set (set b 0 class) 1 16) 2 0) 3 4 ≡ over (headerOf ero headerLength) b
 unfolding headerOf over
-header-stored b ero class e h = rw e (sets-eq (cond ero eroClass rroClass ∷ 16 ∷ 0 ∷ 4 ∷ []) b 0 h)
+header-stored b ero class e h = rw e (sets-eq (classOf ero ∷ 16 ∷ 0 ∷ 4 ∷ []) b 0 h)
 
 pub length-stored : (b : List ℕ) (x y : ℕ) → 4 ≤ length b → set (set b 2 x) 3 y ≡ placed b 2 (x ∷ y ∷ [])
 unfolding placed over

@@ -10,19 +10,14 @@ use Rattle.octets.specs.Octets.{hi, lo, over, placed}
 use Rattle.subobject.specs.declared.segment.Segment.{Segment}
 use Rattle.subobject.specs.Rules.{rule8, rule9, rule11}
 use Rattle.subobject.specs.Segments.{headOfSegment, subobjectOf, bitsOf}
+use Rattle.frame.specs.Frames.{classOf}
 use Rattle.layout.specs.Spare.{tidyOf}
 use Rattle.writer.specs.declared.state.Writer.{Writer}
 use Rattle.writer.specs.declared.state.Written.{Written}
 
 -- the header ---------------------------------------------------------------------------------------------------
 
--- "ERO is class 7, RRO class 8, both type 1."
-abbrev pub eroClass : ℕ
-eroClass = 7
-
-abbrev pub rroClass : ℕ
-rroClass = 8
-
+-- "ERO is class 7, RRO class 8, both type 1": the class is the one that the reader asks for.
 -- Type 1 in the high 4 bits; "header low bits are 0".
 abbrev pub typeOctet : ℕ
 typeOctet = 16
@@ -31,7 +26,7 @@ abbrev pub headerLength : ℕ
 headerLength = 4
 
 unfoldable pub headerOf : Bool → ℕ → List ℕ
-headerOf ero size = cond ero eroClass rroClass ∷ typeOctet ∷ hi size ∷ lo size ∷ []
+headerOf ero size = classOf ero ∷ typeOctet ∷ hi size ∷ lo size ∷ []
 
 -- the place ----------------------------------------------------------------------------------------------------
 
