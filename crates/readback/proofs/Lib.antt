@@ -1,4 +1,5 @@
 pub mod Theorems
+pub mod Examples
 pub mod Images
 pub mod Stands
 pub mod Segments
