@@ -1,11 +1,9 @@
 -- A follower touches itself only. Assumes nothing.
 use Prim.Native.Nat.{ℕ}
-use mathlib.Core.Path.{_≡_, refl, sym, ap, _∙_}
+use mathlib.Core.Path.{_≡_, refl, ap, _∙_}
 use mathlib.Core.Bool.{Bool}
-use mathlib.Core.Logic.{⊎-elim}
 use lib.Dec.{eqb}
 use borrow.Author.Tests.{eq-eqb, ne-eqb}
-use Rattle.table.proofs.Logic.{same?}
 use Rattle.follow.specs.Follower.{Follower, fresh}
 use Rattle.follow.specs.Heard.{refusal, does}
 use Rattle.follow.specs.Run.{World, begin, ask, answerTo, following, step}

@@ -14,6 +14,7 @@ use Rattle.table.specs.Sizes.{places, keyLeast, keyMost}
 use Rattle.table.specs.Table.{keyAt, lengthAt, Used}
 use Rattle.table.specs.Search.{placeOf}
 use Rattle.table.proofs.Logic.{from?}
+use Rattle.table.proofs.Proper.{proper-sound}
 use Rattle.table.proofs.Search.{key-place-is, key-place-found}
 use Rattle.board.specs.Rules.{inRange, hasPath}
 use Rattle.board.specs.Body.{bodyRules, bodyNumber, octetsAt}
@@ -22,7 +23,6 @@ use Rattle.follow.specs.Story.{Body, Story, held, last}
 use Rattle.follow.specs.Run.{World, start, run}
 use Rattle.follow.specs.Promise.{BodyGiven, BodiesAreThoseHeld}
 use Rattle.follow.proofs.Cases.{some≢none, some-one}
-use Rattle.follow.proofs.Clean.{proper-of}
 use Rattle.follow.proofs.Begun.{octets, octets-mark, octets-path}
 use Rattle.follow.proofs.Keeps.{none-yet}
 use Rattle.follow.proofs.Table.{Stands, octets-none}
@@ -45,13 +45,13 @@ kept-at b store h k body r e = ⊎-elim there (λ y. absurd (some≢none body (s
     there : (i : ℕ) × (i < places) × (keyAt b i ≡ k) → Kept b store k body
     there y =
         let u : Used b (y .0) = λ z. omega (arith, changed, r .zero-not, ap (last h) (sym (y .2) ∙ z)) in
-        let q : placeOf b k ≡ y .0 = key-place-found b (proper-of b (r .clean)) k (y .0) (λ z. u (y .2 ∙ z)) (record { here = y .1; key = y .2 }) in
+        let q : placeOf b k ≡ y .0 = key-place-found b (r .proper) k (y .0) (λ z. u (y .2 ∙ z)) (record { here = y .1; key = y .2 }) in
         let o : octets b store (y .0) ≡ some body = sym (r .here (y .0) (y .1) u .1) ∙ ap (held h) (y .2) ∙ e in
         let n : lengthAt b (y .0) ≡ 0 → ⊥ = λ z. some≢none body (sym o ∙ octets-mark b store (y .0) z) in
         record {
           place = omega (arith, y .1);
           low = omega (arith, u, y .2);
-          high = omega (arith, r .clean .sound-at (y .0) (y .1) .key, y .2);
+          high = omega (arith, proper-sound b (r .proper) (y .0) (y .1) .key, y .2);
           long = λ z. n (ap (lengthAt b) (sym q) ∙ z);
           octets-are = ap (octetsAt b store) q ∙ some-one (octetsAt b store (y .0)) body (sym (octets-path b store (y .0) n) ∙ o);
         }

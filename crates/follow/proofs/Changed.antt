@@ -1,36 +1,30 @@
 -- A change at one place keeps the table in step with the story. Assumes nothing.
-use Prim.Native.Nat.{ℕ, _+_, _≤_, _<_, _%_}
+use Prim.Native.Nat.{ℕ, _+_, _≤_, _<_}
 use native.Mathlib.Omega.{arith}
 use mathlib.Core.Path.{_≡_, sym, ap, _∙_}
 use mathlib.Core.List.{List}
 use mathlib.Core.Option.{none}
 use mathlib.Core.Logic.{_⊎_, inl, inr, ⊎-elim}
-use lib.ListN.{length, length-set}
+use lib.ListN.{length}
 use lib.Seq.{getD-set-same, getD-set-other}
 use Rattle.table.specs.declared.board.Board.{Board}
-use Rattle.table.specs.Sizes.{places, keyLeast, keyMost, versionMost, bodyLeast, room, unit}
+use Rattle.table.specs.Sizes.{places, keyLeast}
 use Rattle.table.specs.Table.{keyAt, versionAt, lengthAt, Used, changed}
+use Rattle.table.specs.Proper.{Proper}
 use Rattle.table.proofs.Logic.{same?}
-use Rattle.table.proofs.Proper.{Sound}
-use Rattle.follow.specs.Story.{Change, Story, did, version, keyOf, bodyOf, held, last}
-use Rattle.follow.proofs.Clean.{Clean}
+use Rattle.table.proofs.Changed.{changed-sized}
+use Rattle.follow.specs.Story.{Change, Story, did, keyOf, bodyOf, held, last}
 use Rattle.follow.proofs.Begun.{octets, octets-mark}
 use Rattle.follow.proofs.Keeps.{last-same, last-other, held-same, held-other}
 use Rattle.follow.proofs.Table.{Stands}
 
 -- what is asked of a change c at place i to n octets, with floor f after it, and with the store st before and st′ after it
 pub record Fits (b : Board) (st st′ : List ℕ) (c : Change) (i n f : ℕ) : Type 0 where
+  pub proper : Proper (changed b i (keyOf c) n f)
   pub place : i < places
   pub low : keyLeast ≤ keyOf c
-  pub high : keyOf c ≤ keyMost
-  pub most : n ≤ room
-  pub least : (n ≡ 0 → ⊥) → bodyLeast ≤ n
-  pub four : n % unit ≡ 0
-  pub next : b .version < versionMost
   pub alone : (j : ℕ) → j < places → (i ≡ j → ⊥) → keyAt b j ≡ keyOf c → ⊥
   pub rises : b .floor ≤ f
-  pub floor-in : f ≤ b .version
-  pub marks : (j : ℕ) → j < places → (i ≡ j → ⊥) → Used b j → lengthAt b j ≡ 0 → f < versionAt b j
   pub dropped : Used b i → (keyAt b i ≡ keyOf c → ⊥) → (lengthAt b i ≡ 0) × (versionAt b i ≤ f)
   pub body : octets (changed b i (keyOf c) n f) st′ i ≡ bodyOf c
   pub store : length st′ ≡ length st
@@ -47,62 +41,12 @@ module _ (b : Board) (st st′ : List ℕ) (h : Story) (c : Change) (i n f : ℕ
   ver-same : versionAt b′ i ≡ b .version + 1
   ver-same = getD-set-same (b .versions) i (b .version + 1) 0 (omega (arith, x .place, r .sized .versions))
 
-  len-same : lengthAt b′ i ≡ n
-  len-same = getD-set-same (b .lengths) i n 0 (omega (arith, x .place, r .sized .lengths))
-
   module _ (j : ℕ) (d : i ≡ j → ⊥) where
     key-other : keyAt b′ j ≡ keyAt b j
     key-other = getD-set-other (b .keys) i j (keyOf c) 0 (λ e. d (sym e))
 
     ver-other : versionAt b′ j ≡ versionAt b j
     ver-other = getD-set-other (b .versions) i j (b .version + 1) 0 (λ e. d (sym e))
-
-    len-other : lengthAt b′ j ≡ lengthAt b j
-    len-other = getD-set-other (b .lengths) i j n 0 (λ e. d (sym e))
-
-  -- ---- the record is proper again
-
-  new-sound : Sound (keyOf c) (b .version + 1) n (b .version + 1) f
-  new-sound = record { none = λ z. absurd (omega (arith, x .low)); key = x .high; low = λ z. omega arith; high = omega arith; mark = λ z y. omega (arith, x .floor-in); least = x .least; most = x .most; four = x .four }
-
-  old-sound : (j : ℕ) → j < places → (i ≡ j → ⊥) → Sound (keyAt b j) (versionAt b j) (lengthAt b j) (b .version + 1) f
-  old-sound j l d = let o = r .clean .sound-at j l in
-      record { none = o .none; key = o .key; low = o .low; high = omega (arith, o .high); mark = x .marks j l d; least = o .least; most = o .most; four = o .four }
-
-  sound-all : (j : ℕ) → j < places → Sound (keyAt b′ j) (versionAt b′ j) (lengthAt b′ j) (b .version + 1) f
-  sound-all j l = ⊎-elim
-      (λ e. rw (← e, key-same, ver-same, len-same) new-sound)
-      (λ d. rw (key-other j d, ver-other j d, len-other j d) (old-sound j l d))
-      (same? i j)
-
-  one-key-all : (a e : ℕ) → a < places → e < places → Used b′ a → keyAt b′ a ≡ keyAt b′ e → a ≡ e
-  one-key-all a e l m z q = go (same? i a) (same? i e)
-    where
-      at : (j : ℕ) → i ≡ j → keyAt b′ j ≡ keyOf c
-      at j p = ap (keyAt b′) (sym p) ∙ key-same
-
-      go : (i ≡ a) ⊎ (i ≡ a → ⊥) → (i ≡ e) ⊎ (i ≡ e → ⊥) → a ≡ e
-      go (inl p) (inl o) = sym p ∙ o
-      go (inl p) (inr o) = absurd (x .alone e m o (sym (key-other e o) ∙ sym q ∙ at a p))
-      go (inr p) (inl o) = absurd (x .alone a l p (sym (key-other a p) ∙ q ∙ at e o))
-      go (inr p) (inr o) = r .clean .one-key a e l m (λ y. z (key-other a p ∙ y)) (sym (key-other a p) ∙ q ∙ key-other e o)
-
-  one-version-all : (a e : ℕ) → a < places → e < places → Used b′ a → Used b′ e → versionAt b′ a ≡ versionAt b′ e → a ≡ e
-  one-version-all a e l m z y q = go (same? i a) (same? i e)
-    where
-      at : (j : ℕ) → i ≡ j → versionAt b′ j ≡ b .version + 1
-      at j p = ap (versionAt b′) (sym p) ∙ ver-same
-
-      go : (i ≡ a) ⊎ (i ≡ a → ⊥) → (i ≡ e) ⊎ (i ≡ e → ⊥) → a ≡ e
-      go (inl p) (inl o) = sym p ∙ o
-      go (inl p) (inr o) = absurd (omega (arith, r .clean .sound-at e m .high, ver-other e o, q, at a p))
-      go (inr p) (inl o) = absurd (omega (arith, r .clean .sound-at a l .high, ver-other a p, q, at e o))
-      go (inr p) (inr o) = r .clean .one-version a e l m (λ u. z (key-other a p ∙ u)) (λ u. y (key-other e o ∙ u)) (sym (ver-other a p) ∙ q ∙ ver-other e o)
-
-  clean-all : Clean b′
-  clean-all = record { floor-in = omega (arith, x .floor-in); version-in = omega (arith, x .next); sound-at = sound-all; one-key = one-key-all; one-version = one-version-all }
-
-  -- ---- and in step with the story
 
   here-all : (j : ℕ) → j < places → Used b′ j →
       (last (did c h) (keyAt b′ j) ≡ versionAt b′ j) × (held (did c h) (keyAt b′ j) ≡ octets b′ st′ j)
@@ -141,12 +85,8 @@ module _ (b : Board) (st st′ : List ℕ) (h : Story) (c : Change) (i n f : ℕ
 
   pub stands-changed : Stands (changed b i (keyOf c) n f) st′ (did c h)
   stands-changed = record {
-    clean = clean-all;
-    sized = record {
-      keys = length-set (b .keys) i (keyOf c) ∙ r .sized .keys;
-      versions = length-set (b .versions) i (b .version + 1) ∙ r .sized .versions;
-      lengths = length-set (b .lengths) i n ∙ r .sized .lengths;
-    };
+    proper = x .proper;
+    sized = changed-sized b i (keyOf c) n f (r .sized);
     enough = omega (arith, x .store, r .enough);
     version-is = omega (arith, r .version-is);
     zero-not = last-other c h 0 (λ z. omega (arith, x .low)) ∙ r .zero-not;

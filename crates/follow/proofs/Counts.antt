@@ -9,9 +9,10 @@ use borrow.Author.Tests.{eq-eqb, ne-eqb, eqb-false}
 use Rattle.table.specs.declared.board.Board.{Board}
 use Rattle.table.specs.Sizes.{places}
 use Rattle.table.specs.Table.{keyAt}
+use Rattle.table.specs.Proper.{Proper}
 use Rattle.table.proofs.Logic.{same?}
+use Rattle.table.proofs.Proper.{proper-sound}
 use Rattle.follow.specs.Floor.{countBelow, keyEnd}
-use Rattle.follow.proofs.Clean.{Clean}
 
 pub count-same : (t u : ℕ → Bool) (n : ℕ) → ((j : ℕ) → j < n → u j ≡ t j) → countBelow u n ≡ countBelow t n
 unfolding countBelow
@@ -48,7 +49,7 @@ has-not b (suc n) k f = rw (ne-eqb (keyAt b n) k (f n (omega arith)), has-not b 
 unfoldable pub used : Board → ℕ → Bool
 used b i = not (eqb (keyAt b i) 0)
 
-keys-count-at : (m : ℕ) → keyEnd ≤ m → (b : Board) → Clean b → (n : ℕ) → n ≤ places → countBelow (has b n) m ≡ countBelow (used b) n
+keys-count-at : (m : ℕ) → keyEnd ≤ m → (b : Board) → Proper b → (n : ℕ) → n ≤ places → countBelow (has b n) m ≡ countBelow (used b) n
 unfolding countBelow has used
 keys-count-at m h b p zero l = none m
   where
@@ -60,9 +61,9 @@ keys-count-at m h b p (suc n) l = go (eqb (keyAt b n) 0) refl (keys-count-at m h
     go : (x : Bool) → eqb (keyAt b n) 0 ≡ x → countBelow (has b n) m ≡ countBelow (used b) n → countBelow (λ k. cond (eqb (keyAt b n) 0) (has b n k) (cond (eqb (keyAt b n) k) true (has b n k))) m ≡ cond (not (eqb (keyAt b n) 0)) (suc (countBelow (used b) n)) (countBelow (used b) n)
     go true e r = rw e r
     go false e r = let z = eqb-false (keyAt b n) 0 e in
-        rw e (count-raise (has b n) (λ k. cond (eqb (keyAt b n) k) true (has b n k)) m (keyAt b n) (omega (arith, p .sound-at n l .key))
-        (has-not b n (keyAt b n) (λ j u q. absurd (omega (arith, p .one-key n j l (omega arith) z (sym q))))) (rw (eq-eqb (keyAt b n) (keyAt b n) refl))
+        rw e (count-raise (has b n) (λ k. cond (eqb (keyAt b n) k) true (has b n k)) m (keyAt b n) (omega (arith, proper-sound b p n l .key))
+        (has-not b n (keyAt b n) (λ j u q. absurd (omega (arith, p .keys-distinct n j l (omega arith) z (sym q))))) (rw (eq-eqb (keyAt b n) (keyAt b n) refl))
         (λ j d. rw (ne-eqb (keyAt b n) j (λ y. d (sym y)))) ∙ ap suc r)
 
-pub keys-count : (b : Board) → Clean b → (n : ℕ) → n ≤ places → countBelow (has b n) keyEnd ≡ countBelow (used b) n
+pub keys-count : (b : Board) → Proper b → (n : ℕ) → n ≤ places → countBelow (has b n) keyEnd ≡ countBelow (used b) n
 keys-count b p n l = keys-count-at keyEnd (omega arith) b p n l

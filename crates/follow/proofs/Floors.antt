@@ -13,6 +13,7 @@ use Rattle.table.specs.declared.board.Board.{Board}
 use Rattle.table.specs.Table.{keyAt, versionAt, lengthAt}
 use Rattle.table.specs.Search.{ReportPlace, keeps, takes, drops, floorAfter}
 use Rattle.table.proofs.Logic.{true≢false, and-true, same?, test-is}
+use Rattle.table.proofs.Proper.{proper-sound}
 use Rattle.table.proofs.Search.{floor-keeps, floor-takes, floor-drops}
 use Rattle.follow.specs.Story.{Body, Story, held, last}
 use Rattle.follow.specs.Floor.{countBelow, leastValue, isSome, standing, keyEnd, floorPut}
@@ -56,7 +57,7 @@ module _ (b : Board) (store : List ℕ) (h : Story) (r : Stands b store h) where
   place-stands i l u = let g = r .here i l u in go (eqb (lengthAt b i) 0) refl (rw (g .1, g .0) refl)
     where
       go : (x : Bool) → eqb (lengthAt b i) 0 ≡ x → standing h (b .floor) (keyAt b i) ≡ isSome (octets b store i) || ltb (b .floor) (versionAt b i) → standing h (b .floor) (keyAt b i) ≡ true
-      go true e q = q ∙ rw (e, lt-ltb (b .floor) (versionAt b i) (r .clean .sound-at i l .mark u (eqb-true _ _ e)))
+      go true e q = q ∙ rw (e, lt-ltb (b .floor) (versionAt b i) (proper-sound b (r .proper) i l .mark u (eqb-true _ _ e)))
       go false e q = q ∙ rw e
 
   stands-last : (k : ℕ) → standing h (b .floor) k ≡ true → (0 < last h k) × (held h k ≡ none → b .floor < last h k)
@@ -84,7 +85,7 @@ module _ (b : Board) (store : List ℕ) (h : Story) (r : Stands b store h) where
       (λ e. let y = has-where b 128 k e in ap (standing h (b .floor)) (sym (y .2)) ∙ place-stands (y .0) (y .1) (y .3))
 
   count-is : countBelow (standing h (b .floor)) keyEnd ≡ countBelow (used b) 128
-  count-is = count-same (has b 128) (standing h (b .floor)) keyEnd (λ j l. has-is j) ∙ keys-count b (r .clean) 128 (omega arith)
+  count-is = count-same (has b 128) (standing h (b .floor)) keyEnd (λ j l. has-is j) ∙ keys-count b (r .proper) 128 (omega arith)
 
 count-full : (t : ℕ → Bool) (n : ℕ) → ((j : ℕ) → j < n → t j ≡ true) → countBelow t n ≡ n
 unfolding countBelow
@@ -161,7 +162,7 @@ module _ (b : Board) (store : List ℕ) (h : Story) (r : Stands b store h) (k i 
   oldest-mark u e a =
       let g = r .here i l u in
       let t : mark? (keyAt b i) ≡ true = rw (place-stands b store h r i l u, g .1, octets-mark b store i e) in
-      least-value mark? (last h) mark-pos keyEnd (keyAt b i) (omega (arith, r .clean .sound-at i l .key)) t
+      least-value mark? (last h) mark-pos keyEnd (keyAt b i) (omega (arith, proper-sound b (r .proper) i l .key)) t
       (λ j m q.
       let p = and-true (standing h (b .floor) j) _ q in
       let y = stands-place b store h r j (p .0) in

@@ -1,5 +1,4 @@
 pub mod Cases
-pub mod Clean
 pub mod Begun
 pub mod Keeps
 pub mod Table
@@ -8,7 +7,6 @@ pub mod Steps
 pub mod Compacts
 pub mod Counts
 pub mod Floors
-pub mod Accepted
 pub mod Owed
 pub mod Theorem
 pub mod Asks

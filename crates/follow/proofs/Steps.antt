@@ -1,5 +1,5 @@
 -- An accepted report or removal keeps the table in step with the story. Assumes nothing.
-use Prim.Native.Nat.{ℕ, _+_, _*_, _≤_, _<_, _%_}
+use Prim.Native.Nat.{ℕ, _+_, _*_, _≤_, _<_}
 use native.Mathlib.Omega.{arith}
 use mathlib.Core.Path.{_≡_, refl, sym, _∙_}
 use mathlib.Core.List.{List}
@@ -11,11 +11,13 @@ use borrow.Author.Tests.{ne-eqb}
 use Rattle.octets.specs.Octets.{placed}
 use Rattle.octets.proofs.Laws.{length-placed, part-placed-same, part-placed-other}
 use Rattle.table.specs.declared.board.Board.{Board}
-use Rattle.table.specs.Sizes.{places, room, keyLeast, keyMost, versionMost, unit, bodyLeast}
-use Rattle.table.specs.Table.{versionAt, lengthAt, changed}
-use Rattle.table.specs.Search.{ReportPlace, keeps, takes, drops, targetOf, floorAfter, placeOf}
+use Rattle.table.specs.Sizes.{places, room, keyLeast, bodyLeast}
+use Rattle.table.specs.Table.{lengthAt, changed}
+use Rattle.table.specs.Search.{KeyPlace, placeOf, ReportPlace, keeps, takes, drops, targetOf, floorAfter}
+use Rattle.table.specs.Proper.{Proper}
 use Rattle.table.proofs.Logic.{from?}
-use Rattle.table.proofs.Search.{report-place-is, floor-keeps, floor-takes, floor-drops, key-place-is}
+use Rattle.table.proofs.Proper.{proper-sound}
+use Rattle.table.proofs.Search.{report-place-is, floor-keeps, floor-takes, floor-drops}
 use Rattle.board.specs.Body.{octetsAt}
 use Rattle.board.specs.Remove.{removed}
 use Rattle.follow.specs.Story.{put, gone, Story, did}
@@ -29,8 +31,7 @@ apart i j d = ⊎-elim (λ l. inl (omega (arith, d))) (λ l. inr l) (from? i j)
 -- ---- a report
 
 module _ (b : Board) (st : List ℕ) (h : Story) (k : ℕ) (src : List ℕ) (r : Stands b st h)
-    (k-low : keyLeast ≤ k) (k-high : k ≤ keyMost) (size-low : bodyLeast ≤ length src) (size-high : length src ≤ room) (size-four : length src % unit ≡ 0)
-    (next : b .version < versionMost) where
+    (k-low : keyLeast ≤ k) (size-low : bodyLeast ≤ length src) (size-high : length src ≤ room) where
   module _ (i : ℕ) (l : i < places) (f : ℕ) where
     fits-in : room * i + length src ≤ length st
     fits-in = omega (arith, r .enough)
@@ -43,99 +44,70 @@ module _ (b : Board) (st : List ℕ) (h : Story) (k : ℕ) (src : List ℕ) (r :
     others-stay : (j : ℕ) → j < places → (i ≡ j → ⊥) → octets (changed b i k (length src) f) (placed st (room * i) src) j ≡ octets b st j
     unfolding octetsAt
     others-stay j m d =
-        let o = r .clean .sound-at j m .most in
+        let o = proper-sound b (r .proper) j m .most in
         rw (
           getD-set-other (b .lengths) i j (length src) 0 (λ e. d (sym e)),
           part-placed-other st (room * i) src (room * j) (lengthAt b j) fits-in (omega (arith, r .enough)) (⊎-elim (λ q. inr (omega arith)) (λ q. inl (omega arith)) (apart i j d)),
         )
 
-  report-fits : (i : ℕ) → i < places → ReportPlace b k i → Fits b st (placed st (room * i) src) (put k src) i (length src) (floorAfter b k i)
-  report-fits i l (keeps y) =
+  report-fits : (i : ℕ) → i < places → Proper (changed b i k (length src) (floorAfter b k i)) → ReportPlace b k i → Fits b st (placed st (room * i) src) (put k src) i (length src) (floorAfter b k i)
+  report-fits i l p (keeps y) =
       let f = floor-keeps b k i (y .key) in
       record {
+        proper = p;
         place = l;
         low = k-low;
-        high = k-high;
-        most = size-high;
-        least = λ z. size-low;
-        four = size-four;
-        next = next;
-        alone = λ j m d q. d (r .clean .one-key i j l m (λ z. omega (arith, y .key)) (y .key ∙ sym q));
+        alone = λ j m d q. d (r .proper .keys-distinct i j l m (λ z. omega (arith, y .key)) (y .key ∙ sym q));
         rises = omega arith;
-        floor-in = omega (arith, r .clean .floor-in);
-        marks = λ j m d u z. omega (arith, r .clean .sound-at j m .mark u z);
         dropped = λ u z. absurd (z (y .key));
         body = body-new i l (floorAfter b k i);
         store = length-placed st (room * i) src (fits-in i l 0);
         others = others-stay i l (floorAfter b k i);
       }
-  report-fits i l (takes n y) =
+  report-fits i l p (takes n y) =
       let f = floor-takes b k i (y .empty) in
       record {
+        proper = p;
         place = l;
         low = k-low;
-        high = k-high;
-        most = size-high;
-        least = λ z. size-low;
-        four = size-four;
-        next = next;
         alone = λ j m d q. n j m q;
         rises = omega arith;
-        floor-in = omega (arith, r .clean .floor-in);
-        marks = λ j m d u z. omega (arith, r .clean .sound-at j m .mark u z);
         dropped = λ u z. absurd (u (y .empty));
         body = body-new i l (floorAfter b k i);
         store = length-placed st (room * i) src (fits-in i l 0);
         others = others-stay i l (floorAfter b k i);
       }
-  report-fits i l (drops n z y) =
+  report-fits i l p (drops n z y) =
       let f = floor-drops b k i (z i l) (n i l) in
-      let o = r .clean .sound-at i l in
-      let e = y .removal .bare in
       record {
+        proper = p;
         place = l;
         low = k-low;
-        high = k-high;
-        most = size-high;
-        least = λ q. size-low;
-        four = size-four;
-        next = next;
         alone = λ j m d q. n j m q;
-        rises = omega (arith, o .mark (z i l) e);
-        floor-in = omega (arith, o .high);
-        marks = λ j m d u q.
-            let v : versionAt b i ≡ versionAt b j → ⊥ = λ p. d (r .clean .one-version i j l m (z i l) u p) in
-            omega (arith, y .oldest j m (record { used = u; bare = q }));
-        dropped = λ u q. (e, omega arith);
+        rises = omega (arith, r .proper .removal-above i l (y .removal));
+        dropped = λ u q. (y .removal .bare, omega arith);
         body = body-new i l (floorAfter b k i);
         store = length-placed st (room * i) src (fits-in i l 0);
         others = others-stay i l (floorAfter b k i);
       }
 
-  pub stands-report : targetOf b k < places → Stands (changed b (targetOf b k) k (length src) (floorAfter b k (targetOf b k))) (placed st (room * targetOf b k) src) (did (put k src) h)
-  stands-report l = stands-changed b st (placed st (room * targetOf b k) src) h (put k src) (targetOf b k) (length src) (floorAfter b k (targetOf b k)) r (report-fits (targetOf b k) l (report-place-is b k l))
+  pub stands-report : targetOf b k < places → Proper (changed b (targetOf b k) k (length src) (floorAfter b k (targetOf b k))) → Stands (changed b (targetOf b k) k (length src) (floorAfter b k (targetOf b k))) (placed st (room * targetOf b k) src) (did (put k src) h)
+  stands-report l p = stands-changed b st (placed st (room * targetOf b k) src) h (put k src) (targetOf b k) (length src) (floorAfter b k (targetOf b k)) r (report-fits (targetOf b k) l p (report-place-is b k l))
 
 -- ---- a removal
 
-module _ (b : Board) (st : List ℕ) (h : Story) (k : ℕ) (r : Stands b st h) (l : placeOf b k < places) (k-low : keyLeast ≤ k) (k-high : k ≤ keyMost) (next : b .version < versionMost) where
+module _ (b : Board) (st : List ℕ) (h : Story) (k : ℕ) (r : Stands b st h) (y : KeyPlace b k (placeOf b k)) (k-low : keyLeast ≤ k) (p : Proper (removed b k)) where
   remove-fits : Fits b st st (gone k) (placeOf b k) 0 (b .floor)
-  unfolding octetsAt
+  unfolding octetsAt removed
   remove-fits =
-      let y = key-place-is b k l in
       record {
-        place = l;
+        proper = p;
+        place = y .here;
         low = k-low;
-        high = k-high;
-        most = omega arith;
-        least = λ z. absurd (z refl);
-        four = refl;
-        next = next;
-        alone = λ j m d q. d (r .clean .one-key (placeOf b k) j l m (λ z. omega (arith, y .key)) (y .key ∙ sym q));
+        alone = λ j m d q. d (r .proper .keys-distinct (placeOf b k) j (y .here) m (λ z. omega (arith, y .key)) (y .key ∙ sym q));
         rises = omega arith;
-        floor-in = r .clean .floor-in;
-        marks = λ j m d v z. r .clean .sound-at j m .mark v z;
         dropped = λ v z. absurd (z (y .key));
-        body = rw (getD-set-same (b .lengths) (placeOf b k) 0 0 (omega (arith, r .sized .lengths)));
+        body = rw (getD-set-same (b .lengths) (placeOf b k) 0 0 (omega (arith, r .sized .lengths, y .here)));
         store = refl;
         others = λ j m d. rw (getD-set-other (b .lengths) (placeOf b k) j 0 0 (λ e. d (sym e)));
       }

@@ -14,6 +14,7 @@ use Rattle.table.specs.Sizes.{places, storeSize}
 use Rattle.table.specs.Table.{keyAt, versionAt, lengthAt, Used, Sized}
 use Rattle.table.specs.Search.{Wanted, nextOf}
 use Rattle.table.specs.Search.Wanted.{path, removal}
+use Rattle.table.specs.Proper.{Proper}
 use Rattle.table.proofs.Logic.{same?}
 use Rattle.table.proofs.Search.{wanted-used}
 use Rattle.table.proofs.Search as searches
@@ -21,12 +22,11 @@ use Rattle.board.specs.Body.{octetsAt}
 use Rattle.follow.specs.Story.{Story, begun, version, held, last}
 use Rattle.follow.specs.Follower.{Lacks, Oldest}
 use Rattle.follow.proofs.Cases.{some≢none}
-use Rattle.follow.proofs.Clean.{Clean, clean-of}
 use Rattle.follow.proofs.Begun.{octets, octets-mark, begun-zero, begun-here, begun-there}
 
 -- A used place holds its key's last change. A key that was changed has a place, or its removal was dropped at or below the floor.
 pub record Stands (b : Board) (store : List ℕ) (h : Story) : Type 0 where
-  pub clean : Clean b
+  pub proper : Proper b
   pub sized : Sized b
   pub enough : storeSize ≤ length store
   pub version-is : b .version ≡ version h
@@ -95,9 +95,9 @@ module _ (b : Board) (store : List ℕ) (h : Story) (s w : ℕ) (r : Stands b st
 
 -- ---- the start
 
-pub stands-begun : (b : Board) (store : List ℕ) (p : _) → Sized b → storeSize ≤ length store → Stands b store (begun b store p)
+pub stands-begun : (b : Board) (store : List ℕ) (p : Proper b) → Sized b → storeSize ≤ length store → Stands b store (begun b store p)
 stands-begun b store p z g = record {
-  clean = clean-of b p;
+  proper = p;
   sized = z;
   enough = g;
   version-is = refl;

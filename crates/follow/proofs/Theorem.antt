@@ -8,7 +8,7 @@ use mathlib.Core.Option.{none, some}
 use mathlib.Core.Logic.{_⊎_, ⊎-elim}
 use lib.ListN.{length}
 use lib.Dec.{eqb, ltb}
-use borrow.Author.Tests.{ne-eqb, lt-ltb, le-ltb, le-leb}
+use borrow.Author.Tests.{ne-eqb, lt-ltb, le-ltb}
 use Rattle.answers.specs.Numbers.{markTooOld}
 use Rattle.answers.specs.Verdicts.{refusedBy, acceptedWith, kept}
 use Rattle.table.specs.declared.board.Board.{Board}
@@ -16,9 +16,11 @@ use Rattle.table.specs.Sizes.{places, storeSize}
 use Rattle.table.specs.Table.{emptyBoard, keyAt, versionAt, lengthAt}
 use Rattle.table.specs.Search.{targetOf, nextOf}
 use Rattle.table.proofs.Logic.{from?}
-use Rattle.table.proofs.Proper.{is-proper, empty-sized, empty-proper}
+use Rattle.table.proofs.Proper.{empty-sized, empty-proper}
 use Rattle.table.proofs.Search.{report-place-is}
 use Rattle.board.specs.Rules.{isBoard}
+use Rattle.board.proofs.Verdicts.{whole-board, report-passed, remove-passed, compact-passed}
+use Rattle.board.proofs.Keeps.{reported-proper, removed-proper}
 use Rattle.board.specs.Body.{octetsAt}
 use Rattle.board.specs.Report.{bodyIn, reportVerdict, reportWith, storeWith, reported, reportAnswer, reportStore}
 use Rattle.board.specs.Remove.{removeVerdict, removeAnswer, removed}
@@ -35,7 +37,6 @@ use Rattle.follow.specs.Heard.{Heard, refusal, change, level, heardIn, d
 use Rattle.follow.specs.Run.{World, Act, report, remove, compact, begin, ask, told, answerTo, following, step, run, start}
 use Rattle.follow.specs.Promise.{Answered, Whole, NoFollowerIsFooled}
 use Rattle.follow.proofs.Cases.{cases}
-use Rattle.follow.proofs.Clean.{proper-of}
 use Rattle.follow.proofs.Begun.{octets, begun-le, begun-none}
 use Rattle.follow.proofs.Keeps.{Keeps, has, keeps-fresh, keeps-change, keeps-compact, keeps-made, keeps-level}
 use Rattle.follow.proofs.Owed.{Owed, old, next, done, answered-of}
@@ -43,7 +44,6 @@ use Rattle.follow.proofs.Table.{Stands, none-lacked, oldest-lacked, sta
 use Rattle.follow.proofs.Steps.{stands-report, stands-remove}
 use Rattle.follow.proofs.Compacts.{stands-compact}
 use Rattle.follow.proofs.Floors.{floor-put}
-use Rattle.follow.proofs.Accepted.{report-taken, remove-taken, compact-taken}
 
 -- ---- the invariant
 
@@ -57,8 +57,7 @@ pub record Good (x : World) : Type 0 where
 
 module _ (x : World) (g : Good x) (n : ℕ) where
   pub is-board : isBoard (x .board) (length (x .store)) ≡ true
-  unfolding isBoard
-  is-board = rw (le-leb storeSize (length (x .store)) (g .table .enough), is-proper (x .board) (proper-of (x .board) (g .table .clean)))
+  is-board = whole-board (x .board) (length (x .store)) (record { store = g .table .enough; proper = g .table .proper })
 
   verdict-is : nextVerdict (x .board) (x .store) (x .followers n .s) (x .followers n .w) ≡ cond (ltb (max (x .followers n .s) (x .followers n .w)) (x .board .floor)) (refusedBy markTooOld 0) (acceptedWith 0)
   unfolding nextVerdict nextRules
@@ -146,15 +145,16 @@ kept-same zero s = refl
 kept-same (suc n) s = refl
 
 good-report : (x : World) (k : ℕ) (ero : List ℕ) (session : Session) (pst : ℕ) → Good x → Good (step x (report k ero session pst))
-unfolding step reportAnswer reportStore reportWith storeWith reported reportVerdict floorOf
+unfolding step reportAnswer reportStore reportWith storeWith reported floorOf
 good-report x k ero session pst g =
     by-number (GoodAt (x .followers)) (reportVerdict (x .board) (x .store) k ero (judgeOf ero true session pst) .number) (x .board) _ (x .store) _ (x .story) _ g
     (λ e.
-    let t = report-taken (isBoard (x .board) (length (x .store))) k (judgeOf ero true session pst) (length (bodyIn ero)) (x .board .version) (targetOf (x .board) k) e in
+    let t = report-passed (x .board) (x .store) k ero (judgeOf ero true session pst) e in
     let s = accepted-body ero true session pst (t .route-taken) in
+    let p = reported-proper (x .board) (x .store) k ero (judgeOf ero true session pst) (g .table .sized) (record { least = s .0; four = s .1 }) e in
     record {
-      table = stands-report (x .board) (x .store) (x .story) k (bodyIn ero) (g .table) (t .low) (t .high) (s .0) (t .size) (s .1) (omega (arith, t .next, g .table .clean .version-in)) (t .goes);
-      floor-is = floor-put (x .board) (x .store) (x .story) (g .table) k (targetOf (x .board) k) (t .goes) (t .low) (report-place-is (x .board) k (t .goes)) ∙ ap (λ (m : ℕ). floorPut (x .story) m k) (g .floor-is);
+      table = stands-report (x .board) (x .store) (x .story) k (bodyIn ero) (g .table) (t .key-least) (s .0) (t .size) (t .place) p;
+      floor-is = floor-put (x .board) (x .store) (x .story) (g .table) k (targetOf (x .board) k) (t .place) (t .key-least) (report-place-is (x .board) k (t .place)) ∙ ap (λ (m : ℕ). floorPut (x .story) m k) (g .floor-is);
       keeps = λ n. keeps-change (put k (bodyIn ero)) (x .story) (x .followers n) (g .keeps n);
     })
 
@@ -165,9 +165,9 @@ good-remove x k g =
     (kept-same (removeVerdict (x .board) (x .store) k .number) (x .store))
     (by-number (GoodAt (x .followers)) (removeVerdict (x .board) (x .store) k .number) (x .board) _ (x .store) (x .store) (x .story) _ g
     (λ e.
-    let t = remove-taken (x .board) (x .store) k e in
+    let t = remove-passed (x .board) (x .store) k e in
     record {
-      table = stands-remove (x .board) (x .store) (x .story) k (g .table) (t .place) (t .low) (t .high) (omega (arith, t .next, g .table .clean .version-in));
+      table = stands-remove (x .board) (x .store) (x .story) k (g .table) (t .place) (t .key-least) (removed-proper (x .board) (x .store) k (g .table .sized) e);
       floor-is = g .floor-is;
       keeps = λ n. keeps-change (gone k) (x .story) (x .followers n) (g .keeps n);
     }))
@@ -179,7 +179,7 @@ good-compact x c g =
     (kept-same (compactVerdict (x .board) (x .store) c .number) (x .store))
     (by-number (GoodAt (x .followers)) (compactVerdict (x .board) (x .store) c .number) (x .board) _ (x .store) (x .store) (x .story) _ g
     (λ e. record {
-      table = stands-compact (x .board) (x .store) (x .story) c (g .table) (compact-taken (x .board) (x .store) c e);
+      table = stands-compact (x .board) (x .store) (x .story) c (g .table) (compact-passed (x .board) (x .store) c e .reached);
       floor-is = ap (λ (m : ℕ). max m c) (g .floor-is);
       keeps = λ n. keeps-compact c (x .story) (x .followers n) (g .keeps n);
     }))
