@@ -17,14 +17,15 @@ use Rattle.writer.specs.declared.state.Written.{Written}
 
 -- the header ---------------------------------------------------------------------------------------------------
 
--- "ERO is class 7, RRO class 8, both type 1": the class is the one that the reader asks for.
 -- Type 1 in the high 4 bits; "header low bits are 0".
 abbrev pub typeOctet : ℕ
 typeOctet = 16
 
+-- "A 2-octet length that counts the 4 header octets."
 abbrev pub headerLength : ℕ
 headerLength = 4
 
+-- "ERO is class 7, RRO class 8, both type 1": the class is the one that the reader asks for.
 unfoldable pub headerOf : Bool → ℕ → List ℕ
 headerOf ero size = classOf ero ∷ typeOctet ∷ hi size ∷ lo size ∷ []
 

@@ -61,7 +61,7 @@ both-requires-2 c κs = search needs
 -- src/spare.rt:22:1
 returns : tie.Need-returns
 unfolding tidyOf
-returns c = rw (c .both2 .ensures, c .before .both .ensures, c .before .before .before .before .before .before .blank .ensures, c .before .before .before .before .blank2 .ensures, c .before .before .blank3 .ensures, c .before .before .before .before .before .before .before .before .before .before .before .pick .ensures .0, c .before .before .before .before .before .before .before .before .before .nai-length .ensures .0, c .before .before .before .before .before .before .before .before .before .before .wide .ensures .0, c .before .before .before .before .before .before .before .before .pick2 .ensures .0)
+returns c = simp (c .both2 .ensures, c .before .both .ensures, c .before .before .before .before .before .before .blank .ensures, c .before .before .before .before .blank2 .ensures, c .before .before .blank3 .ensures, c .before .before .before .before .before .before .before .before .before .before .before .pick .ensures .0, c .before .before .before .before .before .before .before .before .before .nai-length .ensures .0, c .before .before .before .before .before .before .before .before .before .before .wide .ensures .0, c .before .before .before .before .before .before .before .before .pick2 .ensures .0)
 
 pub tidy-spec : {M : Type 1} → statement M
 tidy-spec =
