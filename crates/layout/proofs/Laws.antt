@@ -114,11 +114,11 @@ written-subobject g h last b w x y z k n m there hg eh el ek en et em ew ex ey e
     ∙ rw (l, ek, en, et, eh)
 
 -- Octets from a place on that are all 0, one by one.
-pub zeros-miss : (s : List ℕ) (i : ℕ) → i < length s → (getD s i 0 ≡ 0 → ⊥) → false ≡ zeros (drop i s)
-zeros-miss s i h e = sym (rw (drop-cons s i 0 h, ne-eqb (getD s i 0) 0 e))
+pub zeros-more : (clear : Bool) (s : List ℕ) (i : ℕ) → i < length s
+    → ((clear && eqb (getD s i 0) 0) && zeros (drop (i + 1) s)) ≡ (clear && zeros (drop i s))
+zeros-more true s i h = rw (add-one i, drop-cons s i 0 h)
+zeros-more false s i h = refl
 
-pub zeros-more : (s : List ℕ) (i : ℕ) → i < length s → getD s i 0 ≡ 0 → zeros (drop (i + 1) s) ≡ zeros (drop i s)
-zeros-more s i h e = rw (add-one i, drop-cons s i 0 h, eq-eqb (getD s i 0) 0 e)
-
-pub zeros-end : (s : List ℕ) (i : ℕ) → length s ≤ i → true ≡ zeros (drop i s)
-zeros-end s i h = rw (drop-of-length-le s h)
+pub zeros-end : (clear : Bool) (s : List ℕ) (i : ℕ) → length s ≤ i → clear ≡ (clear && zeros (drop i s))
+zeros-end true s i h = rw (drop-of-length-le s h)
+zeros-end false s i h = refl

@@ -7,18 +7,17 @@ use subobject::Segment;
 // the bit lengths of a SID structure
 const BIT_LENGTHS: usize = 4;
 
-// Whether all octets from a place on are 0.
+// Whether all octets from a place on are 0. The loop has no way out, so that the compiler takes many octets at a time.
 fn blank(s: &[u8], from: usize) -> bool
     ensures blank { λ r. ⌜ r ≡ zeros (drop from (now (s .entry))) ⌝ }
 {
+    let mut clear = true;
     let mut i = from;
     while i < s.len() {
-        if s[i] != 0 {
-            return false;
-        }
+        clear = octets::both(clear, s[i] == 0);
         i = i + 1;
     }
-    true
+    clear
 }
 
 // Whether the octets that a segment keeps for a part that is absent or shorter are 0.

@@ -1,48 +1,45 @@
-use Prim.Native.Nat.{ℕ, _-_}
+use Prim.Native.Nat.{_-_}
 use mathlib.Core.Path.{_≡_, refl, sym, _∙_}
+use mathlib.Core.Bool.{_&&_}
 use lib.ListN.{length, drop}
 use native.Mathlib.Omega.{arith}
 use borrow.Author.Needs.{needs}
 use Rattle.layout.specs.Spare.{zeros}
-use Rattle.layout.proofs.Laws.{zeros-miss, zeros-more, zeros-end}
+use Rattle.layout.proofs.Laws.{zeros-more, zeros-end}
 use Rattle.layout.proofs.spare.blank.Statement.{statement}
 use Rattle.layout.proofs.spare.blank.Tie as tie
 use Rattle.layout.proofs.spare.blank.Reads as reads
 use Rattle.layout.proofs.spare.blank.Lts as lts
+use Rattle.octets.proofs.both.Reads as both-reads
 
 abbrev Inv-loop : tie.InvT-loop
-Inv-loop s from i₀ i = zeros (drop i s) ≡ zeros (drop from s)
+Inv-loop s from clear₀ i₀ clear i = (clear && zeros (drop i s)) ≡ zeros (drop from s)
 
 abbrev μ-loop : tie.MeasureT-loop
-μ-loop s from i₀ i = length s - i
+μ-loop s from clear₀ i₀ clear i = length s - i
 
--- src/spare.rt:12:5
 loop-holds : tie.Need-loop-holds Inv-loop μ-loop
 loop-holds c = refl
 
--- src/spare.rt:13:12
-shared-slice-read-if1 : tie.Need-shared-slice-read-if1 Inv-loop μ-loop
-shared-slice-read-if1 c = omega arith
+shared-slice-read-both : tie.Need-shared-slice-read-both Inv-loop μ-loop
+shared-slice-read-both c = omega arith
 
--- src/spare.rt:14:13
-returns : tie.Need-returns Inv-loop μ-loop
-returns c = zeros-miss (c .before .before .before .before .args .s .now) (c .before .before .before .loop .i) (c .before .before .loop-test .taken) (c .if1 .taken) ∙ c .before .before .before .loop .inv
+both-requires : tie.Need-both-requires Inv-loop μ-loop
+both-requires c κs = search needs
 
--- src/spare.rt:16:13
 add-i : tie.Need-add-i Inv-loop μ-loop
 add-i c = omega arith
 
--- src/spare.rt:12:5
 loop-less : tie.Need-loop-less Inv-loop μ-loop
 loop-less c = omega arith
 
--- src/spare.rt:12:5
 loop-again : tie.Need-loop-again Inv-loop μ-loop
-loop-again c = zeros-more (c .before .before .before .before .args .s .now) (c .before .before .before .loop .i) (c .before .before .loop-test .taken) (c .if1 .left) ∙ c .before .before .before .loop .inv
+loop-again c =
+    let l = c .before .before .before .loop in
+    rw (c .both .ensures) (zeros-more (l .clear) (c .before .before .before .before .before .args .s .now) (l .i) (c .before .before .loop-test .taken) ∙ l .inv)
 
--- src/spare.rt:8:1
-returns-2 : tie.Need-returns-2 Inv-loop μ-loop
-returns-2 c = zeros-end (c .before .before .args .s .now) (c .before .loop .i) (c .loop-test .left) ∙ c .before .loop .inv
+returns : tie.Need-returns Inv-loop μ-loop
+returns c = zeros-end (c .before .loop .clear) (c .before .before .before .args .s .now) (c .before .loop .i) (c .loop-test .left) ∙ c .before .loop .inv
 
 pub blank-spec : {M : Type 1} → statement M
 blank-spec =
@@ -51,9 +48,9 @@ blank-spec =
     Inv-loop
     μ-loop
     loop-holds
-    shared-slice-read-if1
-    returns
+    shared-slice-read-both
+    both-requires
     add-i
     loop-less
     loop-again
-    returns-2)
+    returns)
