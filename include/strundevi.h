@@ -172,9 +172,9 @@ strundevi_written strundevi_raw_finish(uint8_t *buffer, size_t size, strundevi_w
 void strundevi_raw_empty(uint32_t *keys, uint64_t *versions, uint16_t *lengths, uint64_t *version, uint64_t *floor);
 strundevi_verdict strundevi_raw_report(uint32_t *keys, uint64_t *versions, uint16_t *lengths, uint64_t *version, uint64_t *floor, uint8_t *store,
                                        size_t size, uint64_t key, const uint8_t *ero, size_t length, strundevi_session session, uint64_t pst);
-strundevi_verdict strundevi_raw_remove(uint32_t *keys, uint64_t *versions, uint16_t *lengths, uint64_t *version, uint64_t *floor,
+strundevi_verdict strundevi_raw_remove(const uint32_t *keys, uint64_t *versions, uint16_t *lengths, uint64_t *version, uint64_t floor,
                                        const uint8_t *store, size_t size, uint64_t key);
-strundevi_verdict strundevi_raw_compact(uint32_t *keys, uint64_t *versions, uint16_t *lengths, uint64_t *version, uint64_t *floor,
+strundevi_verdict strundevi_raw_compact(uint32_t *keys, uint64_t *versions, const uint16_t *lengths, uint64_t version, uint64_t *floor,
                                         const uint8_t *store, size_t size, uint64_t c);
 strundevi_part strundevi_raw_body(const uint32_t *keys, const uint64_t *versions, const uint16_t *lengths, uint64_t version, uint64_t floor,
                                   const uint8_t *store, size_t size, uint64_t key);
@@ -264,7 +264,7 @@ static inline strundevi_verdict strundevi_report(strundevi_board *board, uint8_t
 static inline strundevi_verdict strundevi_remove(strundevi_board *board, const uint8_t *store, size_t size, uint64_t key) {
     if (board == NULL)
         return strundevi_no_board();
-    return strundevi_raw_remove(board->keys, board->versions, board->lengths, &board->version, &board->floor, strundevi_from(store),
+    return strundevi_raw_remove(board->keys, board->versions, board->lengths, &board->version, board->floor, strundevi_from(store),
                                 strundevi_lent(store, size), key);
 }
 
@@ -272,7 +272,7 @@ static inline strundevi_verdict strundevi_remove(strundevi_board *board, const u
 static inline strundevi_verdict strundevi_compact(strundevi_board *board, const uint8_t *store, size_t size, uint64_t c) {
     if (board == NULL)
         return strundevi_no_board();
-    return strundevi_raw_compact(board->keys, board->versions, board->lengths, &board->version, &board->floor, strundevi_from(store),
+    return strundevi_raw_compact(board->keys, board->versions, board->lengths, board->version, &board->floor, strundevi_from(store),
                                  strundevi_lent(store, size), c);
 }
 

@@ -19,6 +19,8 @@ const E: [u8; 28] = [
 ];
 const PST: u64 = 3;
 const PLACES: usize = 128;
+const ERO: u8 = 1;
+const FREE: raw::Session = raw::Session { agreed: 1, n: 1, limited: 0, limit: 0 };
 
 /// A route of `n` segments like E's.
 fn plain_route(n: usize) -> Vec<u8> {
@@ -45,6 +47,20 @@ fn seal(mut octets: Vec<u8>) -> Vec<u8> {
     let size = octets.len() as u16;
     octets[2..4].copy_from_slice(&size.to_be_bytes());
     octets
+}
+
+/// Distinct keys all over the range.
+fn random_keys() -> Vec<u64> {
+    let mut keys = Vec::new();
+    let mut x = 1u64;
+    while keys.len() < PLACES {
+        x = x.wrapping_mul(6_364_136_223_846_793_005).wrapping_add(1_442_695_040_888_963_407);
+        let key = 1 + (x >> 33) % 1_048_574;
+        if !keys.contains(&key) {
+            keys.push(key);
+        }
+    }
+    keys
 }
 
 struct Bench {
@@ -86,14 +102,13 @@ impl Bench {
     }
 
     fn judge(&mut self, duty: &str, route: &[u8]) {
-        let ours = strundevi::Session { agreed: true, n: true, limit: None };
         let theirs = reference::Session { agreed: true, n: true, limit: None };
         let count = reference::judge(route, reference::Kind::Ero, &theirs, PST).unwrap();
-        assert_eq!(strundevi::judge(route, strundevi::Kind::Ero, &ours, PST), Ok(count));
+        assert_eq!(raw::judge(route, ERO, FREE, PST).count, count);
         self.time(
             duty,
             |_| {
-                black_box(strundevi::judge(black_box(route), strundevi::Kind::Ero, black_box(&ours), PST)).ok();
+                black_box(raw::judge(black_box(route), ERO, black_box(FREE), PST));
             },
             |_| {
                 black_box(reference::judge(black_box(route), reference::Kind::Ero, black_box(&theirs), PST)).ok();
@@ -102,14 +117,13 @@ impl Bench {
     }
 
     fn segment(&mut self, duty: &str, route: &[u8], i: u64) {
-        let ours = strundevi::Session { agreed: true, n: true, limit: None };
         let theirs = reference::Session { agreed: true, n: true, limit: None };
         let sid = reference::segment(route, reference::Kind::Ero, &theirs, PST, i).unwrap().sid;
-        assert_eq!(strundevi::segment(route, strundevi::Kind::Ero, &ours, PST, i).unwrap().sid, Some(sid));
+        assert_eq!(raw::segment(route, ERO, FREE, PST, i).segment.sid, sid);
         self.time(
             duty,
             |_| {
-                black_box(strundevi::segment(black_box(route), strundevi::Kind::Ero, black_box(&ours), PST, black_box(i))).ok();
+                black_box(raw::segment(black_box(route), ERO, black_box(FREE), PST, black_box(i)));
             },
             |_| {
                 black_box(reference::segment(black_box(route), reference::Kind::Ero, black_box(&theirs), PST, black_box(i))).ok();
@@ -122,14 +136,15 @@ impl Bench {
         let mut theirs = [0u8; 2048];
         let mut sid = [0; 16];
         sid.copy_from_slice(&E[12..]);
-        let segment = strundevi::Segment::with_sid(sid, 1);
+        let segment = raw::Segment { behaviour: 1, hassid: 1, sid, ..raw::Segment::ZERO };
         let other = reference::Segment { behaviour: 1, has_sid: true, sid, ..reference::Segment::default() };
         let library = |buffer: &mut [u8]| {
-            let mut writer = strundevi::Writer::begin(buffer, strundevi::Kind::Ero).unwrap();
+            let mut written = raw::begin(buffer, raw::Writer { ero: ERO, at: 0 }, ERO);
             for _ in 0..n {
-                writer.add(black_box(&segment)).unwrap();
+                written = raw::add(buffer, written.writer, *black_box(&segment));
+                assert_eq!(written.verdict.number, 0);
             }
-            writer.finish().unwrap().len()
+            raw::finish(buffer, written.writer).writer.at
         };
         let reference = |buffer: &mut [u8]| {
             let mut writer = reference::Writer::begin(buffer, reference::Kind::Ero).unwrap();
@@ -151,16 +166,16 @@ impl Bench {
         );
     }
 
-    /// Board calls with `used` places in use, all of them paths; keys and marks change from turn to turn.
-    fn board(&mut self, used: usize, name: &str) {
-        let session = raw::Session { agreed: 1, n: 1, limited: 0, limit: 0 };
+    /// Board calls with `used` places in use, all of them paths; keys and marks change from turn to turn. Keys one after another spread evenly
+    /// over any hash, keys at random do not.
+    fn board(&mut self, used: usize, name: &str, keys: &[u64]) {
         let other = reference::Session { agreed: true, n: true, limit: None };
         let ero = plain_route(4);
-        let key = |turn: usize| 1 + (turn * 37 % used) as u64 * 8191;
+        let key = |turn: usize| keys[turn * 37 % used];
         let mut store = vec![0; reference::STORE_OCTETS];
         let mut board = reference::Board::default();
-        for i in 0..used {
-            board.report(&mut store, 1 + i as u64 * 8191, &ero, &other, PST).unwrap();
+        for &key in &keys[..used] {
+            board.report(&mut store, key, &ero, &other, PST).unwrap();
         }
         let record = raw::Record { keys: board.keys, versions: board.versions, lengths: board.lengths, version: board.version, floor: board.floor };
         let start = (record, store.clone(), board, store);
@@ -169,7 +184,7 @@ impl Bench {
         self.time(
             &format!("report, {name}"),
             |turn| {
-                assert_eq!(raw::report(black_box(&mut r), &mut rs, key(turn), black_box(&ero), session, PST).number, 0);
+                assert_eq!(raw::report(black_box(&mut r), &mut rs, key(turn), black_box(&ero), FREE, PST).number, 0);
             },
             |turn| {
                 assert!(black_box(&mut b).report(&mut bs, key(turn), black_box(&ero), &other, PST).is_ok());
@@ -230,11 +245,11 @@ fn main() {
     let mut bench = Bench { rounds, worst: 0.0 };
 
     bench.title("duty");
-    assert!(strundevi::read_open(&O).is_ok());
+    assert_eq!(raw::read_open(&O).limit, 4);
     bench.time(
         "OPEN",
         |_| {
-            black_box(strundevi::read_open(black_box(&O))).ok();
+            black_box(raw::read_open(black_box(&O)));
         },
         |_| {
             black_box(reference::read_open(black_box(&O))).ok();
@@ -247,7 +262,7 @@ fn main() {
     bench.segment("segment 0 of 1", &plain_route(1), 0);
     bench.segment("segment 15 of 16", &plain_route(16), 15);
     bench.write("begin, 16 adds, finish", 16);
-    bench.board(PLACES, "full board");
+    bench.board(PLACES, "full board", &random_keys());
     println!("worst ratio {:.2}\n", bench.worst);
 
     bench.title("growth");
@@ -258,6 +273,8 @@ fn main() {
         bench.write(&format!("begin, adds, finish: {n}"), n);
     }
     for used in [1, 32, 64, 96] {
-        bench.board(used, &format!("places: {used}"));
+        bench.board(used, &format!("places: {used}"), &random_keys());
     }
+    let in_a_row: Vec<u64> = (1..=PLACES as u64).collect();
+    bench.board(PLACES, "full, keys in a row", &in_a_row);
 }

@@ -74,15 +74,11 @@ pub fn segment_back(s: &raw::Segment) -> Option<theirs::Segment> {
     })
 }
 
-/// A segment of the safe interface.
-pub fn safe_segment(s: &theirs::Segment) -> strundevi::Segment {
-    strundevi::Segment {
-        loose: s.loose,
-        verify: s.verify,
-        nt: s.nt,
-        behaviour: s.behaviour,
-        sid: s.has_sid.then_some(s.sid),
-        nai: s.nai,
-        structure: s.structured.then_some(s.structure),
-    }
+/// Whether the safe interface hands out what this segment says.
+pub fn says(safe: &strundevi::Segment, s: &theirs::Segment) -> bool {
+    let nai = theirs::route::nai_size(s.nt).unwrap_or(0);
+    (safe.loose(), safe.verify(), safe.nt(), safe.behaviour()) == (s.loose, s.verify, s.nt, s.behaviour)
+        && safe.sid() == s.has_sid.then_some(&s.sid)
+        && safe.nai() == &s.nai[..nai]
+        && safe.structure() == s.structured.then_some(s.structure)
 }

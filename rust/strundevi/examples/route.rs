@@ -28,7 +28,7 @@ fn main() -> Result<(), Refusal> {
 
     println!("judged: {} segments", judge(route, Kind::Ero, &session, PST_SRV6)?);
     let last = segment(route, Kind::Ero, &session, PST_SRV6, 2)?;
-    println!("segment 2: last octet of the SID {:?}", last.sid.map(|sid| sid[15]));
+    println!("segment 2: last octet of the SID {:?}", last.sid().map(|sid| sid[15]));
 
     let mut store = vec![0; STORE_OCTETS];
     let mut board = Board::new();

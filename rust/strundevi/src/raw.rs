@@ -35,7 +35,7 @@ pub struct Session {
 }
 
 #[repr(C)]
-#[derive(Clone, Copy)]
+#[derive(Clone, Copy, Debug, PartialEq, Eq)]
 pub struct Segment {
     pub loose: u8,
     pub verify: u8,
@@ -46,6 +46,12 @@ pub struct Segment {
     pub nai: [u8; 40],
     pub structured: u8,
     pub structure: [u8; 4],
+}
+
+impl Segment {
+    /// The segment that says nothing.
+    pub const ZERO: Segment =
+        Segment { loose: 0, verify: 0, nt: 0, behaviour: 0, hassid: 0, sid: [0; 16], nai: [0; 40], structured: 0, structure: [0; 4] };
 }
 
 #[repr(C)]
@@ -134,11 +140,11 @@ extern "C" {
         pst: u64,
     ) -> Verdict;
     fn strundevi_raw_remove(
-        keys: *mut Keys,
+        keys: *const Keys,
         versions: *mut Versions,
         lengths: *mut Lengths,
         version: *mut u64,
-        floor: *mut u64,
+        floor: u64,
         store: *const u8,
         size: usize,
         key: u64,
@@ -146,8 +152,8 @@ extern "C" {
     fn strundevi_raw_compact(
         keys: *mut Keys,
         versions: *mut Versions,
-        lengths: *mut Lengths,
-        version: *mut u64,
+        lengths: *const Lengths,
+        version: u64,
         floor: *mut u64,
         store: *const u8,
         size: usize,
@@ -239,12 +245,12 @@ pub fn report(b: &mut Record, store: &mut [u8], key: u64, ero: &[u8], session: S
 
 #[inline]
 pub fn remove(b: &mut Record, store: &[u8], key: u64) -> Verdict {
-    unsafe { strundevi_raw_remove(&mut b.keys, &mut b.versions, &mut b.lengths, &mut b.version, &mut b.floor, store.as_ptr(), store.len(), key) }
+    unsafe { strundevi_raw_remove(&b.keys, &mut b.versions, &mut b.lengths, &mut b.version, b.floor, store.as_ptr(), store.len(), key) }
 }
 
 #[inline]
 pub fn compact(b: &mut Record, store: &[u8], c: u64) -> Verdict {
-    unsafe { strundevi_raw_compact(&mut b.keys, &mut b.versions, &mut b.lengths, &mut b.version, &mut b.floor, store.as_ptr(), store.len(), c) }
+    unsafe { strundevi_raw_compact(&mut b.keys, &mut b.versions, &b.lengths, b.version, &mut b.floor, store.as_ptr(), store.len(), c) }
 }
 
 #[inline]

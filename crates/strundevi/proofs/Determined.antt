@@ -1,0 +1,83 @@
+-- Any two answers that fit the contract of a call, and any two records and buffers that it may leave, are equal.
+use Prim.Native.Nat.{ℕ}
+use mathlib.Core.Path.{_≡_}
+use mathlib.Core.List.{List}
+use Rattle.answers.proofs.Determined.{determined}
+use Rattle.table.specs.declared.board.Board.{Board}
+use Rattle.table.specs.Table.{emptyBoard}
+use Rattle.session.specs.Sessions.{sessionOf}
+use Rattle.open.specs.Open.{openOf}
+use Rattle.route.specs.Routes.{judgeOf, segmentOf}
+use Rattle.writer.specs.Writing.{beginAnswer, beginBuffer, addAnswer, addBuffer, finishAnswer, finishBuffer}
+use Rattle.board.specs.Report.{reportAnswer, reportStore}
+use Rattle.board.specs.Remove.{removeAnswer}
+use Rattle.board.specs.Compact.{compactAnswer}
+use Rattle.board.specs.Next.{nextAnswer}
+use Rattle.border.specs.declared.verdict.VerdictRecord.{VerdictRecord}
+use Rattle.border.specs.declared.opened.OpenedRecord.{OpenedRecord}
+use Rattle.border.specs.declared.agreement.SessionRecord.{SessionRecord}
+use Rattle.border.specs.declared.segment.SegmentRecord.{SegmentRecord}
+use Rattle.border.specs.Records.{isYes, openedIn, openedOut, sessionIn, sessionOut, segmentIn, verdictOut}
+use Rattle.strundevi.specs.declared.routes.PickedRecord.{PickedRecord}
+use Rattle.strundevi.specs.declared.writing.WriterRecord.{WriterRecord}
+use Rattle.strundevi.specs.declared.writing.WrittenRecord.{WrittenRecord}
+use Rattle.strundevi.specs.declared.boards.PartRecord.{PartRecord}
+use Rattle.strundevi.specs.declared.boards.ChangeRecord.{ChangeRecord}
+use Rattle.strundevi.specs.declared.boards.MarkRecord.{MarkRecord}
+use Rattle.strundevi.specs.Picks.{pickedOut}
+use Rattle.strundevi.specs.Writers.{writerIn, writtenOut}
+use Rattle.strundevi.specs.Boards.{partOut, changeOut, freshOut}
+
+-- x and y, both the same value of a definition, are equal.
+abbrev One : {A : Type 0} → A → Type 0
+One {A} z = (x y : A) → x ≡ z → y ≡ z → x ≡ y
+
+one : {A : Type 0} (z : A) → One z
+one z x y = determined
+
+pub read-open-determined : (s : List ℕ) → One (openedOut (openOf s))
+read-open-determined s = one _
+
+pub agree-determined : (pcc pce : OpenedRecord) → One (sessionOut (sessionOf (openedIn pcc) (openedIn pce)))
+agree-determined pcc pce = one _
+
+pub judge-determined : (s : List ℕ) (ero : ℕ) (session : SessionRecord) (pst : ℕ) → One (verdictOut (judgeOf s (isYes ero) (sessionIn session) pst))
+judge-determined s ero session pst = one _
+
+pub segment-determined : (s : List ℕ) (ero : ℕ) (session : SessionRecord) (pst i : ℕ)
+    → One (pickedOut (segmentOf s (isYes ero) (sessionIn session) pst i))
+segment-determined s ero session pst i = one _
+
+pub begin-determined : (b : List ℕ) (w : WriterRecord) (ero : ℕ)
+    → One (writtenOut (beginAnswer b (writerIn w) (isYes ero))) × One (beginBuffer b (writerIn w) (isYes ero))
+begin-determined b w ero = (one _, one _)
+
+pub add-determined : (b : List ℕ) (w : WriterRecord) (g : SegmentRecord)
+    → One (writtenOut (addAnswer b (writerIn w) (segmentIn g))) × One (addBuffer b (writerIn w) (segmentIn g))
+add-determined b w g = (one _, one _)
+
+pub finish-determined : (b : List ℕ) (w : WriterRecord) → One (writtenOut (finishAnswer b (writerIn w))) × One (finishBuffer b (writerIn w))
+finish-determined b w = (one _, one _)
+
+pub empty-determined : One emptyBoard
+empty-determined = one _
+
+pub report-determined : (b : Board) (store : List ℕ) (k : ℕ) (ero : List ℕ) (session : SessionRecord) (pst : ℕ)
+    → One (verdictOut (reportAnswer b store k ero (sessionIn session) pst .verdict)) × One (reportAnswer b store k ero (sessionIn session) pst .board)
+    × One (reportStore b store k ero (sessionIn session) pst)
+report-determined b store k ero session pst = (one _, one _, one _)
+
+pub remove-determined : (b : Board) (store : List ℕ) (k : ℕ) → One (verdictOut (removeAnswer b store k .verdict)) × One (removeAnswer b store k .board)
+remove-determined b store k = (one _, one _)
+
+pub compact-determined : (b : Board) (store : List ℕ) (c : ℕ) → One (verdictOut (compactAnswer b store c .verdict)) × One (compactAnswer b store c .board)
+compact-determined b store c = (one _, one _)
+
+pub body-determined : (b : Board) (store : List ℕ) (k : ℕ) → One (partOut b store k)
+body-determined b store k = one _
+
+pub next-determined : (b : Board) (store : List ℕ) (s w : ℕ) → One (changeOut (nextAnswer b store s w))
+next-determined b store s w = one _
+
+pub fresh-mark-determined : (version : ℕ) → One (freshOut version)
+fresh-mark-determined version = one _

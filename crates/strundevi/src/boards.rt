@@ -1,0 +1,227 @@
+// The board's calls, on a record whose parts are lent one by one. A refusal writes nothing.
+ghost use mathlib.Core.Path.{_≡_};
+ghost use Rattle.table.specs.Table.{boardOf, emptyBoard};
+ghost use Rattle.octets.specs.Octets.{part};
+ghost use Rattle.board.specs.Report.{reportAnswer, reportStore};
+ghost use Rattle.board.specs.Remove.{removeAnswer};
+ghost use Rattle.board.specs.Compact.{compactAnswer};
+ghost use Rattle.board.specs.Body.{bodyOf};
+ghost use Rattle.board.specs.Next.{nextAnswer};
+ghost use Rattle.border.specs.Records.{sessionIn, verdictOut};
+ghost use Rattle.strundevi.specs.Boards.{partOut, changeOut, freshOut};
+use board::Handed;
+use border::SessionRecord;
+use border::VerdictRecord;
+
+// Where a path's octets lie in the store; a refusal has none.
+#[repr(C)]
+pub struct PartRecord {
+    pub number: usize,
+    pub start: usize,
+    pub length: usize,
+}
+
+// What next hands out: its kind, then what comes with it.
+#[repr(C)]
+pub struct ChangeRecord {
+    pub number: usize,
+    pub kind: usize,
+    pub key: u64,
+    pub version: u64,
+    pub place: usize,
+    pub length: usize,
+}
+
+// kinds of what next hands out
+const REFUSED: usize = 0;
+
+const PATH: usize = 1;
+
+const REMOVED: usize = 2;
+
+const LEVEL: usize = 3;
+
+// A follower's mark.
+#[repr(C)]
+pub struct MarkRecord {
+    pub s: u64,
+    pub w: u64,
+}
+
+fn change_out(h: Handed) -> ChangeRecord
+    ensures change { λ r. ⌜ r ≡ changeOut h ⌝ }
+{
+    match h {
+        Handed::Refused(v) => ChangeRecord {
+            number: v.number,
+            kind: REFUSED,
+            key: 0,
+            version: 0,
+            place: 0,
+            length: 0,
+        },
+        Handed::Path(c, o) => ChangeRecord {
+            number: 0,
+            kind: PATH,
+            key: c.key,
+            version: c.version,
+            place: o.place,
+            length: o.length,
+        },
+        Handed::Removed(c) => ChangeRecord {
+            number: 0,
+            kind: REMOVED,
+            key: c.key,
+            version: c.version,
+            place: 0,
+            length: 0,
+        },
+        Handed::Level(version) => ChangeRecord {
+            number: 0,
+            kind: LEVEL,
+            key: 0,
+            version: version,
+            place: 0,
+            length: 0,
+        },
+    }
+}
+
+// Makes the record that of the empty board.
+#[no_mangle]
+pub extern "C" fn strundevi_raw_empty(
+    keys: &mut [u32; 128],
+    versions: &mut [u64; 128],
+    lengths: &mut [u16; 128],
+    version: &mut u64,
+    floor: &mut u64,
+)
+    ensures empty { λ _. ⌜ boardOf (now (keys .exit)) (now (versions .exit)) (now (lengths .exit)) (now (version .exit)) (now (floor .exit)) ≡ emptyBoard ⌝ }
+{
+    *keys = [0; 128];
+    *versions = [0; 128];
+    *lengths = [0; 128];
+    *version = 0;
+    *floor = 0;
+}
+
+// Reports a path.
+#[no_mangle]
+pub extern "C" fn strundevi_raw_report(
+    keys: &mut [u32; 128],
+    versions: &mut [u64; 128],
+    lengths: &mut [u16; 128],
+    version: &mut u64,
+    floor: &mut u64,
+    store: &mut [u8],
+    key: u64,
+    ero: &[u8],
+    session: SessionRecord,
+    pst: u64,
+) -> VerdictRecord
+    ensures verdict { λ r. ⌜ r ≡ verdictOut (reportAnswer (boardOf (now (keys .entry)) (now (versions .entry)) (now (lengths .entry)) (now (version .entry)) (now (floor .entry))) (now (store .entry)) key (now (ero .entry)) (sessionIn session) pst .verdict) ⌝ }
+    ensures board { λ _. ⌜ boardOf (now (keys .exit)) (now (versions .exit)) (now (lengths .exit)) (now (version .exit)) (now (floor .exit)) ≡ reportAnswer (boardOf (now (keys .entry)) (now (versions .entry)) (now (lengths .entry)) (now (version .entry)) (now (floor .entry))) (now (store .entry)) key (now (ero .entry)) (sessionIn session) pst .board ⌝ }
+    ensures octets { λ _. ⌜ now (store .exit) ≡ reportStore (boardOf (now (keys .entry)) (now (versions .entry)) (now (lengths .entry)) (now (version .entry)) (now (floor .entry))) (now (store .entry)) key (now (ero .entry)) (sessionIn session) pst ⌝ }
+{
+    border::verdict_out(lent::report(
+        keys,
+        versions,
+        lengths,
+        version,
+        floor,
+        store,
+        key,
+        ero,
+        border::session_in(session),
+        pst,
+    ))
+}
+
+// Removes a path; its mark stays.
+#[no_mangle]
+pub extern "C" fn strundevi_raw_remove(
+    keys: &[u32; 128],
+    versions: &mut [u64; 128],
+    lengths: &mut [u16; 128],
+    version: &mut u64,
+    floor: u64,
+    store: &[u8],
+    key: u64,
+) -> VerdictRecord
+    ensures verdict { λ r. ⌜ r ≡ verdictOut (removeAnswer (boardOf (now (keys .entry)) (now (versions .entry)) (now (lengths .entry)) (now (version .entry)) floor) (now (store .entry)) key .verdict) ⌝ }
+    ensures board { λ _. ⌜ boardOf (now (keys .entry)) (now (versions .exit)) (now (lengths .exit)) (now (version .exit)) floor ≡ removeAnswer (boardOf (now (keys .entry)) (now (versions .entry)) (now (lengths .entry)) (now (version .entry)) floor) (now (store .entry)) key .board ⌝ }
+{
+    border::verdict_out(lent::remove(keys, versions, lengths, version, floor, store, key))
+}
+
+// Drops the marks with version at most c.
+#[no_mangle]
+pub extern "C" fn strundevi_raw_compact(
+    keys: &mut [u32; 128],
+    versions: &mut [u64; 128],
+    lengths: &[u16; 128],
+    version: u64,
+    floor: &mut u64,
+    store: &[u8],
+    c: u64,
+) -> VerdictRecord
+    ensures verdict { λ r. ⌜ r ≡ verdictOut (compactAnswer (boardOf (now (keys .entry)) (now (versions .entry)) (now (lengths .entry)) version (now (floor .entry))) (now (store .entry)) c .verdict) ⌝ }
+    ensures board { λ _. ⌜ boardOf (now (keys .exit)) (now (versions .exit)) (now (lengths .entry)) version (now (floor .exit)) ≡ compactAnswer (boardOf (now (keys .entry)) (now (versions .entry)) (now (lengths .entry)) version (now (floor .entry))) (now (store .entry)) c .board ⌝ }
+{
+    border::verdict_out(lent::compact(keys, versions, lengths, version, floor, store, c))
+}
+
+// Where the octets of a key's path lie.
+#[no_mangle]
+pub extern "C" fn strundevi_raw_body<'a>(
+    keys: &'a [u32; 128],
+    versions: &'a [u64; 128],
+    lengths: &'a [u16; 128],
+    version: u64,
+    floor: u64,
+    store: &[u8],
+    key: u64,
+) -> PartRecord
+    ensures part { λ r. ⌜ r ≡ partOut (boardOf (now (keys .entry)) (now (versions .entry)) (now (lengths .entry)) version floor) (now (store .entry)) key ⌝ }
+    ensures octets { λ r. ⌜ part (now (store .entry)) (r .start) (r .length) ≡ bodyOf (boardOf (now (keys .entry)) (now (versions .entry)) (now (lengths .entry)) version floor) (now (store .entry)) key ⌝ }
+{
+    let verdict = lent::body_number(keys, versions, lengths, version, floor, store, key);
+    if verdict.number != 0 {
+        return PartRecord {
+            number: verdict.number,
+            start: 0,
+            length: 0,
+        };
+    }
+    let at = places::place_of(keys, key);
+    PartRecord {
+        number: 0,
+        start: table::ROOM * at,
+        length: board::length_at(lengths, at),
+    }
+}
+
+// What a follower with the mark (s, w) is handed.
+#[no_mangle]
+pub extern "C" fn strundevi_raw_next<'a>(
+    keys: &'a [u32; 128],
+    versions: &'a [u64; 128],
+    lengths: &'a [u16; 128],
+    version: u64,
+    floor: u64,
+    store: &[u8],
+    s: u64,
+    w: u64,
+) -> ChangeRecord
+    ensures next { λ r. ⌜ r ≡ changeOut (nextAnswer (boardOf (now (keys .entry)) (now (versions .entry)) (now (lengths .entry)) version floor) (now (store .entry)) s w) ⌝ }
+{
+    change_out(lent::next(keys, versions, lengths, version, floor, store, s, w))
+}
+
+// The mark of a follower that begins, and holds nothing, on a board of this version.
+#[no_mangle]
+pub extern "C" fn strundevi_raw_fresh_mark(version: u64) -> MarkRecord
+    ensures mark { λ r. ⌜ r ≡ freshOut version ⌝ }
+{
+    MarkRecord { s: version, w: 0 }
+}
