@@ -1,3 +1,5 @@
 pub mod Shared
 pub mod Verdicts
 pub mod Keeps
+pub mod Exact
+pub mod Stores

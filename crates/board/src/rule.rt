@@ -4,6 +4,7 @@ ghost use mathlib.Core.Path.{_≡_};
 ghost use mathlib.Core.Bool.{true, not, _&&_};
 ghost use lib.Dec.{eqb, ltb};
 ghost use Prim.Native.Nat.{max};
+ghost use Rattle.table.specs.Sizes.{places};
 ghost use Rattle.board.specs.Report.{reportRules};
 ghost use Rattle.board.specs.Remove.{removeRules};
 ghost use Rattle.board.specs.Compact.{compactRules};
@@ -53,7 +54,7 @@ pub fn report_rules(key: u64, route: Verdict, n: usize, top: u64, target: usize)
 
 // 18, 22, 20. `at` is the place of the key, 128 for none, n the length there.
 pub fn remove_rules(key: u64, at: usize, n: usize, top: u64) -> Verdict
-    ensures first { λ r. ⌜ r ≡ removeRules true key (ltb at 128 && not (eqb n 0)) top ⌝ }
+    ensures first { λ r. ⌜ r ≡ removeRules true key (ltb at places && not (eqb n 0)) top ⌝ }
 {
     if key < KEY_LEAST {
         return refused(KEY_OUT_OF_RANGE, 0);
@@ -85,7 +86,7 @@ pub fn compact_rules(c: u64, top: u64) -> Verdict
 
 // 18, 22. `at` is the place of the key, 128 for none, n the length there.
 pub fn body_rules(key: u64, at: usize, n: usize) -> Verdict
-    ensures first { λ r. ⌜ r ≡ bodyRules true key (ltb at 128 && not (eqb n 0)) ⌝ }
+    ensures first { λ r. ⌜ r ≡ bodyRules true key (ltb at places && not (eqb n 0)) ⌝ }
 {
     if key < KEY_LEAST {
         return refused(KEY_OUT_OF_RANGE, 0);

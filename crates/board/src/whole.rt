@@ -1,6 +1,7 @@
 // 17 is answered exactly if the store is shorter than 49,152 octets or the record isn't proper.
 ghost use mathlib.Core.Path.{_≡_};
 ghost use Prim.Native.Nat.{_*_, _<_};
+ghost use Rattle.table.specs.Sizes.{places, room};
 ghost use Rattle.table.specs.Table.{boardOf};
 ghost use Rattle.board.specs.Rules.{isBoard, lengthIn};
 use table::PLACES;
@@ -27,8 +28,8 @@ pub fn is_board<'a>(
 
 // Place i, from 0, starts at 384 times i.
 pub fn start_of(i: usize) -> usize
-    requires { ⌜ i < 128 ⌝ }
-    ensures start { λ r. ⌜ r ≡ 384 * i ⌝ }
+    requires { ⌜ i < places ⌝ }
+    ensures start { λ r. ⌜ r ≡ room * i ⌝ }
 {
     ROOM * i
 }

@@ -162,7 +162,8 @@ pub fn next(b: Board, store: &[u8], s: u64, w: u64) -> Handed
     )
 }
 
-// A fresh mark is the board's version for s and 0 for w, with the follower empty.
+// A fresh mark is the board's version for s and 0 for w, with the follower empty. It has no number: it reads the version
+// only, and next answers 17 to a mark of a record that is no board.
 pub fn fresh_mark(b: Board) -> Mark
     ensures fresh { λ r. ⌜ r ≡ freshMark b ⌝ }
 {

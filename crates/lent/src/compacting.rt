@@ -4,6 +4,7 @@ ghost use mathlib.Core.Path.{_≡_};
 ghost use mathlib.Core.Bool.{not, cond, _&&_};
 ghost use lib.ListN.{length};
 ghost use lib.Dec.{eqb, leb};
+ghost use Rattle.table.specs.Sizes.{places};
 ghost use Rattle.table.specs.Table.{boardOf};
 ghost use Rattle.board.specs.Rules.{answerOf};
 ghost use Rattle.board.specs.Compact.{compactAnswer};
@@ -43,9 +44,9 @@ fn clear64(gone: bool, x: u64) -> u64
 
 // Empties the places whose mark has version at most c.
 fn sweep(keys: &mut [u32], versions: &mut [u64], lengths: &[u16; 128], c: u64)
-    requires { ⌜ (length (now keys) ≡ 128) × (length (now versions) ≡ 128) ⌝ }
-    ensures keys { λ _. ⌜ now (keys .exit) ≡ keysKept (now (keys .entry)) (now (versions .entry)) (now (lengths .entry)) c 128 ⌝ }
-    ensures versions { λ _. ⌜ now (versions .exit) ≡ versionsKept (now (keys .entry)) (now (versions .entry)) (now (lengths .entry)) c 128 ⌝ }
+    requires { ⌜ (length (now keys) ≡ places) × (length (now versions) ≡ places) ⌝ }
+    ensures keys { λ _. ⌜ now (keys .exit) ≡ keysKept (now (keys .entry)) (now (versions .entry)) (now (lengths .entry)) c places ⌝ }
+    ensures versions { λ _. ⌜ now (versions .exit) ≡ versionsKept (now (keys .entry)) (now (versions .entry)) (now (lengths .entry)) c places ⌝ }
 {
     let mut i: usize = 0;
     while i < PLACES {

@@ -3,6 +3,7 @@
 // removal's version. The body, which is the ERO after its header, is written at the place's start.
 ghost use mathlib.Core.Path.{_≡_};
 ghost use Prim.Native.Nat.{_-_};
+ghost use Rattle.table.specs.Sizes.{header};
 ghost use Rattle.table.specs.Table.{boardOf};
 ghost use Rattle.board.specs.Rules.{answerOf};
 ghost use Rattle.board.specs.Report.{reportAnswer, reportStore};
@@ -21,7 +22,7 @@ use table::HEADER;
 
 // The octets of the body of an ERO of n octets.
 fn body_size(n: usize) -> usize
-    ensures size { λ r. ⌜ r ≡ n - 4 ⌝ }
+    ensures size { λ r. ⌜ r ≡ n - header ⌝ }
 {
     if n < HEADER { 0 } else { n - HEADER }
 }

@@ -5,9 +5,13 @@ use lib.Dec.{eqb, ltb, leb}
 use Rattle.table.specs.Sizes.{places}
 use Rattle.places.specs.declared.best.Best.{Best}
 
--- no place, with the largest number, which no board's version is
+-- above every board's version, which is at most 2^64-2
+abbrev pub noVersion : ℕ
+noVersion = 18446744073709551615
+
+-- no place, with a version that every board's is below
 abbrev pub noBest : Best
-noBest = record { at = places; version = 18446744073709551615 }
+noBest = record { at = places; version = noVersion }
 
 -- the best with one place more, if it passes
 unfoldable pub betterOf : Best → Bool → ℕ → ℕ → Best

@@ -4,6 +4,9 @@ ghost use mathlib.Core.Path.{_≡_};
 ghost use Rattle.places.specs.Best.{betterOf, noBest, bare, wantedOf};
 use table::PLACES;
 
+// above every board's version, which is at most 2^64-2
+const NO_VERSION: u64 = 18446744073709551615;
+
 pub struct Best {
     pub at: usize,
     pub version: u64,
@@ -14,7 +17,7 @@ pub fn no_best() -> Best
 {
     Best {
         at: PLACES,
-        version: 18446744073709551615,
+        version: NO_VERSION,
     }
 }
 

@@ -4,6 +4,7 @@ ghost use mathlib.Core.Path.{_≡_};
 ghost use mathlib.Core.Bool.{true};
 ghost use mathlib.Core.List.{List};
 ghost use Prim.Native.Nat.{ℕ, _<_};
+ghost use Rattle.table.specs.Sizes.{places};
 ghost use Rattle.table.specs.Table.{boardOf};
 ghost use Rattle.table.specs.Search.{oldestOf, targetOf, floorAfter};
 ghost use Rattle.table.specs.Proper.{properB};
@@ -64,7 +65,7 @@ pub fn floor_after<'a>(
     key: u64,
     at: usize,
 ) -> u64
-    requires { ⌜ at < 128 ⌝ }
+    requires { ⌜ at < places ⌝ }
     ensures floor { λ r. ⌜ ((lengths : List ℕ) (top : ℕ) → r ≡ floorAfter (boardOf (now (keys .entry)) (now (versions .entry)) lengths top floor) key at) ⌝ }
 {
     let old = wide32(keys[at]);

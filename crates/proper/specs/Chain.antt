@@ -10,9 +10,19 @@ use Rattle.table.specs.Sizes.{places}
 abbrev pub slots : ℕ
 slots = 256
 
--- the top octet of the low 32 bits of k times 2,654,435,761
+-- the low 32 bits of a number, what they are multiplied by, and the octet of the product that is the hash
+abbrev pub low : ℕ
+low = 4294967296
+
+abbrev pub mix : ℕ
+mix = 2654435761
+
+abbrev pub top : ℕ
+top = 16777216
+
+-- the hash of a number
 unfoldable pub slotOf : ℕ → ℕ
-slotOf k = k % 4294967296 * 2654435761 / 16777216 % 256
+slotOf k = k % low * mix / top % slots
 
 -- place x holds a number with the hash h
 pub record Node (xs : List ℕ) (h x : ℕ) : Type 0 where

@@ -2,19 +2,29 @@
 // before x in x's chain, and 0 ends it, so a walk goes down.
 ghost use mathlib.Core.Path.{_≡_};
 ghost use Prim.Native.Nat.{_<_, _≤_};
+ghost use Rattle.table.specs.Sizes.{places};
 ghost use Rattle.table.specs.Proper.{freshB};
-ghost use Rattle.proper.specs.Chain.{slotOf, Links, Walking};
+ghost use Rattle.proper.specs.Chain.{slots, slotOf, Links, Walking};
 
-// The hash of a number.
+// the low 32 bits of a number, what they are multiplied by, and the octet of the product that is the hash
+const LOW: u64 = 4294967296;
+
+const MIX: u64 = 2654435761;
+
+const TOP: u64 = 16777216;
+
+const SLOTS: u64 = 256;
+
+// The hash of a number: the octet of the product that is worth most in its low 32 bits.
 pub fn slot(k: u64) -> usize
-    ensures slot { λ r. ⌜ (r ≡ slotOf k) × (r < 256) ⌝ }
+    ensures slot { λ r. ⌜ (r ≡ slotOf k) × (r < slots) ⌝ }
 {
-    (k % 4294967296 * 2654435761 / 16777216 % 256) as usize
+    (k % LOW * MIX / TOP % SLOTS) as usize
 }
 
 // None of the first i keys is k; start is the head of k's chain.
 pub fn fresh32(keys: &[u32; 128], nexts: &[u8; 128], i: usize, k: u32, start: usize) -> bool
-    requires { ⌜ (i ≤ 128) × Links (now keys) (now nexts) i × Walking (now keys) i k start ⌝ }
+    requires { ⌜ (i ≤ places) × Links (now keys) (now nexts) i × Walking (now keys) i k start ⌝ }
     ensures fresh { λ r. ⌜ r ≡ freshB (now (keys .entry)) i k ⌝ }
 {
     let mut p = start;
@@ -30,7 +40,7 @@ pub fn fresh32(keys: &[u32; 128], nexts: &[u8; 128], i: usize, k: u32, start: us
 
 // None of the first i versions is k; start is the head of k's chain.
 pub fn fresh64(versions: &[u64; 128], nexts: &[u8; 128], i: usize, k: u64, start: usize) -> bool
-    requires { ⌜ (i ≤ 128) × Links (now versions) (now nexts) i × Walking (now versions) i k start ⌝ }
+    requires { ⌜ (i ≤ places) × Links (now versions) (now nexts) i × Walking (now versions) i k start ⌝ }
     ensures fresh { λ r. ⌜ r ≡ freshB (now (versions .entry)) i k ⌝ }
 {
     let mut p = start;

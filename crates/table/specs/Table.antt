@@ -66,8 +66,11 @@ pub record Entry : Type 0 where
 abbrev pub put : Board → ℕ → Entry → Board
 put b i e = boardOf (set (b .keys) i (e .key)) (set (b .versions) i (e .version)) (set (b .lengths) i (e .length)) (b .version) (b .floor)
 
+-- the board with another version and floor
+abbrev pub stamped : Board → ℕ → ℕ → Board
+stamped b version floor = boardOf (b .keys) (b .versions) (b .lengths) version floor
+
 -- "raises the version by 1 and the change bears that": the board after the change of key k at place i to a body of n octets,
 -- or to the mark of a removal where n is 0, with its floor
 abbrev pub changed : Board → ℕ → ℕ → ℕ → ℕ → Board
-changed b i k n floor =
-    boardOf (set (b .keys) i k) (set (b .versions) i (b .version + 1)) (set (b .lengths) i n) (b .version + 1) floor
+changed b i k n floor = stamped (put b i (record { key = k; version = b .version + 1; length = n })) (b .version + 1) floor
