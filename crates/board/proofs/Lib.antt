@@ -1,5 +1,6 @@
 pub mod Shared
 pub mod Verdicts
+pub mod Words
 pub mod Keeps
 pub mod Exact
 pub mod Stores
