@@ -7,7 +7,7 @@ use lib.Dec.{ltb, leb, eqb}
 use lib.ListN.{length, getD}
 use native.Mathlib.Nat.{zero-add}
 use native.Mathlib.Omega.{arith}
-use borrow.Author.Tests.{eq-eqb, ne-eqb, le-ltb, ltb-false, leb-true, eqb-true, not-true, not-false}
+use borrow.Author.Tests.{eq-eqb, ne-eqb, le-ltb, le-leb, lt-leb, ltb-true, ltb-false, leb-true, eqb-true, eqb-false, not-true, not-false}
 use Rattle.octets.specs.Octets.{octetOf, be16}
 use Rattle.subobject.specs.Layout.{kindOf}
 use Rattle.subobject.proofs.Laws.{both-true}
@@ -42,6 +42,33 @@ headed-last ero s l c k n =
     rw (le-ltb (length s) 4 l, eq-eqb (getD s 0 0) (classOf ero) c, eq-eqb (getD s 1 0 / 16) 1 k, eq-eqb (be16 s 2) (length s) n)
 
 -- one subobject ------------------------------------------------------------------------------------------------
+
+-- A subobject that doesn't fit: too long for what is left, no multiple of 4.
+pub over-room : (len room : ℕ) → room < len → false ≡ fitsIn len room
+unfolding fitsIn
+over-room len room h = go (not (ltb len 4)) (eqb (len % 4) 0)
+  where
+    go : (a b : Bool) → false ≡ (a && (b && leb len room))
+    go true true = sym (lt-leb len room h)
+    go true false = refl
+    go false b = refl
+
+pub no-multiple : (len room : ℕ) → (len % 4 ≡ 0 → ⊥) → false ≡ fitsIn len room
+unfolding fitsIn
+no-multiple len room n = rw (ne-eqb (len % 4) 0 n) (go (not (ltb len 4)))
+  where
+    go : (a : Bool) → false ≡ (a && false)
+    go true = refl
+    go false = refl
+
+-- and one that fits if it is long enough.
+pub long-enough : (len room : ℕ) → len ≤ room → len % 4 ≡ 0 → leb 4 len ≡ fitsIn len room
+unfolding fitsIn
+long-enough len room h e = rw (le-leb len room h, eq-eqb (len % 4) 0 e) (go (ltb len 4) refl)
+  where
+    go : (b : Bool) → ltb len 4 ≡ b → leb 4 len ≡ (not b && true)
+    go true q = lt-leb 4 len (ltb-true len 4 q)
+    go false q = le-leb 4 len (ltb-false len 4 q)
 
 pub fits-true : (len room : ℕ) → fitsIn len room ≡ true → (4 ≤ len) × (len % 4 ≡ 0) × (len ≤ room)
 unfolding fitsIn
@@ -116,13 +143,18 @@ next-by g l n e = rw e (over-next l n (sound-fits g (omega arith)))
 
 -- one pass over the frame --------------------------------------------------------------------------------------
 
+-- Whether the type is present among those that are not the first one's.
+abbrev pub anyOther : (ℕ → ℕ) → ℕ → ℕ → List ℕ → Bool
+anyOther kinds kind first [] = false
+anyOther kinds kind first (p ∷ ps) = cond (eqb (kinds p) first) (anyOther kinds kind first ps) (eqb (kinds p) kind || anyOther kinds kind first ps)
+
 -- The facts gathered, with those of the places that are left.
 abbrev pub joined : (ℕ → ℕ) → ℕ → ℕ → Facts → List ℕ → Facts
 joined kinds kind first g ps =
     record {
       whole = g .whole;
       count = g .count + length ps;
-      any = g .any || anyIs kinds kind ps;
+      any = g .any || anyOther kinds kind first ps;
       other = cond (eqb (g .other) 0) (otherThan kinds first ps) (g .other);
     }
 
@@ -140,18 +172,56 @@ first-mixed kinds (suc f) s at = go (eqb at (length s)) (fitsIn (octetOf s (at +
     go false false = refl
     go false true = rw (eq-eqb (kinds at) (kinds at) refl)
 
+-- The first one's type is looked for once.
+unlike : (kinds : ℕ → ℕ) (kind first : ℕ) (ps : List ℕ) → eqb first kind ≡ false → anyOther kinds kind first ps ≡ anyIs kinds kind ps
+unlike kinds kind first [] e = refl
+unlike kinds kind first (p ∷ ps) e = go (eqb (kinds p) first) refl (unlike kinds kind first ps e)
+  where
+    go : (b : Bool) → eqb (kinds p) first ≡ b → anyOther kinds kind first ps ≡ anyIs kinds kind ps
+        → cond b (anyOther kinds kind first ps) (eqb (kinds p) kind || anyOther kinds kind first ps) ≡ (eqb (kinds p) kind || anyIs kinds kind ps)
+    go true q r = rw (eqb-true (kinds p) first q, e) r
+    go false q r = rw r
+
+first-once : (kinds : ℕ → ℕ) (kind first : ℕ) (ps : List ℕ) → (eqb first kind || anyOther kinds kind first ps) ≡ (eqb first kind || anyIs kinds kind ps)
+first-once kinds kind first ps = go (eqb first kind) refl
+  where
+    go : (b : Bool) → eqb first kind ≡ b → (b || anyOther kinds kind first ps) ≡ (b || anyIs kinds kind ps)
+    go true e = refl
+    go false e = unlike kinds kind first ps e
+
+-- The facts before the first subobject.
+abbrev pub startFacts : List ℕ → ℕ → ℕ → Facts
+startFacts s kind first = record { whole = true; count = 0; any = not (eqb (length s) 4) && eqb first kind; other = 0 }
+
+first-any : (kinds : ℕ → ℕ) (kind f : ℕ) (s : List ℕ) → apart f s 4 .whole ≡ true
+    → ((not (eqb (length s) 4) && eqb (kinds 4) kind) || anyOther kinds kind (kinds 4) (apart f s 4 .places)) ≡ anyIs kinds kind (apart f s 4 .places)
+unfolding apart
+first-any kinds kind zero s w = absurd (let z : _≡_ {A = ℕ} 0 1 = cc in omega arith)
+first-any kinds kind (suc f) s w = go (eqb 4 (length s)) refl (fitsIn (octetOf s (4 + 1)) (length s - 4)) w
+  where
+    go : (x : Bool) → eqb 4 (length s) ≡ x → (y : Bool) → step x y (λ u. from 4 (apart f s (4 + octetOf s (4 + 1)))) .whole ≡ true
+        → ((not (eqb (length s) 4) && eqb (kinds 4) kind) || anyOther kinds kind (kinds 4) (step x y (λ u. from 4 (apart f s (4 + octetOf s (4 + 1)))) .places))
+        ≡ anyIs kinds kind (step x y (λ u. from 4 (apart f s (4 + octetOf s (4 + 1)))) .places)
+    go true e y v = rw (eq-eqb (length s) 4 (sym (eqb-true 4 (length s) e)))
+    go false e false v = absurd (let z : _≡_ {A = ℕ} 0 1 = cc in omega arith)
+    go false e true v =
+        rw (ne-eqb (length s) 4 (λ q. eqb-false 4 (length s) e (sym q)), eq-eqb (kinds 4) (kinds 4) refl)
+        (first-once kinds kind (kinds 4) (apart f s (4 + octetOf s (4 + 1)) .places))
+
 rest-starts : (s : List ℕ) (ero : Bool) (kind first : ℕ) → first ≡ kindAt ero s 4
-    → Over (lookRest (kindAt ero s) kind first (noFacts true)) s 4 (factsOf ero kind s)
+    → Over (lookRest (kindAt ero s) kind first (startFacts s kind first)) s 4 (factsOf ero kind s)
 unfolding factsOf apartOf
-rest-starts s ero kind first e =
-    let a : Apart = apart (suc (length s)) s 4 in
-    let o : otherThan (kindAt ero s) first (a .places) ≡ mixedAt (kindAt ero s) (a .places) = rw e (first-mixed (kindAt ero s) (suc (length s)) s 4) in
-    record {
-      fuel = suc (length s);
-      enough = omega arith;
-      same =
-          λ i. cond (a .whole) (record { whole = true; count = zero-add (length (a .places)) i; any = anyIs (kindAt ero s) kind (a .places); other = o i }) (noFacts false);
-    }
+rest-starts s ero kind first e = record { fuel = suc (length s); enough = omega arith; same = go (apart (suc (length s)) s 4 .whole) refl }
+  where
+    go : (b : Bool) → apart (suc (length s)) s 4 .whole ≡ b
+        → lookRest (kindAt ero s) kind first (startFacts s kind first) (apart (suc (length s)) s 4) ≡ factsIn (kindAt ero s) kind (apart (suc (length s)) s 4)
+    go false w = rw w
+    go true w =
+        let ps : List ℕ = apart (suc (length s)) s 4 .places in
+        let o : otherThan (kindAt ero s) first ps ≡ mixedAt (kindAt ero s) ps = rw e (first-mixed (kindAt ero s) (suc (length s)) s 4) in
+        let a : ((not (eqb (length s) 4) && eqb first kind) || anyOther (kindAt ero s) kind first ps) ≡ anyIs (kindAt ero s) kind ps =
+        rw e (first-any (kindAt ero s) kind (suc (length s)) s w) in
+        rw w (λ i. record { whole = true; count = zero-add (length ps) i; any = a i; other = o i })
 
 or-assoc : (a b c : Bool) → (a || (b || c)) ≡ ((a || b) || c)
 or-assoc true b c = refl
@@ -168,24 +238,47 @@ zero-self n = go (eqb n 0) refl
     go true e = sym (eqb-true n 0 e)
     go false e = refl
 
-found-next : (o p rest : ℕ) (y : Bool) → 0 < p
-    → cond (eqb o 0) (cond y rest p) o ≡ cond (eqb (cond (eqb o 0 && not y) p o) 0) rest (cond (eqb o 0 && not y) p o)
-found-next o p rest y h = go (eqb o 0) y refl
+found-next : (o p rest : ℕ) → 0 < p → cond (eqb o 0) p o ≡ cond (eqb (cond (eqb o 0) p o) 0) rest (cond (eqb o 0) p o)
+found-next o p rest h = go (eqb o 0) refl
   where
-    go : (x z : Bool) → eqb o 0 ≡ x → cond x (cond z rest p) o ≡ cond (eqb (cond (x && not z) p o) 0) rest (cond (x && not z) p o)
-    go true true e = rw e
-    go true false e = rw (ne-eqb p 0 (omega arith))
-    go false z e = rw e
+    go : (x : Bool) → eqb o 0 ≡ x → cond x p o ≡ cond (eqb (cond x p o) 0) rest (cond x p o)
+    go true e = rw (ne-eqb p 0 (omega arith))
+    go false e = rw e
 
 -- A place less to come, and its subobject seen.
 joined-next : (kinds : ℕ → ℕ) (kind first p : ℕ) (g : Facts) (ps : List ℕ) → 0 < p
     → joined kinds kind first g (p ∷ ps) ≡ joined kinds kind first (seenOf g p (kinds p) kind first) ps
 unfolding seenOf
-joined-next kinds kind first p g ps h =
-    let n : g .count + suc (length ps) ≡ g .count + 1 + length ps = omega arith in
-    let a = or-assoc (g .any) (eqb (kinds p) kind) (anyIs kinds kind ps) in
-    let o = found-next (g .other) p (otherThan kinds first ps) (eqb (kinds p) first) h in
-    λ i. record { whole = g .whole; count = n i; any = a i; other = o i }
+joined-next kinds kind first p g ps h = go (eqb (kinds p) first)
+  where
+    n : g .count + suc (length ps) ≡ g .count + 1 + length ps
+    n = omega arith
+
+    a : (g .any || (eqb (kinds p) kind || anyOther kinds kind first ps)) ≡ ((g .any || eqb (kinds p) kind) || anyOther kinds kind first ps)
+    a = or-assoc (g .any) (eqb (kinds p) kind) (anyOther kinds kind first ps)
+
+    o : cond (eqb (g .other) 0) p (g .other) ≡ cond (eqb (cond (eqb (g .other) 0) p (g .other)) 0) (otherThan kinds first ps) (cond (eqb (g .other) 0) p (g .other))
+    o = found-next (g .other) p (otherThan kinds first ps) h
+
+    go : (y : Bool) → _≡_ {A = Facts}
+        (record {
+          whole = g .whole;
+          count = g .count + suc (length ps);
+          any = g .any || cond y (anyOther kinds kind first ps) (eqb (kinds p) kind || anyOther kinds kind first ps);
+          other = cond (eqb (g .other) 0) (cond y (otherThan kinds first ps) p) (g .other);
+        })
+        (joined kinds kind first
+        (cond y (record { whole = g .whole; count = g .count + 1; any = g .any; other = g .other })
+        (record { whole = g .whole; count = g .count + 1; any = g .any || eqb (kinds p) kind; other = cond (eqb (g .other) 0) p (g .other) })) ps)
+    go true =
+        λ i.
+        record {
+          whole = g .whole;
+          count = n i;
+          any = g .any || anyOther kinds kind first ps;
+          other = cond (eqb (g .other) 0) (otherThan kinds first ps) (g .other);
+        }
+    go false = λ i. record { whole = g .whole; count = n i; any = a i; other = o i }
 
 joined-all : (kinds : ℕ → ℕ) (kind first : ℕ) (g : Facts) → joined kinds kind first g [] ≡ g
 joined-all kinds kind first g =
@@ -198,8 +291,9 @@ joined-all kinds kind first g =
 pub record Looking (s : List ℕ) (ero : Bool) (kind first at : ℕ) (g whole : Facts) : Type 0 where
   pub rest : Over (lookRest (kindAt ero s) kind first g) s at whole
 
-pub look-starts : (s : List ℕ) (ero : Bool) (kind first : ℕ) → first ≡ kindAt ero s 4 → Looking s ero kind first 4 (noFacts true) (factsOf ero kind s)
-look-starts s ero kind first e = record { rest = rest-starts s ero kind first e }
+pub look-starts : (s : List ℕ) (ero : Bool) (kind first : ℕ) (any : Bool) → any ≡ (not (eqb (length s) 4) && eqb first kind) → first ≡ kindAt ero s 4
+    → Looking s ero kind first 4 (record { whole = true; count = 0; any = any; other = 0 }) (factsOf ero kind s)
+look-starts s ero kind first any q e = rw q (record { rest = rest-starts s ero kind first e })
 
 module _ {s : List ℕ} {ero : Bool} {kind first at : ℕ} {g whole : Facts} (l : Looking s ero kind first at g whole) where
   pub look-ends : at ≡ length s → g ≡ whole
@@ -226,7 +320,13 @@ now-fits len room r e n = fits-true len room (sym e ∙ not-false r n)
 
 pub seen-count : (g g′ : Facts) (at k kind first : ℕ) → g′ ≡ seenOf g at k kind first → g′ .count ≡ g .count + 1
 unfolding seenOf
-seen-count g g′ at k kind first e = ap (λ (x : Facts). x .count) e
+seen-count g g′ at k kind first e = ap (λ (x : Facts). x .count) e ∙ go (eqb k first)
+  where
+    go : (b : Bool) → cond {A = Facts} b (record { whole = g .whole; count = g .count + 1; any = g .any; other = g .other })
+        (record { whole = g .whole; count = g .count + 1; any = g .any || eqb k kind; other = cond (eqb (g .other) 0) at (g .other) }) .count
+        ≡ g .count + 1
+    go true = refl
+    go false = refl
 
 -- the place of a subobject -------------------------------------------------------------------------------------
 

@@ -121,10 +121,11 @@ frameOf ero kind s = firstBroken (frameChecks ero kind s) (acceptedWith (length 
 abbrev pub noFacts : Bool → Facts
 noFacts whole = record { whole = whole; count = 0; any = false; other = 0 }
 
--- A subobject more.
+-- A subobject more: of the first one's type, or of another.
 unfoldable pub seenOf : Facts → ℕ → ℕ → ℕ → ℕ → Facts
 seenOf g at k kind first =
-    record { whole = g .whole; count = g .count + 1; any = g .any || eqb k kind; other = cond (eqb (g .other) 0 && not (eqb k first)) at (g .other) }
+    cond (eqb k first) (record { whole = g .whole; count = g .count + 1; any = g .any; other = g .other })
+    (record { whole = g .whole; count = g .count + 1; any = g .any || eqb k kind; other = cond (eqb (g .other) 0) at (g .other) })
 
 -- What a frame holds that was taken apart.
 abbrev pub factsIn : (ℕ → ℕ) → ℕ → Apart → Facts

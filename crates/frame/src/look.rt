@@ -1,6 +1,6 @@
 // One pass over the frame: how many subobjects, whether one is of the type asked for, and the first whose type isn't the first one's.
 ghost use mathlib.Core.Path.{_≡_};
-ghost use mathlib.Core.Bool.{true, cond, not, _&&_};
+ghost use mathlib.Core.Bool.{true, cond};
 ghost use Prim.Native.Nat.{ℕ, _+_, _≤_, _<_, _%_};
 ghost use lib.ListN.{length};
 ghost use lib.Dec.{eqb};
@@ -47,36 +47,40 @@ fn header(s: &[u8], ero: bool) -> bool
 fn fits(len: usize, room: usize) -> bool
     ensures fits { λ r. ⌜ r ≡ fitsIn len room ⌝ }
 {
-    if len < 4 {
+    if room < len {
         return false;
     }
     if len % 4 != 0 {
         return false;
     }
-    len <= room
+    4 <= len
 }
 
 // The place that was found before, or else this one.
-fn earlier(had: usize, differs: bool, at: usize) -> usize
-    ensures earlier { λ r. ⌜ r ≡ cond (eqb had 0 && differs) at had ⌝ }
+fn earlier(had: usize, at: usize) -> usize
+    ensures earlier { λ r. ⌜ r ≡ cond (eqb had 0) at had ⌝ }
 {
-    if octets::both(had == 0, differs) {
-        at
-    } else {
-        had
-    }
+    if had == 0 { at } else { had }
 }
 
-// A subobject of the type k at `at` more.
+// A subobject of the type k at `at` more. Mostly it is of the type of the first.
 fn seen(g: Facts, at: usize, k: usize, kind: usize, first: usize) -> Facts
     requires { ⌜ g .count < 65536 ⌝ }
     ensures seen { λ r. ⌜ r ≡ seenOf g at k kind first ⌝ }
 {
+    if k == first {
+        return Facts {
+            whole: g.whole,
+            count: g.count + 1,
+            any: g.any,
+            other: g.other,
+        };
+    }
     Facts {
         whole: g.whole,
         count: g.count + 1,
         any: octets::either(g.any, k == kind),
-        other: earlier(g.other, k != first, at),
+        other: earlier(g.other, at),
     }
 }
 
@@ -90,7 +94,7 @@ fn look(s: &[u8], ero: bool, kind: usize, first: usize) -> Facts
     let mut g = Facts {
         whole: true,
         count: 0,
-        any: false,
+        any: octets::both(end != HEADER_LENGTH, first == kind),
         other: 0,
     };
     while at != end {

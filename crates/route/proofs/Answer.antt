@@ -6,7 +6,7 @@ use mathlib.Core.Bool.{Bool, true, false, cond, not, _&&_}
 use lib.Dec.{ltb, eqb}
 use lib.ListN.{length, getD, drop, length-drop}
 use native.Mathlib.Omega.{arith}
-use borrow.Author.Tests.{eq-eqb, ne-eqb, lt-ltb, le-ltb, eqb-true, eqb-false, not-false}
+use borrow.Author.Tests.{eq-eqb, ne-eqb, lt-ltb, le-ltb, eqb-false, not-false}
 use Rattle.answers.specs.declared.verdict.Verdict.{Verdict}
 use Rattle.answers.specs.Numbers.{notAgreed, noSuchSegment}
 use Rattle.answers.specs.Verdicts.{refusedBy, acceptedWith}
@@ -111,27 +111,28 @@ module _ (s : List ℕ) (ero : Bool) (session : Session) (pst : ℕ) (h : None (
       ∙ rw e
       (first-append (subobjectChecks (brokenAt ero (session .n) s) (placesOf s)) (lastChecks ero (session .limit) (countOf s) (placesOf s)) (acceptedWith (countOf s))))
 
-  -- The walk's answer if it refuses, else 12's.
-  pub first-of-both : (w l r : Verdict) (count : ℕ) → rule13 (session .agreed) pst ≡ false → w ≡ walkOf ero (session .n) count s
-      → l ≡ limitedOf ero (session .limit) count s → count ≡ countOf s → r ≡ cond (eqb (w .number) 0) l w → r ≡ judgeOf s ero session pst
+  -- The walk's answer if it refuses,
+  pub walk-stops : (w : Verdict) (count : ℕ) → rule13 (session .agreed) pst ≡ false → w ≡ walkOf ero (session .n) count s → (w .number ≡ 0 → ⊥)
+      → w ≡ judgeOf s ero session pst
+  unfolding walkOf
+  walk-stops w count e q n =
+      q
+      ∙ first-some (subobjectChecks (brokenAt ero (session .n) s) (placesOf s)) (acceptedWith count)
+      (firstBroken (lastChecks ero (session .limit) (countOf s) (placesOf s)) (acceptedWith (countOf s))) refl (λ z. n (rw q z))
+      ∙ after-whole e
+
+  -- else 12's.
+  pub limit-ends : (w l : Verdict) (count : ℕ) → rule13 (session .agreed) pst ≡ false → w ≡ walkOf ero (session .n) count s → w .number ≡ 0
+      → count ≡ countOf s → l ≡ limitedOf ero (session .limit) count s → l ≡ judgeOf s ero session pst
   unfolding walkOf limitedOf
-  first-of-both w l r count e q m c k = k ∙ go (eqb (w .number) 0) refl
-    where
-      go : (b : Bool) → eqb (w .number) 0 ≡ b → cond b l w ≡ judgeOf s ero session pst
-      go true y =
-          rw c at m
-          ∙ sym
-          (none-first (subobjectChecks (brokenAt ero (session .n) s) (placesOf s))
-          (firstBroken (lastChecks ero (session .limit) (countOf s) (placesOf s)) (acceptedWith (countOf s)))
-          (first-none (subobjectChecks (brokenAt ero (session .n) s) (placesOf s)) (acceptedWith count)
-          (numbered-subobjects (brokenAt ero (session .n) s) (placesOf s)) (rw q at (eqb-true (w .number) 0 y))))
-          ∙ after-whole e
-      go false y =
-          q
-          ∙ first-some (subobjectChecks (brokenAt ero (session .n) s) (placesOf s)) (acceptedWith count)
-          (firstBroken (lastChecks ero (session .limit) (countOf s) (placesOf s)) (acceptedWith (countOf s))) refl
-          (λ z. eqb-false (w .number) 0 y (rw q z))
-          ∙ after-whole e
+  limit-ends w l count e q z c r =
+      rw c at r
+      ∙ sym
+      (none-first (subobjectChecks (brokenAt ero (session .n) s) (placesOf s))
+      (firstBroken (lastChecks ero (session .limit) (countOf s) (placesOf s)) (acceptedWith (countOf s)))
+      (first-none (subobjectChecks (brokenAt ero (session .n) s) (placesOf s)) (acceptedWith count)
+      (numbered-subobjects (brokenAt ero (session .n) s) (placesOf s)) (rw q at z)))
+      ∙ after-whole e
 
 -- an acceptance ------------------------------------------------------------------------------------------------
 

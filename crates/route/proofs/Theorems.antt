@@ -2,17 +2,22 @@
 -- document 01's order is. Assumes nothing.
 use Prim.Native.Nat.{ℕ, _+_, _*_, _<_}
 use mathlib.Core.Path.{_≡_, refl, sym, _∙_, ap}
-use mathlib.Core.List.{List}
+use mathlib.Core.List.{List, [], _∷_}
 use mathlib.Core.Bool.{Bool, true, false}
 use lib.ListN.{length}
 use native.Mathlib.Omega.{arith}
 use Rattle.answers.specs.declared.verdict.Verdict.{Verdict}
 use Rattle.answers.specs.Verdicts.{refusedBy, acceptedWith}
+use Rattle.session.specs.declared.Limit.{Limit}
 use Rattle.session.specs.declared.Session.{Session}
-use Rattle.frame.specs.Checks.{Check}
+use Rattle.subobject.specs.declared.head.Head.{Head}
+use Rattle.subobject.specs.Layout.{headOf, headAt}
+use Rattle.subobject.specs.Rules.{rule7, rule8, rule9, rule10, rule11, bitsAt}
+use Rattle.subobject.specs.Segments.{segmentAt}
+use Rattle.frame.specs.Checks.{Check, check}
 use Rattle.frame.proofs.Checks.{checkOf, First, Found, none-all, all-none, none-first, first-answer, answer-first}
 use Rattle.route.specs.declared.picking.Picked.{Picked}
-use Rattle.route.specs.Routes.{checksOf, countOf, judgeOf, segmentOf}
+use Rattle.route.specs.Routes.{order, brokenBy, brokenAt, checksAt, rule12, checksOf, countOf, judgeOf, segmentOf}
 use Rattle.route.specs.Order.{Where, Among, Before, checkAt, FirstBroken}
 use Rattle.route.proofs.Answer.{accepted-none}
 use Rattle.route.proofs.Order.{rank, rank-within, before-lower, lower-before, Standing, standing, checks-length, rank-check}
@@ -75,6 +80,28 @@ module _ (s : List ℕ) (ero : Bool) (session : Session) (pst : ℕ) where
             (lower-before (countOf s) (t .stands) (f .stands) (t .among) (f .among) (omega (arith, t .ranked)));
       }) in
       a ∙ (λ i. refusedBy ((ap (λ (c : Check). c .number) q ∙ f .numbered) i) ((ap (λ (c : Check). c .place) q ∙ f .placed) i))
+
+-- The checks of the subobject at a place are the rules 8, 9, 7, 10 and 11 over its head.
+pub rules-inside : (s : List ℕ) (ero n : Bool) (p : ℕ)
+    → (let h = headAt ero s p in
+    checksAt (brokenAt ero n s p) p order
+    ≡ check 8 p (rule8 h) ∷ check 9 p (rule9 h) ∷ check 7 p (rule7 h) ∷ check 10 p (rule10 ero n h) ∷ check 11 p (rule11 h (bitsAt s p h)) ∷ [])
+unfolding brokenAt brokenBy
+rules-inside s ero n p = refl
+
+-- "10 and 12 aren't applied" in RRO.
+pub rro-without-10 : (n : Bool) (h : Head) → rule10 false n h ≡ false
+unfolding rule10
+rro-without-10 n h = refl
+
+pub rro-without-12 : (limit : Limit) (count : ℕ) → rule12 false limit count ≡ false
+unfolding rule12
+rro-without-12 limit count = refl
+
+-- "In RRO .. both flags read as 0": L and V.
+pub rro-flags : (s : List ℕ) (at : ℕ) → (segmentAt false s at .loose ≡ false) × (segmentAt false s at .verify ≡ false)
+unfolding segmentAt headAt headOf
+rro-flags s at = (refl, refl)
 
 -- Of any two answers that fit, both are the same.
 pub judge-determined : (s : List ℕ) (ero : Bool) (session : Session) (pst : ℕ) (a b : Verdict) → a ≡ judgeOf s ero session pst

@@ -1,8 +1,8 @@
 // The judgement of a route: the frame, 13, the walk, 12.
 ghost use mathlib.Core.Path.{_≡_};
-ghost use mathlib.Core.Bool.{true, cond, _&&_};
+ghost use mathlib.Core.Bool.{true, _&&_};
 ghost use Prim.Native.Nat.{_≤_, _<_};
-ghost use lib.Dec.{eqb, ltb};
+ghost use lib.Dec.{ltb};
 ghost use lib.ListN.{length};
 ghost use Rattle.frame.specs.Frames.{apartOf};
 ghost use Rattle.route.specs.Routes.{judgeOf, rule13, limitedOf};
@@ -44,13 +44,6 @@ fn limited(s: &[u8], ero: bool, limit: Limit, count: usize) -> Verdict
     }
 }
 
-// The first of two answers, unless it is an acceptance.
-fn first_refusal(a: Verdict, b: Verdict) -> Verdict
-    ensures first { λ r. ⌜ r ≡ cond (eqb (a .number) 0) b a ⌝ }
-{
-    if a.number == 0 { b } else { a }
-}
-
 // The verdict on a route under a session and a setup type.
 pub fn judge(s: &[u8], ero: bool, session: Session, pst: u64) -> Verdict
     ensures judged { λ r. ⌜ r ≡ judgeOf (now (s .entry)) ero session pst ⌝ }
@@ -63,7 +56,9 @@ pub fn judge(s: &[u8], ero: bool, session: Session, pst: u64) -> Verdict
         return answers::refused(answers::NOT_AGREED, 0);
     }
     let w = walk(s, ero, session.n, f.count);
+    if w.number != 0 {
+        return w;
+    }
     let limit = session.limit;
-    let l = limited(s, ero, limit, f.count);
-    first_refusal(w, l)
+    limited(s, ero, limit, f.count)
 }

@@ -8,89 +8,63 @@ use Rattle.frame.proofs.Laws.{headed-sized, header-broken, frame-by, by
 use borrow.Author.Needs.{needs}
 use Rattle.frame.proofs.look.framed.Statement.{statement}
 use Rattle.frame.proofs.look.framed.Tie as tie
-use Rattle.frame.proofs.look.framed.Reads as reads
-use Rattle.frame.proofs.look.framed.Lts as lts
-use Rattle.answers.proofs.accepted.Reads as accepted-reads
-use Rattle.answers.proofs.refused.Reads as refused-reads
-use Rattle.frame.proofs.look.header.Reads as header-reads
-use Rattle.frame.proofs.look.look.Reads as look-reads
-use Rattle.octets.proofs.both.Reads as both-reads
-use Rattle.octets.proofs.octet.Reads as octet-reads
-use Rattle.subobject.proofs.kind.Reads as kind-reads
 
--- src/look.rt:110:9
 header-requires : tie.Need-header-requires
 header-requires c κs = search needs
 
--- src/look.rt:111:9
 refused-requires : tie.Need-refused-requires
 refused-requires c κs = search needs
 
--- src/look.rt:111:9
 returns : tie.Need-returns
 returns c = c .refused .ensures ∙ header-broken _ _ _ _ (c .before .before .header .ensures) (c .before .if1 .taken)
 
--- src/look.rt:113:38
 octet-requires : tie.Need-octet-requires
 octet-requires c κs = search needs
 
--- src/look.rt:113:9
 kind-requires : tie.Need-kind-requires
 kind-requires c κs = search needs
 
--- src/look.rt:114:9
 look-requires : tie.Need-look-requires
 unfolding be16
 look-requires c κs = let h = headed-sized (c .before .before .before .before .before .args .ero) (c .before .before .before .before .before .args .s .now) (sym (c .before .before .before .header .ensures) ∙ not-false _ (c .before .before .if1 .left)) in
     (h .low, h .four, omega (arith, h .read, c .before .before .before .before .shared-slice-known .given 2, c .before .before .before .before .shared-slice-known .given 3), rw (← c .before .octet .ensures .0) (c .kind .ensures))
 
--- src/look.rt:116:9
 refused-requires-2 : tie.Need-refused-requires-2
 refused-requires-2 c κs = search needs
 
--- src/look.rt:116:9
 returns-2 : tie.Need-returns-2
 returns-2 c = let e : refusedBy frameBroken 0 ≡ byFacts (c .before .before .before .look .result) = rw (c .before .if2 .taken) in
     c .refused2 .ensures ∙ e ∙ frame-by _ _ _ _ _ (c .before .before .before .before .before .before .before .header .ensures) (c .before .before .before .before .before .before .if1 .left) (c .before .before .before .look .ensures)
 
--- src/look.rt:119:9
 refused-requires-3 : tie.Need-refused-requires-3
 refused-requires-3 c κs = search needs
 
--- src/look.rt:119:9
 returns-3 : tie.Need-returns-3
 returns-3 c = let e : refusedBy routeEmpty 0 ≡ byFacts (c .before .before .before .before .before .look .result) = rw (c .before .before .before .if2 .left, eq-eqb _ _ (c .before .if3 .taken)) in
     c .refused3 .ensures ∙ e ∙ frame-by _ _ _ _ _ (c .before .before .before .before .before .before .before .before .before .header .ensures) (c .before .before .before .before .before .before .before .before .if1 .left) (c .before .before .before .before .before .look .ensures)
 
--- src/look.rt:121:8
 both-requires : tie.Need-both-requires
 both-requires c κs = search needs
 
--- src/look.rt:122:9
 refused-requires-4 : tie.Need-refused-requires-4
 refused-requires-4 c κs = search needs
 
--- src/look.rt:122:9
 returns-4 : tie.Need-returns-4
 returns-4 c = let e : refusedBy kindsMixed (c .before .before .before .before .before .before .before .before .look .result .other) ≡ byFacts (c .before .before .before .before .before .before .before .before .look .result) =
     rw (c .before .before .before .before .before .before .if2 .left, ne-eqb _ _ (c .before .before .before .before .if3 .left), ← c .before .before .both .ensures, c .before .if4 .taken) in
     c .refused4 .ensures ∙ e ∙ frame-by _ _ _ _ _ (c .before .before .before .before .before .before .before .before .before .before .before .before .header .ensures) (c .before .before .before .before .before .before .before .before .before .before .before .if1 .left) (c .before .before .before .before .before .before .before .before .look .ensures)
 
--- src/look.rt:125:9
 refused-requires-5 : tie.Need-refused-requires-5
 refused-requires-5 c κs = search needs
 
--- src/look.rt:125:9
 returns-5 : tie.Need-returns-5
 returns-5 c = let e : refusedBy noSrv6 0 ≡ byFacts (c .before .before .before .before .before .before .before .before .before .before .look .result) =
     rw (c .before .before .before .before .before .before .before .before .if2 .left, ne-eqb _ _ (c .before .before .before .before .before .before .if3 .left), ← c .before .before .before .before .both .ensures, c .before .before .before .if4 .left, c .before .if5 .taken) in
     c .refused5 .ensures ∙ e ∙ frame-by _ _ _ _ _ (c .before .before .before .before .before .before .before .before .before .before .before .before .before .before .header .ensures) (c .before .before .before .before .before .before .before .before .before .before .before .before .before .if1 .left) (c .before .before .before .before .before .before .before .before .before .before .look .ensures)
 
--- src/look.rt:127:5
 accepted-requires : tie.Need-accepted-requires
 accepted-requires c κs = search needs
 
--- src/look.rt:107:1
 returns-6 : tie.Need-returns-6
 returns-6 c = let e : acceptedWith (c .before .before .before .before .before .before .before .before .before .before .look .result .count) ≡ byFacts (c .before .before .before .before .before .before .before .before .before .before .look .result) =
     rw (c .before .before .before .before .before .before .before .before .if2 .left, ne-eqb _ _ (c .before .before .before .before .before .before .if3 .left), ← c .before .before .before .before .both .ensures, c .before .before .before .if4 .left, c .before .if5 .left) in

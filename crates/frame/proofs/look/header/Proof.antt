@@ -6,59 +6,43 @@ use borrow.Author.Tests.{eq-eqb, ne-eqb, lt-ltb, le-ltb}
 use borrow.Author.Needs.{needs}
 use Rattle.frame.proofs.look.header.Statement.{statement}
 use Rattle.frame.proofs.look.header.Tie as tie
-use Rattle.frame.proofs.look.header.Reads as reads
-use Rattle.frame.proofs.look.header.Lts as lts
-use Rattle.octets.proofs.pick.Reads as pick-reads
-use Rattle.octets.proofs.read16.Reads as read16-reads
-use Rattle.octets.proofs.wide.Reads as wide-reads
 
--- src/look.rt:30:9
 returns : tie.Need-returns
 unfolding headed
 returns c = simp (lt-ltb _ _ (c .if1 .taken))
 
--- src/look.rt:32:21
 shared-slice-read-wide : tie.Need-shared-slice-read-wide
 shared-slice-read-wide c = search needs
 
--- src/look.rt:32:8
 wide-requires : tie.Need-wide-requires
 wide-requires c κs = search needs
 
--- src/look.rt:32:30
 pick-requires : tie.Need-pick-requires
 pick-requires c κs = search needs
 
--- src/look.rt:33:9
 returns-2 : tie.Need-returns-2
 unfolding headed octetOf
 returns-2 c = simp (le-ltb _ _ (c .before .before .before .before .if1 .left), ← c .before .before .wide .ensures .0, ← c .before .pick .ensures .0, ne-eqb _ _ (c .if2 .taken))
 
--- src/look.rt:35:21
 shared-slice-read-wide-2 : tie.Need-shared-slice-read-wide-2
 shared-slice-read-wide-2 c = search needs
 
--- src/look.rt:35:8
 wide-requires-2 : tie.Need-wide-requires-2
 wide-requires-2 c κs = search needs
 
--- src/look.rt:36:9
 returns-3 : tie.Need-returns-3
 unfolding headed octetOf
 returns-3 c = simp
     (le-ltb _ _ (c .before .before .before .before .before .before .before .if1 .left), ← c .before .before .before .before .before .wide .ensures .0, ← c .before .before .before .before .pick .ensures .0, eq-eqb _ _ (c .before .before .before .if2 .left), ← c .before .wide2 .ensures .0, ne-eqb _ _ (c .if3 .taken))
 
--- src/look.rt:38:8
 read16-requires : tie.Need-read16-requires
 read16-requires c κs = search needs
 
--- src/look.rt:39:9
 returns-4 : tie.Need-returns-4
 unfolding headed octetOf
 returns-4 c = simp
     (le-ltb _ _ (c .before .before .before .before .before .before .before .before .before .if1 .left), ← c .before .before .before .before .before .before .before .wide .ensures .0, ← c .before .before .before .before .before .before .pick .ensures .0, eq-eqb _ _ (c .before .before .before .before .before .if2 .left), ← c .before .before .before .wide2 .ensures .0, eq-eqb _ _ (c .before .before .if3 .left), ← c .before .read16 .ensures .0, ne-eqb _ _ (c .if4 .taken))
 
--- src/look.rt:25:1
 returns-5 : tie.Need-returns-5
 returns-5 c = headed-last (c .before .before .before .before .before .before .before .before .before .before .before .args .ero) (c .before .before .before .before .before .before .before .before .before .before .before .args .s .now) (c .before .before .before .before .before .before .before .before .before .if1 .left)
     (sym (c .before .before .before .before .before .before .before .wide .ensures .0) ∙ c .before .before .before .before .before .if2 .left ∙ c .before .before .before .before .before .before .pick .ensures .0)

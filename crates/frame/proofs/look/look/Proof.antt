@@ -4,15 +4,9 @@ use borrow.Author.Needs.{needs}
 use mathlib.Core.Path.{_≡_, refl, sym, _∙_}
 use lib.ListN.{getD, length}
 use Rattle.frame.specs.Frames.{factsOf}
-use Rattle.frame.proofs.Laws.{look-starts, look-ends, look-cut, look-next, now-fits, seen-count, Looking}
+use Rattle.frame.proofs.Laws.{Looking, look-starts, look-ends, look-cut, look-next, now-fits, seen-count}
 use Rattle.frame.proofs.look.look.Statement.{statement}
 use Rattle.frame.proofs.look.look.Tie as tie
-use Rattle.frame.proofs.look.look.Reads as reads
-use Rattle.frame.proofs.look.look.Lts as lts
-use Rattle.frame.proofs.look.fits.Reads as fits-reads
-use Rattle.frame.proofs.look.seen.Reads as seen-reads
-use Rattle.octets.proofs.wide.Reads as wide-reads
-use Rattle.subobject.proofs.kind.Reads as kind-reads
 
 abbrev Inv-loop : tie.InvT-loop
 Inv-loop s ero kind first end at₀ g₀ at g = (4 ≤ at) × (at ≤ length s) × (at % 4 ≡ 0) × (g .count ≤ at) × Looking s ero kind first at g (factsOf ero kind s)
@@ -20,59 +14,48 @@ Inv-loop s ero kind first end at₀ g₀ at g = (4 ≤ at) × (at ≤ length s) 
 abbrev μ-loop : tie.MeasureT-loop
 μ-loop s ero kind first end at₀ g₀ at g = length s - at
 
--- src/look.rt:90:5
-loop-holds : tie.Need-loop-holds Inv-loop μ-loop
-loop-holds c = (omega arith, omega arith, omega arith, omega arith, look-starts _ _ _ _ (c .before .pre .3))
+both-requires : tie.Need-both-requires Inv-loop μ-loop
+both-requires c κs = search needs
 
--- src/look.rt:91:34
+loop-holds : tie.Need-loop-holds Inv-loop μ-loop
+loop-holds c = (omega arith, omega arith, omega arith, omega arith, look-starts _ _ _ _ _ (c .both .ensures) (c .before .before .pre .3))
+
 add-wide : tie.Need-add-wide Inv-loop μ-loop
 add-wide c = omega arith
 
--- src/look.rt:91:32
 shared-slice-read-wide : tie.Need-shared-slice-read-wide Inv-loop μ-loop
-shared-slice-read-wide c = omega (arith, c .before .before .before .before .pre .1, c .before .before .loop .inv .2)
+shared-slice-read-wide c = omega (arith, c .before .before .before .before .before .pre .1, c .before .before .loop .inv .2)
 
--- src/look.rt:91:13
 wide-requires : tie.Need-wide-requires Inv-loop μ-loop
 wide-requires c κs = search needs
 
--- src/look.rt:92:23
 sub-fits : tie.Need-sub-fits Inv-loop μ-loop
 sub-fits c = omega arith
 
--- src/look.rt:92:13
 fits-requires : tie.Need-fits-requires Inv-loop μ-loop
 fits-requires c κs = search needs
 
--- src/look.rt:93:13
 returns : tie.Need-returns Inv-loop μ-loop
 returns c = look-cut (c .before .before .before .before .before .loop .inv .4) (c .before .before .before .before .loop-test .taken) (c .before .before .wide .ensures .0) (c .before .fits2 .ensures) (c .if1 .taken)
 
--- src/look.rt:100:59
 shared-slice-read-wide-2 : tie.Need-shared-slice-read-wide-2 Inv-loop μ-loop
 shared-slice-read-wide-2 c = omega arith
 
--- src/look.rt:100:46
 wide-requires-2 : tie.Need-wide-requires-2 Inv-loop μ-loop
 wide-requires-2 c κs = search needs
 
--- src/look.rt:100:25
 kind-requires : tie.Need-kind-requires Inv-loop μ-loop
 kind-requires c κs = search needs
 
--- src/look.rt:100:9
 seen-requires : tie.Need-seen-requires Inv-loop μ-loop
-seen-requires c κs = omega (arith, c .before .before .before .before .before .before .before .before .loop .inv .3, c .before .before .before .before .before .before .before .before .loop .inv .1, c .before .before .before .before .before .before .before .before .before .before .pre .2)
+seen-requires c κs = omega (arith, c .before .before .before .before .before .before .before .before .loop .inv .3, c .before .before .before .before .before .before .before .before .loop .inv .1, c .before .before .before .before .before .before .before .before .before .before .before .pre .2)
 
--- src/look.rt:101:14
 add-at : tie.Need-add-at Inv-loop μ-loop
 add-at c = let h = now-fits _ _ _ (c .before .before .before .before .before .fits2 .ensures) (c .before .before .before .before .if1 .left) in omega arith
 
--- src/look.rt:90:5
 loop-less : tie.Need-loop-less Inv-loop μ-loop
 loop-less c = let h = now-fits _ _ _ (c .before .before .before .before .before .fits2 .ensures) (c .before .before .before .before .if1 .left) in omega arith
 
--- src/look.rt:90:5
 loop-again : tie.Need-loop-again Inv-loop μ-loop
 loop-again c = let h = now-fits _ _ _ (c .before .before .before .before .before .fits2 .ensures) (c .before .before .before .before .if1 .left) in
     let q = seen-count (c .before .before .before .before .before .before .before .before .before .loop .g) (c .seen .result) _ _ _ _ (c .seen .ensures) in (
@@ -84,7 +67,6 @@ loop-again c = let h = now-fits _ _ _ (c .before .before .before .before .before
           (c .before .before .before .before .before .before .wide .ensures .0) (c .before .before .before .before .before .fits2 .ensures) (c .before .before .before .before .if1 .left) (c .before .before .wide2 .ensures .0) (c .before .kind .ensures) (c .seen .ensures),
     )
 
--- src/look.rt:78:1
 returns-2 : tie.Need-returns-2 Inv-loop μ-loop
 returns-2 c = look-ends (c .before .loop .inv .4) (omega arith)
 
@@ -94,6 +76,7 @@ look-spec =
     (tie.spec
     Inv-loop
     μ-loop
+    both-requires
     loop-holds
     add-wide
     shared-slice-read-wide

@@ -6,9 +6,6 @@ use Rattle.frame.specs.Frames.{apartOf}
 use Rattle.frame.proofs.Laws.{Going, going-starts, going-ends, going-room, going-here, going-on}
 use Rattle.frame.proofs.place.nth.Statement.{statement}
 use Rattle.frame.proofs.place.nth.Tie as tie
-use Rattle.frame.proofs.place.nth.Reads as reads
-use Rattle.frame.proofs.place.nth.Lts as lts
-use Rattle.octets.proofs.wide.Reads as wide-reads
 
 abbrev Inv-loop : tie.InvT-loop
 Inv-loop s i end at₀ left₀ at left = (at ≤ length s) × Going s at left (getD (apartOf s .places) i 0)
@@ -16,44 +13,34 @@ Inv-loop s i end at₀ left₀ at left = (at ≤ length s) × Going s at left (g
 abbrev μ-loop : tie.MeasureT-loop
 μ-loop s i end at₀ left₀ at left = length s - at
 
--- src/place.rt:16:5
 loop-holds : tie.Need-loop-holds Inv-loop μ-loop
 loop-holds c = (omega arith, going-starts _ _ (c .before .pre .2))
 
--- src/place.rt:18:13
 returns : tie.Need-returns Inv-loop μ-loop
 returns c = going-here (c .before .before .loop .inv .1) (omega (arith, c .before .before .loop .inv .0, c .before .loop-test .taken)) (c .if1 .taken)
 
--- src/place.rt:20:16
 sub-left : tie.Need-sub-left Inv-loop μ-loop
 sub-left c = omega arith
 
--- src/place.rt:21:34
 add-wide : tie.Need-add-wide Inv-loop μ-loop
 add-wide c = omega arith
 
--- src/place.rt:21:32
 shared-slice-read-wide : tie.Need-shared-slice-read-wide Inv-loop μ-loop
 shared-slice-read-wide c = let h = going-room (c .before .before .before .loop .inv .1) (c .before .before .loop-test .taken) in omega arith
 
--- src/place.rt:21:19
 wide-requires : tie.Need-wide-requires Inv-loop μ-loop
 wide-requires c κs = search needs
 
--- src/place.rt:21:14
 add-at : tie.Need-add-at Inv-loop μ-loop
 add-at c = omega arith
 
--- src/place.rt:16:5
 loop-less : tie.Need-loop-less Inv-loop μ-loop
 loop-less c = let h = going-room (c .before .before .before .before .loop .inv .1) (c .before .before .before .loop-test .taken) in omega (arith, c .wide .ensures .0)
 
--- src/place.rt:16:5
 loop-again : tie.Need-loop-again Inv-loop μ-loop
 loop-again c = let h = going-room (c .before .before .before .before .loop .inv .1) (c .before .before .before .loop-test .taken) in
     (omega (arith, c .wide .ensures .0), going-on (c .before .before .before .before .loop .inv .1) (omega (arith, c .before .before .before .before .loop .inv .0, c .before .before .before .loop-test .taken)) (c .before .before .if1 .left) (c .wide .ensures .0))
 
--- src/place.rt:9:1
 returns-2 : tie.Need-returns-2 Inv-loop μ-loop
 returns-2 c = going-ends (c .before .loop .inv .1) (omega arith)
 

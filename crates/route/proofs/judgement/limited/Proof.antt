@@ -4,52 +4,36 @@ use Rattle.route.proofs.Laws.{never-past}
 use borrow.Author.Needs.{needs}
 use Rattle.route.proofs.judgement.limited.Statement.{statement}
 use Rattle.route.proofs.judgement.limited.Tie as tie
-use Rattle.route.proofs.judgement.limited.Reads as reads
-use Rattle.route.proofs.judgement.limited.Lts as lts
-use Rattle.answers.proofs.accepted.Reads as accepted-reads
-use Rattle.answers.proofs.refused.Reads as refused-reads
-use Rattle.frame.proofs.nth.Reads as nth-reads
-use Rattle.route.proofs.judgement.past.Reads as past-reads
 
--- src/judgement.rt:37:24
 enum-told : tie.Need-enum-told
 enum-told c = search needs
 
--- src/judgement.rt:37:24
 accepted-requires : tie.Need-accepted-requires
 accepted-requires c κs = search needs
 
--- src/judgement.rt:38:21
 enum-known-limit : tie.Need-enum-known-limit
 enum-known-limit c = search needs
 
--- src/judgement.rt:39:16
 past-requires : tie.Need-past-requires
 past-requires c κs = search needs
 
--- src/judgement.rt:40:69
 nth-requires : tie.Need-nth-requires
 nth-requires c κs = search needs
 
--- src/judgement.rt:40:17
 refused-requires : tie.Need-refused-requires
 refused-requires c κs = search needs
 
--- src/judgement.rt:40:17
 returns : tie.Need-returns
 unfolding limitedOf rule12
 returns c = c .refused .ensures ∙ rw (c .before .before .before .before .before .limit .given .1, ← c .before .before .before .past .ensures, c .before .before .if1 .taken, c .before .nth .ensures)
 
--- src/judgement.rt:42:13
 accepted-requires-2 : tie.Need-accepted-requires-2
 accepted-requires-2 c κs = search needs
 
--- src/judgement.rt:32:1
 returns-2 : tie.Need-returns-2
 unfolding limitedOf rule12
 returns-2 c = c .accepted .ensures ∙ rw (c .before .enum-told .given .1, never-past (c .before .before .before .before .args .ero))
 
--- src/judgement.rt:32:1
 returns-3 : tie.Need-returns-3
 unfolding limitedOf rule12
 returns-3 c = c .accepted2 .ensures ∙ rw (c .before .before .before .before .limit .given .1, ← c .before .before .past .ensures, c .before .if1 .left)

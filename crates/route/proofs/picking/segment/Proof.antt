@@ -4,51 +4,35 @@ use Rattle.route.proofs.Answer.{frame-bounds, accepted-none, accepted-l
 use borrow.Author.Needs.{needs}
 use Rattle.route.proofs.picking.segment.Statement.{statement}
 use Rattle.route.proofs.picking.segment.Tie as tie
-use Rattle.route.proofs.picking.segment.Reads as reads
-use Rattle.route.proofs.picking.segment.Lts as lts
-use Rattle.answers.proofs.refused.Reads as refused-reads
-use Rattle.frame.proofs.nth.Reads as nth-reads
-use Rattle.route.proofs.judgement.judge.Reads as judge-reads
-use Rattle.route.proofs.picking.no_segment.Reads as no-segment-reads
-use Rattle.route.proofs.picking.segment_at.Reads as segment-at-reads
 
--- src/picking.rt:70:9
 judge-requires : tie.Need-judge-requires
 judge-requires c κs = search needs
 
--- src/picking.rt:74:22
 no-segment-requires : tie.Need-no-segment-requires
 no-segment-requires c κs = search needs
 
--- src/picking.rt:72:9
 returns : tie.Need-returns
 returns c = pick-stops (c .before .before .before .before .before .args .s .now) (c .before .before .before .before .before .args .ero) (c .before .before .before .before .before .args .session) (c .before .before .before .before .before .args .pst) (c .before .before .before .before .before .args .i) _ (c .before .before .before .judge .ensures) (c .before .if1 .taken) (c .no-segment .ensures)
 
--- src/picking.rt:79:22
 refused-requires : tie.Need-refused-requires
 refused-requires c κs = search needs
 
--- src/picking.rt:80:22
 no-segment-requires-2 : tie.Need-no-segment-requires-2
 no-segment-requires-2 c κs = search needs
 
--- src/picking.rt:78:9
 returns-2 : tie.Need-returns-2
 returns-2 c = pick-beyond (c .before .before .before .before .before .before .before .args .s .now) (c .before .before .before .before .before .before .before .args .ero) (c .before .before .before .before .before .before .before .args .session) (c .before .before .before .before .before .before .before .args .pst) (c .before .before .before .before .before .before .before .args .i) _ (c .before .before .before .before .before .judge .ensures) (c .before .before .before .if1 .left) (c .before .before .if2 .taken) (c .before .refused .ensures) (c .no-segment2 .ensures)
 
--- src/picking.rt:83:9
 nth-requires : tie.Need-nth-requires
 nth-requires c κs = let z = rw (c .before .before .before .judge .ensures) at (c .before .if1 .left) in
     frame-bounds (c .before .before .before .before .before .args .ero) (c .before .before .before .before .before .args .s .now) (accepted-none (c .before .before .before .before .before .args .s .now) (c .before .before .before .before .before .args .ero) (c .before .before .before .before .before .args .session) (c .before .before .before .before .before .args .pst) z .0)
     (omega (arith, c .before .before .before .before .shared-slice-known .given 2)) (omega (arith, c .before .before .before .before .shared-slice-known .given 3))
 
--- src/picking.rt:86:18
 segment-at-requires : tie.Need-segment-at-requires
 segment-at-requires c κs = let z = rw (c .before .before .before .before .judge .ensures) at (c .before .before .if1 .left) in
     let l = rw (pick-count (c .before .before .before .before .before .before .args .s .now) (c .before .before .before .before .before .before .args .ero) (c .before .before .before .before .before .before .args .session) (c .before .before .before .before .before .before .args .pst) (c .before .before .before .before .before .before .args .i) _ (c .before .before .before .before .judge .ensures) (c .before .before .if1 .left)) at (c .before .if2 .left) in
     rw (c .nth .ensures) (accepted-lying (c .before .before .before .before .before .before .args .s .now) (c .before .before .before .before .before .before .args .ero) (c .before .before .before .before .before .before .args .session) (c .before .before .before .before .before .before .args .pst) (c .before .before .before .before .before .before .args .i) z l .inside)
 
--- src/picking.rt:67:1
 returns-3 : tie.Need-returns-3
 returns-3 c = pick-there (c .before .before .before .before .before .before .before .args .s .now) (c .before .before .before .before .before .before .before .args .ero) (c .before .before .before .before .before .before .before .args .session) (c .before .before .before .before .before .before .before .args .pst) (c .before .before .before .before .before .before .before .args .i) _ (c .before .before .before .before .before .judge .ensures) (c .before .before .before .if1 .left) (c .before .before .if2 .left) (c .before .nth .ensures) (c .segment-at .ensures)
 

@@ -9,95 +9,66 @@ use Rattle.route.proofs.Laws.{parts-room, bits-room, structure-part, se
 use borrow.Author.Needs.{needs}
 use Rattle.route.proofs.picking.segment_at.Statement.{statement}
 use Rattle.route.proofs.picking.segment_at.Tie as tie
-use Rattle.route.proofs.picking.segment_at.Reads as reads
-use Rattle.route.proofs.picking.segment_at.Lts as lts
-use Rattle.octets.proofs.pick.Reads as pick-reads
-use Rattle.octets.proofs.part16.Reads as part16-reads
-use Rattle.octets.proofs.part4.Reads as part4-reads
-use Rattle.octets.proofs.part40.Reads as part40-reads
-use Rattle.octets.proofs.read16.Reads as read16-reads
-use Rattle.subobject.proofs.head_at.Reads as head-at-reads
-use Rattle.subobject.proofs.nai_length.Reads as nai-length-reads
-use Rattle.subobject.proofs.structured.Reads as structured-reads
 
--- src/picking.rt:41:9
 head-at-requires : tie.Need-head-at-requires
 unfolding expectedAt expectedLength
 head-at-requires c κs = omega arith
 
--- src/picking.rt:42:9
 structured-requires : tie.Need-structured-requires
 structured-requires c κs = search needs
 
--- src/picking.rt:43:9
 pick-requires : tie.Need-pick-requires
 pick-requires c κs = search needs
 
--- src/picking.rt:44:9
 nai-length-requires : tie.Need-nai-length-requires
 nai-length-requires c κs = search needs
 
--- src/picking.rt:45:39
 add-read16 : tie.Need-add-read16
 add-read16 c = search needs
 
--- src/picking.rt:45:21
 read16-requires : tie.Need-read16-requires
 unfolding expectedAt expectedLength
 read16-requires c κs = omega (arith, c .before .before .before .before .before .before .pre)
 
--- src/picking.rt:45:21
 cast-behaviour : tie.Need-cast-behaviour
 cast-behaviour c = search needs
 
--- src/picking.rt:46:14
 cast-nt : tie.Need-cast-nt
 cast-nt c = search needs
 
--- src/picking.rt:47:33
 add-part16 : tie.Need-add-part16
 add-part16 c = search needs
 
--- src/picking.rt:47:9
 part16-requires : tie.Need-part16-requires
 part16-requires c κs = let h = parts-room _ _ _ _ (c .before .before .before .before .before .before .head-at .ensures .0) (c .before .before .before .before .before .before .before .before .pre) in (omega (arith, c .before .before .before .pick .ensures .0), omega (arith, c .before .before .before .pick .ensures .1))
 
--- src/picking.rt:48:33
 add-part40 : tie.Need-add-part40
 add-part40 c = search needs
 
--- src/picking.rt:48:33
 add-part40-2 : tie.Need-add-part40-2
 add-part40-2 c = search needs
 
--- src/picking.rt:48:9
 part40-requires : tie.Need-part40-requires
 part40-requires c κs = let h = parts-room _ _ _ _ (c .before .before .before .before .before .before .before .head-at .ensures .0) (c .before .before .before .before .before .before .before .before .before .pre) in
     (omega (arith, c .before .before .before .before .pick .ensures .0, c .before .before .before .nai-length .ensures .0), c .before .before .before .nai-length .ensures .1)
 
--- src/picking.rt:49:38
 add-part4 : tie.Need-add-part4
 add-part4 c = search needs
 
--- src/picking.rt:49:38
 add-part4-2 : tie.Need-add-part4-2
 add-part4-2 c = search needs
 
--- src/picking.rt:49:38
 add-part4-3 : tie.Need-add-part4-3
 add-part4-3 c = search needs
 
--- src/picking.rt:49:76
 pick-requires-2 : tie.Need-pick-requires-2
 pick-requires-2 c κs = search needs
 
--- src/picking.rt:49:9
 part4-requires : tie.Need-part4-requires
 part4-requires c κs = let h = parts-room _ _ _ _ (c .before .before .before .before .before .before .before .before .before .head-at .ensures .0) (c .before .before .before .before .before .before .before .before .before .before .before .pre) in
     let q = rw (c .before .before .before .before .before .before .before .before .structured .ensures) at (c .pick2 .ensures .0) in
     (omega (arith, c .before .before .before .before .before .before .pick .ensures .0, c .before .before .before .before .before .nai-length .ensures .0, bits-room (hasStructure (c .before .before .before .before .before .before .before .before .before .head-at .result))), omega (arith, c .pick2 .ensures .1))
 
--- src/picking.rt:37:1
 returns : tie.Need-returns
 returns c = segment-made _ _ _ _ _ _ _ _ _ _ _ _ (c .before .before .before .before .before .before .before .before .before .before .before .before .before .head-at .ensures .0) (c .before .before .before .before .before .before .before .before .before .before .before .before .structured .ensures) (c .before .before .before .before .before .before .before .before .before .before .pick .ensures .0)
     (c .before .before .before .before .before .before .before .before .before .nai-length .ensures .0) (c .before .before .before .before .pick2 .ensures .0) (c .before .before .before .before .before .before .before .before .read16 .ensures .0) (c .before .before .before .before .before .before .part16 .ensures) (c .before .before .before .before .before .part40 .ensures) (c .before .before .before .part4 .ensures)

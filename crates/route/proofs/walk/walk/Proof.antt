@@ -8,12 +8,6 @@ use Rattle.route.specs.Routes.{brokenAt, walkOf}
 use Rattle.route.proofs.Laws.{Left, Checking, left-starts, left-ends, left-room, begin, stops, passes, done, head-size, asked}
 use Rattle.route.proofs.walk.walk.Statement.{statement}
 use Rattle.route.proofs.walk.walk.Tie as tie
-use Rattle.route.proofs.walk.walk.Reads as reads
-use Rattle.route.proofs.walk.walk.Lts as lts
-use Rattle.answers.proofs.accepted.Reads as accepted-reads
-use Rattle.answers.proofs.refused.Reads as refused-reads
-use Rattle.route.proofs.walk.breaks.Reads as breaks-reads
-use Rattle.subobject.proofs.head_at.Reads as head-at-reads
 
 abbrev Inv-loop : tie.InvT-loop
 Inv-loop s ero n count end at h next k₀ k = (k ≤ 5) × Checking (brokenAt ero n s) s at next (acceptedWith count) (walkOf ero n count s) k
@@ -27,77 +21,61 @@ Inv-walk s ero n count end at₀ at = (at ≤ length s) × Left (brokenAt ero n 
 abbrev μ-walk : tie.MeasureT-walk
 μ-walk s ero n count end at₀ at = length s - at
 
--- src/walk.rt:67:5
 walk-holds : tie.Need-walk-holds Inv-loop μ-loop Inv-walk μ-walk
 unfolding walkOf
 walk-holds c = (omega arith, left-starts _ _ _ (c .before .pre .2))
 
--- src/walk.rt:69:25
 accepted-requires : tie.Need-accepted-requires Inv-loop μ-loop Inv-walk μ-walk
 accepted-requires c κs = search needs
 
--- src/walk.rt:71:13
 head-at-requires : tie.Need-head-at-requires Inv-loop μ-loop Inv-walk μ-walk
 head-at-requires c κs = let h = left-room (c .before .walk .inv .1) (c .if1 .left) in omega arith
 
--- src/walk.rt:72:20
 add-next : tie.Need-add-next Inv-loop μ-loop Inv-walk μ-walk
 add-next c = omega (arith, c .before .head-at .ensures .1)
 
--- src/walk.rt:74:9
 loop-holds : tie.Need-loop-holds Inv-loop μ-loop Inv-walk μ-walk
 loop-holds c = (
   omega arith,
   begin (c .before .before .before .walk .inv .1) (omega (arith, c .before .before .before .walk .inv .0, c .before .before .if1 .left)) (head-size _ _ _ _ (c .before .head-at .ensures .0)),
 )
 
--- src/walk.rt:75:26
 mul-number : tie.Need-mul-number Inv-loop μ-loop Inv-walk μ-walk
 mul-number c = omega arith
 
--- src/walk.rt:75:26
 array-read-number : tie.Need-array-read-number Inv-loop μ-loop Inv-walk μ-walk
 array-read-number c = omega arith
 
--- src/walk.rt:76:16
 breaks-requires : tie.Need-breaks-requires Inv-loop μ-loop Inv-walk μ-walk
 breaks-requires c κs = omega (arith, c .before .before .before .before .before .walk .inv .0, c .before .before .before .before .if1 .left)
 
--- src/walk.rt:77:29
 refused-requires : tie.Need-refused-requires Inv-loop μ-loop Inv-walk μ-walk
 refused-requires c κs = search needs
 
--- src/walk.rt:79:17
 add-k : tie.Need-add-k Inv-loop μ-loop Inv-walk μ-walk
 add-k c = omega arith
 
--- src/walk.rt:74:9
 loop-less : tie.Need-loop-less Inv-loop μ-loop Inv-walk μ-walk
 loop-less c = omega arith
 
--- src/walk.rt:74:9
 loop-again : tie.Need-loop-again Inv-loop μ-loop Inv-walk μ-walk
 loop-again c = (
   omega arith,
   passes (c .before .before .before .loop .inv .1) (c .before .before .loop-test .taken) (asked _ _ _ _ _ _ _ (c .before .before .before .before .before .head-at .ensures .0) (c .before .breaks .ensures) ∙ c .if2 .left),
 )
 
--- src/walk.rt:67:5
 walk-less : tie.Need-walk-less Inv-loop μ-loop Inv-walk μ-walk
 walk-less c = let h = left-room (c .before .before .before .before .before .walk .inv .1) (c .before .before .before .before .if1 .left) in
     let e = head-size _ _ _ _ (c .before .before .before .head-at .ensures .0) in omega (arith, c .before .before .before .before .before .walk .inv .0)
 
--- src/walk.rt:67:5
 walk-again : tie.Need-walk-again Inv-loop μ-loop Inv-walk μ-walk
 walk-again c = let h = left-room (c .before .before .before .before .before .walk .inv .1) (c .before .before .before .before .if1 .left) in
     let e = head-size _ _ _ _ (c .before .before .before .head-at .ensures .0) in
     (omega (arith, c .before .before .before .before .before .walk .inv .0), done (c .before .loop .inv .1) (omega (arith, c .before .loop .inv .0, c .loop-test .left)))
 
--- src/walk.rt:61:1
 returns : tie.Need-returns Inv-loop μ-loop Inv-walk μ-walk
 returns c = c .accepted .ensures ∙ left-ends (c .before .before .walk .inv .1) (c .before .if1 .taken)
 
--- src/walk.rt:61:1
 returns-2 : tie.Need-returns-2 Inv-loop μ-loop Inv-walk μ-walk
 returns-2 c = c .refused .ensures ∙ stops (c .before .before .before .before .loop .inv .1) (c .before .before .before .loop-test .taken) (asked _ _ _ _ _ _ _ (c .before .before .before .before .before .before .head-at .ensures .0) (c .before .before .breaks .ensures) ∙ c .before .if2 .taken)
 

@@ -4,69 +4,49 @@ use Rattle.subobject.specs.Layout.{headAt, headOf}
 use borrow.Author.Needs.{needs}
 use Rattle.subobject.proofs.head.head_at.Statement.{statement}
 use Rattle.subobject.proofs.head.head_at.Tie as tie
-use Rattle.subobject.proofs.head.head_at.Reads as reads
-use Rattle.subobject.proofs.head.head_at.Lts as lts
-use Rattle.octets.proofs.wide.Reads as wide-reads
-use Rattle.subobject.proofs.head.kind.Reads as kind-reads
-use Rattle.subobject.proofs.head.only.Reads as only-reads
 
--- src/head.rt:50:30
 shared-slice-read-wide : tie.Need-shared-slice-read-wide
 shared-slice-read-wide c = search needs
 
--- src/head.rt:50:9
 wide-requires : tie.Need-wide-requires
 wide-requires c κs = search needs
 
--- src/head.rt:51:31
 add-wide : tie.Need-add-wide
 add-wide c = search needs
 
--- src/head.rt:51:29
 shared-slice-read-wide-2 : tie.Need-shared-slice-read-wide-2
 shared-slice-read-wide-2 c = search needs
 
--- src/head.rt:51:9
 wide-requires-2 : tie.Need-wide-requires-2
 wide-requires-2 c κs = search needs
 
--- src/head.rt:52:31
 add-wide-2 : tie.Need-add-wide-2
 add-wide-2 c = search needs
 
--- src/head.rt:52:29
 shared-slice-read-wide-3 : tie.Need-shared-slice-read-wide-3
 shared-slice-read-wide-3 c = search needs
 
--- src/head.rt:52:9
 wide-requires-3 : tie.Need-wide-requires-3
 wide-requires-3 c κs = search needs
 
--- src/head.rt:53:30
 add-wide-3 : tie.Need-add-wide-3
 add-wide-3 c = search needs
 
--- src/head.rt:53:28
 shared-slice-read-wide-4 : tie.Need-shared-slice-read-wide-4
 shared-slice-read-wide-4 c = search needs
 
--- src/head.rt:53:9
 wide-requires-4 : tie.Need-wide-requires-4
 wide-requires-4 c κs = search needs
 
--- src/head.rt:55:15
 kind-requires : tie.Need-kind-requires
 kind-requires c κs = search needs
 
--- src/head.rt:61:12
 only-requires : tie.Need-only-requires
 only-requires c κs = search needs
 
--- src/head.rt:62:12
 only-requires-2 : tie.Need-only-requires-2
 only-requires-2 c κs = search needs
 
--- src/head.rt:45:1
 returns : tie.Need-returns
 unfolding headAt headOf octetOf
 returns c = (cc, omega arith)

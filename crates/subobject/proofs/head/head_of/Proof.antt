@@ -3,41 +3,28 @@ use Rattle.subobject.specs.Segments.{headOfSegment}
 use borrow.Author.Needs.{needs}
 use Rattle.subobject.proofs.head.head_of.Statement.{statement}
 use Rattle.subobject.proofs.head.head_of.Tie as tie
-use Rattle.subobject.proofs.head.head_of.Reads as reads
-use Rattle.subobject.proofs.head.head_of.Lts as lts
-use Rattle.octets.proofs.wide.Reads as wide-reads
-use Rattle.subobject.proofs.head.bit.Reads as bit-reads
-use Rattle.subobject.proofs.layout.expected.Reads as expected-reads
 
--- src/head.rt:71:9
 wide-requires : tie.Need-wide-requires
 wide-requires c κs = search needs
 
--- src/head.rt:72:9
 bit-requires : tie.Need-bit-requires
 bit-requires c κs = search needs
 
--- src/head.rt:73:9
 bit-requires-2 : tie.Need-bit-requires-2
 bit-requires-2 c κs = search needs
 
--- src/head.rt:76:15
 expected-requires : tie.Need-expected-requires
 expected-requires c κs = search needs
 
--- src/head.rt:79:12
 bit-requires-3 : tie.Need-bit-requires-3
 bit-requires-3 c κs = search needs
 
--- src/head.rt:81:12
 bit-requires-4 : tie.Need-bit-requires-4
 bit-requires-4 c κs = search needs
 
--- src/head.rt:82:12
 bit-requires-5 : tie.Need-bit-requires-5
 bit-requires-5 c κs = search needs
 
--- src/head.rt:67:1
 returns : tie.Need-returns
 unfolding headOfSegment
 returns c = (cc, omega arith)

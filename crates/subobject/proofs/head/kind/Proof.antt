@@ -1,15 +1,11 @@
 use Rattle.subobject.specs.Layout.{kindOf}
 use Rattle.subobject.proofs.head.kind.Statement.{statement}
 use Rattle.subobject.proofs.head.kind.Tie as tie
-use Rattle.subobject.proofs.head.kind.Reads as reads
-use Rattle.subobject.proofs.head.kind.Lts as lts
 
--- src/head.rt:31:1
 returns : tie.Need-returns
 unfolding kindOf
 returns c = rw (c .if1 .taken)
 
--- src/head.rt:31:1
 returns-2 : tie.Need-returns-2
 unfolding kindOf
 returns-2 c = rw (c .if1 .left)

@@ -3,25 +3,19 @@ use Rattle.octets.proofs.Tests.{tests}
 use Rattle.subobject.specs.Layout.{naiLength}
 use Rattle.subobject.proofs.layout.nai_length.Statement.{statement}
 use Rattle.subobject.proofs.layout.nai_length.Tie as tie
-use Rattle.subobject.proofs.layout.nai_length.Reads as reads
-use Rattle.subobject.proofs.layout.nai_length.Lts as lts
 
--- src/layout.rt:33:9
 returns : tie.Need-returns
 unfolding naiLength
 returns c = (search tests, omega arith)
 
--- src/layout.rt:36:9
 returns-2 : tie.Need-returns-2
 unfolding naiLength
 returns-2 c = (search tests, omega arith)
 
--- src/layout.rt:39:9
 returns-3 : tie.Need-returns-3
 unfolding naiLength
 returns-3 c = (search tests, omega arith)
 
--- src/layout.rt:29:1
 returns-4 : tie.Need-returns-4
 unfolding naiLength
 returns-4 c = (search tests, omega arith)

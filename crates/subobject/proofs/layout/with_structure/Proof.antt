@@ -3,25 +3,19 @@ use Rattle.octets.proofs.Tests.{tests}
 use Rattle.subobject.specs.Layout.{naiLength}
 use Rattle.subobject.proofs.layout.with_structure.Statement.{statement}
 use Rattle.subobject.proofs.layout.with_structure.Tie as tie
-use Rattle.subobject.proofs.layout.with_structure.Reads as reads
-use Rattle.subobject.proofs.layout.with_structure.Lts as lts
 
--- src/layout.rt:81:9
 returns : tie.Need-returns
 unfolding naiLength
 returns c = (search tests, omega arith)
 
--- src/layout.rt:84:9
 returns-2 : tie.Need-returns-2
 unfolding naiLength
 returns-2 c = (search tests, omega arith)
 
--- src/layout.rt:87:9
 returns-3 : tie.Need-returns-3
 unfolding naiLength
 returns-3 c = (search tests, omega arith)
 
--- src/layout.rt:77:1
 returns-4 : tie.Need-returns-4
 unfolding naiLength
 returns-4 c = (search tests, omega arith)

@@ -2,23 +2,16 @@ use Rattle.subobject.specs.Rules.{rule8}
 use borrow.Author.Needs.{needs}
 use Rattle.subobject.proofs.rule.eight.Statement.{statement}
 use Rattle.subobject.proofs.rule.eight.Tie as tie
-use Rattle.subobject.proofs.rule.eight.Reads as reads
-use Rattle.subobject.proofs.rule.eight.Lts as lts
-use Rattle.octets.proofs.either.Reads as either-reads
 
--- src/rule.rt:14:46
 either-requires : tie.Need-either-requires
 either-requires c κs = search needs
 
--- src/rule.rt:14:9
 either-requires-2 : tie.Need-either-requires-2
 either-requires-2 c κs = search needs
 
--- src/rule.rt:12:6
 either-requires-3 : tie.Need-either-requires-3
 either-requires-3 c κs = search needs
 
--- src/rule.rt:9:1
 returns : tie.Need-returns
 unfolding rule8
 returns c = cc

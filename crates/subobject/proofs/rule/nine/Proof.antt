@@ -2,15 +2,10 @@ use Rattle.subobject.specs.Rules.{rule9}
 use borrow.Author.Needs.{needs}
 use Rattle.subobject.proofs.rule.nine.Statement.{statement}
 use Rattle.subobject.proofs.rule.nine.Tie as tie
-use Rattle.subobject.proofs.rule.nine.Reads as reads
-use Rattle.subobject.proofs.rule.nine.Lts as lts
-use Rattle.octets.proofs.both.Reads as both-reads
 
--- src/rule.rt:22:5
 both-requires : tie.Need-both-requires
 both-requires c κs = search needs
 
--- src/rule.rt:19:1
 returns : tie.Need-returns
 unfolding rule9
 returns c = cc

@@ -4,117 +4,86 @@ use Rattle.subobject.specs.Rules.{sumAt}
 use borrow.Author.Needs.{needs}
 use Rattle.subobject.proofs.rule.sum_at.Statement.{statement}
 use Rattle.subobject.proofs.rule.sum_at.Tie as tie
-use Rattle.subobject.proofs.rule.sum_at.Reads as reads
-use Rattle.subobject.proofs.rule.sum_at.Lts as lts
-use Rattle.octets.proofs.octet.Reads as octet-reads
-use Rattle.octets.proofs.wide.Reads as wide-reads
 
--- src/rule.rt:60:8
 add-if1 : tie.Need-add-if1
 add-if1 c = search needs
 
--- src/rule.rt:61:29
 shared-slice-read-wide : tie.Need-shared-slice-read-wide
 shared-slice-read-wide c = search needs
 
--- src/rule.rt:61:16
 wide-requires : tie.Need-wide-requires
 wide-requires c κs = search needs
 
--- src/rule.rt:61:53
 add-wide : tie.Need-add-wide
 add-wide c = search needs
 
--- src/rule.rt:61:51
 shared-slice-read-wide-2 : tie.Need-shared-slice-read-wide-2
 shared-slice-read-wide-2 c = search needs
 
--- src/rule.rt:61:38
 wide-requires-2 : tie.Need-wide-requires-2
 wide-requires-2 c κs = search needs
 
--- src/rule.rt:61:16
 add-result : tie.Need-add-result
 add-result c = search needs
 
--- src/rule.rt:61:79
 add-wide-2 : tie.Need-add-wide-2
 add-wide-2 c = search needs
 
--- src/rule.rt:61:77
 shared-slice-read-wide-3 : tie.Need-shared-slice-read-wide-3
 shared-slice-read-wide-3 c = search needs
 
--- src/rule.rt:61:64
 wide-requires-3 : tie.Need-wide-requires-3
 wide-requires-3 c κs = search needs
 
--- src/rule.rt:61:16
 add-result-2 : tie.Need-add-result-2
 add-result-2 c = search needs
 
--- src/rule.rt:61:105
 add-wide-3 : tie.Need-add-wide-3
 add-wide-3 c = search needs
 
--- src/rule.rt:61:103
 shared-slice-read-wide-4 : tie.Need-shared-slice-read-wide-4
 shared-slice-read-wide-4 c = search needs
 
--- src/rule.rt:61:90
 wide-requires-4 : tie.Need-wide-requires-4
 wide-requires-4 c κs = search needs
 
--- src/rule.rt:61:16
 add-result-3 : tie.Need-add-result-3
 add-result-3 c = search needs
 
--- src/rule.rt:61:9
 returns : tie.Need-returns
 unfolding sumAt octetOf
 returns c = (cc, omega arith)
 
--- src/rule.rt:63:5
 octet-requires : tie.Need-octet-requires
 octet-requires c κs = search needs
 
--- src/rule.rt:63:45
 add-octet : tie.Need-add-octet
 add-octet c = search needs
 
--- src/rule.rt:63:28
 octet-requires-2 : tie.Need-octet-requires-2
 octet-requires-2 c κs = search needs
 
--- src/rule.rt:63:5
 add-result-4 : tie.Need-add-result-4
 add-result-4 c = search needs
 
--- src/rule.rt:63:72
 add-octet-2 : tie.Need-add-octet-2
 add-octet-2 c = search needs
 
--- src/rule.rt:63:55
 octet-requires-3 : tie.Need-octet-requires-3
 octet-requires-3 c κs = search needs
 
--- src/rule.rt:63:5
 add-result-5 : tie.Need-add-result-5
 add-result-5 c = search needs
 
--- src/rule.rt:63:99
 add-octet-3 : tie.Need-add-octet-3
 add-octet-3 c = search needs
 
--- src/rule.rt:63:82
 octet-requires-4 : tie.Need-octet-requires-4
 octet-requires-4 c κs = search needs
 
--- src/rule.rt:63:5
 add-result-6 : tie.Need-add-result-6
 add-result-6 c = search needs
 
--- src/rule.rt:56:1
 returns-2 : tie.Need-returns-2
 unfolding sumAt
 returns-2 c = (cc, omega arith)

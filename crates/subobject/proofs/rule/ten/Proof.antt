@@ -2,19 +2,13 @@ use Rattle.subobject.specs.Rules.{rule10}
 use borrow.Author.Needs.{needs}
 use Rattle.subobject.proofs.rule.ten.Statement.{statement}
 use Rattle.subobject.proofs.rule.ten.Tie as tie
-use Rattle.subobject.proofs.rule.ten.Reads as reads
-use Rattle.subobject.proofs.rule.ten.Lts as lts
-use Rattle.octets.proofs.both.Reads as both-reads
 
--- src/rule.rt:36:23
 both-requires : tie.Need-both-requires
 both-requires c κs = search needs
 
--- src/rule.rt:36:5
 both-requires-2 : tie.Need-both-requires-2
 both-requires-2 c κs = search needs
 
--- src/rule.rt:33:1
 returns : tie.Need-returns
 unfolding rule10
 returns c = cc

@@ -1,0 +1,15 @@
+-- A frame without a bound on its subobjects: one behind the other, from a place to the object's end
+-- (document 01, "The route object": "each subobject length is a multiple of 4, at least 4, and fits").
+use Prim.Native.Nat.{ℕ, _+_, _-_}
+use mathlib.Core.Path.{_≡_}
+use mathlib.Core.Bool.{true}
+use mathlib.Core.List.{List, [], _∷_}
+use lib.ListN.{length}
+use Rattle.octets.specs.Octets.{octetOf}
+use Rattle.frame.specs.Frames.{fitsIn}
+
+-- The subobjects from a place on stand at these places, and fill the object to its end.
+pub data Chain (s : List ℕ) : ℕ → List ℕ → Type 0 where
+  stop : {at : ℕ} → at ≡ length s → Chain s at []
+  link : {at : ℕ} {ps : List ℕ} → (at ≡ length s → ⊥) → fitsIn (octetOf s (at + 1)) (length s - at) ≡ true → Chain s (at + octetOf s (at + 1)) ps
+      → Chain s at (at ∷ ps)
