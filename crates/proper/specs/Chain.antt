@@ -6,11 +6,11 @@ use mathlib.Core.List.{List}
 use lib.ListN.{getD, length}
 use Rattle.table.specs.Sizes.{places}
 
--- the hashes are below 256
+-- the hashes are below 512
 abbrev pub slots : ℕ
-slots = 256
+slots = 512
 
--- the low 32 bits of a number, what they are multiplied by, and the octet of the product that is the hash
+-- the low 32 bits of a number, what they are multiplied by, and the worth of the lowest of the nine bits of the product that are the hash
 abbrev pub low : ℕ
 low = 4294967296
 
@@ -18,7 +18,7 @@ abbrev pub mix : ℕ
 mix = 2654435761
 
 abbrev pub top : ℕ
-top = 16777216
+top = 8388608
 
 -- the hash of a number
 unfoldable pub slotOf : ℕ → ℕ

@@ -6,16 +6,16 @@ ghost use Rattle.table.specs.Sizes.{places};
 ghost use Rattle.table.specs.Proper.{freshB};
 ghost use Rattle.proper.specs.Chain.{slots, slotOf, Links, Walking};
 
-// the low 32 bits of a number, what they are multiplied by, and the octet of the product that is the hash
+// the low 32 bits of a number, what they are multiplied by, and the worth of the lowest of the nine bits of the product that are the hash
 const LOW: u64 = 4294967296;
 
 const MIX: u64 = 2654435761;
 
-const TOP: u64 = 16777216;
+const TOP: u64 = 8388608;
 
-const SLOTS: u64 = 256;
+const SLOTS: u64 = 512;
 
-// The hash of a number: the octet of the product that is worth most in its low 32 bits.
+// The hash of a number: the nine bits of the product that are worth most in its low 32 bits.
 pub fn slot(k: u64) -> usize
     ensures slot { λ r. ⌜ (r ≡ slotOf k) × (r < slots) ⌝ }
 {

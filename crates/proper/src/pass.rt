@@ -27,9 +27,9 @@ pub fn is_proper<'a>(
     if VERSION_MOST < top {
         return false;
     }
-    let mut heads = [0u8; 256];
+    let mut heads = [0u8; 512];
     let mut nexts = [0u8; 128];
-    let mut vheads = [0u8; 256];
+    let mut vheads = [0u8; 512];
     let mut vnexts = [0u8; 128];
     let mut i: usize = 0;
     while i < PLACES {
