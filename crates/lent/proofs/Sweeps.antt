@@ -6,8 +6,9 @@ use mathlib.Core.Path.{_≡_, refl, sym, ap, _∙_}
 use mathlib.Core.Bool.{Bool, true, false, not, cond, _&&_}
 use mathlib.Core.List.{List, [], _∷_, _++_, append-nil, append-assoc}
 use lib.ListN.{length, getD, set, drop, length-append, length-set, drop-of-length-le}
-use lib.Seq.{drop-cons, set-at, getD-at}
+use lib.Seq.{drop-cons, set-at, getD-at, set-getD}
 use lib.Dec.{eqb, leb}
+use borrow.Author.Tests.{not-true, not-false}
 use Rattle.table.specs.declared.board.Board.{Board}
 use Rattle.table.specs.Sizes.{places}
 use Rattle.table.specs.Table.{boardOf, keyAt, versionAt, removalB}
@@ -40,6 +41,12 @@ swept-done f xs i n h l =
     let e : drop 128 xs ≡ [] = drop-of-length-le xs {i = 128} (omega arith) in
     rw (q, e, append-nil)
 
+and-swap : (x y : Bool) → x && y ≡ y && x
+and-swap true true = refl
+and-swap true false = refl
+and-swap false true = refl
+and-swap false false = refl
+
 -- ---- keys and versions together
 abbrev keyLeft : List ℕ → List ℕ → List ℕ → ℕ → ℕ → ℕ
 keyLeft ks vs ls m i = cond (dropped (boardOf ks vs ls 0 0) m i) 0 (getD ks i 0)
@@ -57,8 +64,8 @@ module _ (ks vs ls : List ℕ) (m : ℕ) (k : length ks ≡ 128) (v : length vs 
   pub sweep-none : Sweeping ks vs ls m 0 ks vs
   sweep-none = record { keys-long = k; versions-long = v; keys = swept-none (keyLeft ks vs ls m) ks; versions = swept-none (versionLeft ks vs ls m) vs }
 
-  pub sweep-more : (i : ℕ) (xs ys : List ℕ) (gone : Bool) (x y : ℕ) → Sweeping ks vs ls m i xs ys → i < 128
-      → gone ≡ (not (eqb (getD xs i 0) 0) && eqb (getD ls i 0) 0 && leb (getD ys i 0) m)
+  sweep-more : (i : ℕ) (xs ys : List ℕ) (gone : Bool) (x y : ℕ) → Sweeping ks vs ls m i xs ys → i < 128
+      → gone ≡ (eqb (getD ls i 0) 0 && not (eqb (getD xs i 0) 0) && leb (getD ys i 0) m)
       → x ≡ cond gone 0 (getD xs i 0)
       → y ≡ cond gone 0 (getD ys i 0)
       → Sweeping ks vs ls m (i + 1) (set xs i x) (set ys i y)
@@ -66,13 +73,27 @@ module _ (ks vs ls : List ℕ) (m : ℕ) (k : length ks ≡ 128) (v : length vs 
   sweep-more i xs ys gone x y r l g p q =
       let a : getD xs i 0 ≡ getD ks i 0 = ap (λ (z : List ℕ). getD z i 0) (r .keys) ∙ swept-here (keyLeft ks vs ls m) ks i (omega arith) in
       let b : getD ys i 0 ≡ getD vs i 0 = ap (λ (z : List ℕ). getD z i 0) (r .versions) ∙ swept-here (versionLeft ks vs ls m) vs i (omega arith) in
-      let h : gone ≡ dropped (boardOf ks vs ls 0 0) m i = rw (a, b) at g in
+      let h : gone ≡ dropped (boardOf ks vs ls 0 0) m i = rw (a, b) at g ∙ rw (and-swap (eqb (getD ls i 0) 0) (not (eqb (getD ks i 0) 0))) in
       record {
         keys-long = length-set xs i x ∙ r .keys-long;
         versions-long = length-set ys i y ∙ r .versions-long;
         keys = ap (λ (z : List ℕ). set z i x) (r .keys) ∙ swept-more (keyLeft ks vs ls m) ks i x (omega arith) (rw (h, a) at p);
         versions = ap (λ (z : List ℕ). set z i y) (r .versions) ∙ swept-more (versionLeft ks vs ls m) vs i y (omega arith) (rw (h, b) at q);
       }
+
+  -- a place whose mark is dropped, and one that stays
+  pub sweep-take : (i : ℕ) (xs ys : List ℕ) (gone : Bool) → Sweeping ks vs ls m i xs ys → i < 128
+      → gone ≡ (eqb (getD ls i 0) 0 && not (eqb (getD xs i 0) 0) && leb (getD ys i 0) m)
+      → not gone ≡ false
+      → Sweeping ks vs ls m (i + 1) (set xs i 0) (set ys i 0)
+  sweep-take i xs ys gone r l g t = sweep-more i xs ys gone 0 0 r l g (rw (not-false gone t)) (rw (not-false gone t))
+
+  pub sweep-skip : (i : ℕ) (xs ys : List ℕ) (gone : Bool) → Sweeping ks vs ls m i xs ys → i < 128
+      → gone ≡ (eqb (getD ls i 0) 0 && not (eqb (getD xs i 0) 0) && leb (getD ys i 0) m)
+      → not gone ≡ true
+      → Sweeping ks vs ls m (i + 1) xs ys
+  sweep-skip i xs ys gone r l g t =
+      rw (set-getD xs i 0, set-getD ys i 0) at (sweep-more i xs ys gone (getD xs i 0) (getD ys i 0) r l g (rw (not-true gone t)) (rw (not-true gone t)))
 
   pub sweep-keys : (i : ℕ) (xs ys : List ℕ) → Sweeping ks vs ls m i xs ys → i ≤ 128 → 128 ≤ i → xs ≡ keysKept ks vs ls m 128
   unfolding keysKept

@@ -1,7 +1,7 @@
 // Compact (c): 17, 24 if c is above the version. Drops the marks with version at most c; the floor becomes c if that is
 // higher.
 ghost use mathlib.Core.Path.{_≡_};
-ghost use mathlib.Core.Bool.{not, cond, _&&_};
+ghost use mathlib.Core.Bool.{not, _&&_};
 ghost use lib.ListN.{length};
 ghost use lib.Dec.{eqb, leb};
 ghost use Rattle.table.specs.Sizes.{places};
@@ -19,27 +19,15 @@ use table::PLACES;
 
 // Whether a place holds a mark with version at most c.
 fn is_dropped(k: u32, v: u64, l: u16, c: u64) -> bool
-    ensures dropped { λ r. ⌜ r ≡ (not (eqb k 0) && eqb l 0 && leb v c) ⌝ }
+    ensures dropped { λ r. ⌜ r ≡ (eqb l 0 && not (eqb k 0) && leb v c) ⌝ }
 {
-    if k == 0 {
-        return false;
-    }
     if l != 0 {
         return false;
     }
+    if k == 0 {
+        return false;
+    }
     v <= c
-}
-
-fn clear32(gone: bool, x: u32) -> u32
-    ensures cleared { λ r. ⌜ r ≡ cond gone 0 x ⌝ }
-{
-    if gone { 0 } else { x }
-}
-
-fn clear64(gone: bool, x: u64) -> u64
-    ensures cleared { λ r. ⌜ r ≡ cond gone 0 x ⌝ }
-{
-    if gone { 0 } else { x }
 }
 
 // Empties the places whose mark has version at most c.
@@ -50,9 +38,12 @@ fn sweep(keys: &mut [u32], versions: &mut [u64], lengths: &[u16; 128], c: u64)
 {
     let mut i: usize = 0;
     while i < PLACES {
-        let gone = is_dropped(keys[i], versions[i], lengths[i], c);
-        keys[i] = clear32(gone, keys[i]);
-        versions[i] = clear64(gone, versions[i]);
+        if !is_dropped(keys[i], versions[i], lengths[i], c) {
+            i += 1;
+            continue;
+        }
+        keys[i] = 0;
+        versions[i] = 0;
         i += 1;
     }
 }

@@ -1,7 +1,7 @@
 use borrow.Author.Needs.{needs}
 use native.Mathlib.Omega.{arith}
 use Prim.Native.Nat.{_≤_, _-_}
-use Rattle.lent.proofs.Sweeps.{Sweeping, sweep-none, sweep-more, sweep-keys, sweep-versions}
+use Rattle.lent.proofs.Sweeps.{Sweeping, sweep-none, sweep-take, sweep-skip, sweep-keys, sweep-versions}
 use Rattle.lent.proofs.compacting.sweep.Statement.{statement}
 use Rattle.lent.proofs.compacting.sweep.Tie as tie
 
@@ -35,36 +35,6 @@ element-copy-out-is-dropped c = omega arith
 is-dropped-requires : tie.Need-is-dropped-requires Inv-loop μ-loop
 is-dropped-requires c κs = search needs
 
-mul-clear32 : tie.Need-mul-clear32 Inv-loop μ-loop
-mul-clear32 c = omega arith
-
-slice-read-clear32 : tie.Need-slice-read-clear32 Inv-loop μ-loop
-slice-read-clear32 c = omega arith
-
-clear32-requires : tie.Need-clear32-requires Inv-loop μ-loop
-clear32-requires c κs = search needs
-
-mul-keys : tie.Need-mul-keys Inv-loop μ-loop
-mul-keys c = omega arith
-
-slice-write-keys : tie.Need-slice-write-keys Inv-loop μ-loop
-slice-write-keys c = omega arith
-
-mul-clear64 : tie.Need-mul-clear64 Inv-loop μ-loop
-mul-clear64 c = omega arith
-
-slice-read-clear64 : tie.Need-slice-read-clear64 Inv-loop μ-loop
-slice-read-clear64 c = omega arith
-
-clear64-requires : tie.Need-clear64-requires Inv-loop μ-loop
-clear64-requires c κs = search needs
-
-mul-versions : tie.Need-mul-versions Inv-loop μ-loop
-mul-versions c = omega arith
-
-slice-write-versions : tie.Need-slice-write-versions Inv-loop μ-loop
-slice-write-versions c = omega arith
-
 add-i : tie.Need-add-i Inv-loop μ-loop
 add-i c = omega arith
 
@@ -72,7 +42,28 @@ loop-less : tie.Need-loop-less Inv-loop μ-loop
 loop-less c = omega arith
 
 loop-again : tie.Need-loop-again Inv-loop μ-loop
-loop-again c = (omega arith, sweep-more (c .before .before .before .before .before .before .before .before .before .before .before .before .args .keys .now) (c .before .before .before .before .before .before .before .before .before .before .before .before .args .versions .now) (c .before .before .before .before .before .before .before .before .before .before .before .before .args .lengths .now) (c .before .before .before .before .before .before .before .before .before .before .before .before .args .c) (c .before .before .before .before .before .before .before .before .before .before .before .before .pre .0) (c .before .before .before .before .before .before .before .before .before .before .before .before .pre .1) _ _ _ _ _ _ (c .before .before .before .before .before .before .before .before .before .loop .inv .1) (c .before .before .before .before .before .before .before .before .loop-test .taken) (c .before .before .before .before .is-dropped .ensures) (c .before .before .clear32 .ensures) (c .clear64 .ensures))
+loop-again c = (omega arith, sweep-skip (c .before .before .before .before .before .before .before .before .before .args .keys .now) (c .before .before .before .before .before .before .before .before .before .args .versions .now) (c .before .before .before .before .before .before .before .before .before .args .lengths .now) (c .before .before .before .before .before .before .before .before .before .args .c) (c .before .before .before .before .before .before .before .before .before .pre .0) (c .before .before .before .before .before .before .before .before .before .pre .1) _ _ _ _ (c .before .before .before .before .before .before .loop .inv .1) (c .before .before .before .before .before .loop-test .taken) (c .before .is-dropped .ensures) (c .if1 .taken))
+
+mul-keys : tie.Need-mul-keys Inv-loop μ-loop
+mul-keys c = omega arith
+
+slice-write-keys : tie.Need-slice-write-keys Inv-loop μ-loop
+slice-write-keys c = omega arith
+
+mul-versions : tie.Need-mul-versions Inv-loop μ-loop
+mul-versions c = omega arith
+
+slice-write-versions : tie.Need-slice-write-versions Inv-loop μ-loop
+slice-write-versions c = omega arith
+
+add-i-2 : tie.Need-add-i-2 Inv-loop μ-loop
+add-i-2 c = omega arith
+
+loop-less-2 : tie.Need-loop-less-2 Inv-loop μ-loop
+loop-less-2 c = omega arith
+
+loop-again-2 : tie.Need-loop-again-2 Inv-loop μ-loop
+loop-again-2 c = (omega arith, sweep-take (c .before .before .before .before .before .before .before .before .before .args .keys .now) (c .before .before .before .before .before .before .before .before .before .args .versions .now) (c .before .before .before .before .before .before .before .before .before .args .lengths .now) (c .before .before .before .before .before .before .before .before .before .args .c) (c .before .before .before .before .before .before .before .before .before .pre .0) (c .before .before .before .before .before .before .before .before .before .pre .1) _ _ _ _ (c .before .before .before .before .before .before .loop .inv .1) (c .before .before .before .before .before .loop-test .taken) (c .before .is-dropped .ensures) (c .if1 .left))
 
 same-length : tie.Need-same-length Inv-loop μ-loop
 same-length c = omega arith
@@ -97,19 +88,16 @@ sweep-spec =
     mul-is-dropped-3
     element-copy-out-is-dropped
     is-dropped-requires
-    mul-clear32
-    slice-read-clear32
-    clear32-requires
-    mul-keys
-    slice-write-keys
-    mul-clear64
-    slice-read-clear64
-    clear64-requires
-    mul-versions
-    slice-write-versions
     add-i
     loop-less
     loop-again
+    mul-keys
+    slice-write-keys
+    mul-versions
+    slice-write-versions
+    add-i-2
+    loop-less-2
+    loop-again-2
     same-length
     same-length-2
     returns)
