@@ -4,7 +4,6 @@
 #     bench/run.sh [ROUNDS]
 set -eu
 cd "$(dirname "$0")/.."
-rt staticlib strundevi > /dev/null
-cd rust
-cargo build --quiet --release --offline --package bench
-exec target/release/bench "$@"
+rt staticlib strundevi > /dev/null 2>&1 || { echo "rt staticlib strundevi failed"; exit 1; }
+cargo build --quiet --release --offline --package bench --manifest-path rust/Cargo.toml
+exec rust/target/release/bench "$@"

@@ -9,10 +9,14 @@ cd "$(dirname "$0")/.."
 seed=${1:-1}
 out=target/library
 archive=target/staticlib/libstrundevi.a
-
-rt staticlib strundevi > /dev/null
 mkdir -p "$out"
 
+# Runs a command and shows what it wrote only if it fails.
+quietly() {
+    "$@" > "$out/log" 2>&1 || { cat "$out/log"; exit 1; }
+}
+
+quietly rt staticlib strundevi
 for name in examples/route tests/boundary; do
     cc -std=c99 -pedantic -Wall -Wextra -Werror -O2 -I include "$name.c" "$archive" -o "$out/$(basename "$name")"
 done
@@ -20,9 +24,9 @@ done
 "$out/route" | diff - examples/route.out
 echo "library: the C example and the border in C are as they should be"
 
-cd rust
-cargo build --quiet --release --offline --workspace --examples --bins
-cargo test --quiet --release --offline --package reference > ../"$out"/reference.log || { cat ../"$out"/reference.log; exit 1; }
-target/release/examples/route | diff - strundevi/examples/route.out
+quietly cargo build --release --offline --workspace --examples --bins --manifest-path rust/Cargo.toml
+quietly cargo test --release --offline --package reference --manifest-path rust/Cargo.toml
+rust/target/release/examples/route | diff - rust/strundevi/examples/route.out
 echo "library: the Rust example and the reference are as they should be"
-target/release/differ "$seed"
+
+rust/target/release/differ "$seed"

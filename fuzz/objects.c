@@ -1,0 +1,66 @@
+/* A target for libFuzzer over the archive and the header: any octets are taken as a PCC OPEN, a PCE OPEN and a route, cut as the checking
+ * program cuts, and put through every call. It stops where two calls disagree.
+ *
+ *     rt staticlib strundevi
+ *     clang -g -O1 -fsanitize=fuzzer,address -I include fuzz/objects.c target/staticlib/libstrundevi.a -o target/fuzz-objects
+ *     target/fuzz-objects -max_total_time=60 */
+#include <stdlib.h>
+#include <string.h>
+
+#include "strundevi.h"
+
+static void same(int holds) {
+    if (!holds)
+        abort();
+}
+
+/* The octets that the object at the start takes by its own length field; all of them if that cannot be. */
+static size_t cut(const uint8_t *octets, size_t size) {
+    size_t length = size < 4 ? 0 : (size_t)octets[2] << 8 | octets[3];
+    return length < 4 || length > size ? size : length;
+}
+
+int LLVMFuzzerTestOneInput(const uint8_t *data, size_t size) {
+    static uint8_t store[STRUNDEVI_STORE_OCTETS], buffer[65536];
+    static strundevi_board board;
+    size_t first = cut(data, size);
+    size_t second = cut(data + first, size - first);
+    const uint8_t *route = data + first + second;
+    size_t length = cut(route, size - first - second);
+    enum strundevi_kind kind = length > 0 && route[0] == 8 ? STRUNDEVI_RRO : STRUNDEVI_ERO;
+
+    strundevi_session session = strundevi_agree(strundevi_read_open(data, first), strundevi_read_open(data + first, second));
+    strundevi_session free_session = {.agreed = 1, .n = 1};
+    strundevi_verdict strict = strundevi_judge(route, length, kind, session, STRUNDEVI_PST_SRV6);
+    strundevi_verdict verdict = strundevi_judge(route, length, kind, free_session, STRUNDEVI_PST_SRV6);
+    same(strict.number != 0 || verdict.number == 0);
+    if (verdict.number != 0) {
+        same(verdict.count == 0 && verdict.place < 65536);
+        return 0;
+    }
+
+    /* an accepted route has its segments and no more, and is written with the lengths it has */
+    strundevi_written written = strundevi_begin(buffer, sizeof buffer, (strundevi_writer){0}, kind);
+    for (size_t i = 0; i < verdict.count; i++) {
+        strundevi_picked picked = strundevi_segment_at(route, length, kind, free_session, STRUNDEVI_PST_SRV6, i);
+        same(picked.verdict.number == 0);
+        written = strundevi_add(buffer, sizeof buffer, written.writer, picked.segment);
+        same(written.verdict.number == 0);
+    }
+    same(strundevi_segment_at(route, length, kind, free_session, STRUNDEVI_PST_SRV6, verdict.count).verdict.number == STRUNDEVI_NO_SUCH_SEGMENT);
+    same(strundevi_finish(buffer, sizeof buffer, written.writer).verdict.number == 0 && written.writer.at == length);
+    same(strundevi_judge(buffer, length, kind, free_session, STRUNDEVI_PST_SRV6).count == verdict.count);
+
+    /* a report that is taken is handed out again, octet for octet */
+    strundevi_empty(&board);
+    verdict = strundevi_report(&board, store, sizeof store, 7, route, length, free_session, STRUNDEVI_PST_SRV6);
+    if (verdict.number == 0) {
+        strundevi_part body = strundevi_body(&board, store, sizeof store, 7);
+        strundevi_change change = strundevi_next(&board, store, sizeof store, (strundevi_mark){0, 0});
+        same(body.length == length - 4 && memcmp(store + body.start, route + 4, body.length) == 0);
+        same(change.kind == STRUNDEVI_PATH && change.key == 7 && change.length == body.length);
+    } else {
+        same(board.version == 0);
+    }
+    return 0;
+}
