@@ -4,18 +4,14 @@ use mathlib.Core.Bool.{Bool, true, false, cond}
 use mir.Val.{boolByte}
 use Rattle.border.proofs.flag.flag_of.Statement.{statement}
 use Rattle.border.proofs.flag.flag_of.Tie as tie
-use Rattle.border.proofs.flag.flag_of.Reads as reads
-use Rattle.border.proofs.flag.flag_of.Lts as lts
 
 as-number : (t : Bool) → boolByte t ≡ cond t 1 0
 as-number true = refl
 as-number false = refl
 
--- src/flag.rt:14:5
 cast-result : tie.Need-cast-result
 cast-result c = search needs
 
--- src/flag.rt:11:1
 returns : tie.Need-returns
 returns c = as-number (c .args .b)
 

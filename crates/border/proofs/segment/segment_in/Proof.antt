@@ -1,27 +1,19 @@
 use borrow.Author.Needs.{needs}
 use Rattle.border.proofs.segment.segment_in.Statement.{statement}
 use Rattle.border.proofs.segment.segment_in.Tie as tie
-use Rattle.border.proofs.segment.segment_in.Reads as reads
-use Rattle.border.proofs.segment.segment_in.Lts as lts
-use Rattle.border.proofs.flag.yes.Reads as yes-reads
 
--- src/segment.rt:27:16
 yes-requires : tie.Need-yes-requires
 yes-requires c κs = search needs
 
--- src/segment.rt:28:17
 yes-requires-2 : tie.Need-yes-requires-2
 yes-requires-2 c κs = search needs
 
--- src/segment.rt:31:17
 yes-requires-3 : tie.Need-yes-requires-3
 yes-requires-3 c κs = search needs
 
--- src/segment.rt:34:21
 yes-requires-4 : tie.Need-yes-requires-4
 yes-requires-4 c κs = search needs
 
--- src/segment.rt:20:1
 returns : tie.Need-returns
 returns c = cc
 

@@ -5,33 +5,22 @@ use Rattle.strundevi.proofs.Laws.{part-none, part-here}
 use borrow.Author.Needs.{needs}
 use Rattle.strundevi.proofs.boards.strundevi_raw_body.Statement.{statement}
 use Rattle.strundevi.proofs.boards.strundevi_raw_body.Tie as tie
-use Rattle.strundevi.proofs.boards.strundevi_raw_body.Reads as reads
-use Rattle.strundevi.proofs.boards.strundevi_raw_body.Lts as lts
-use Rattle.board.proofs.length_at.Reads as length-at-reads
-use Rattle.lent.proofs.body_number.Reads as body-number-reads
-use Rattle.places.proofs.place_of.Reads as place-of-reads
 
--- src/boards.rt:148:9
 body-number-requires : tie.Need-body-number-requires
 body-number-requires c κs = search needs
 
--- src/boards.rt:150:9
 returns : tie.Need-returns
 returns c = part-none (boardOf (c .before .before .before .before .args .keys .now) (c .before .before .before .before .args .versions .now) (c .before .before .before .before .args .lengths .now) (c .before .before .before .before .args .version) (c .before .before .before .before .args .floor)) (c .before .before .before .before .args .store .now) (c .before .before .before .before .args .key) _ (c .before .before .body-number .ensures) (c .if1 .taken)
 
--- src/boards.rt:156:9
 place-of-requires : tie.Need-place-of-requires
 place-of-requires c κs = search needs
 
--- src/boards.rt:159:16
 mul-t11 : tie.Need-mul-t11
 mul-t11 c = let h = body-here (boardOf (c .before .before .before .before .before .args .keys .now) (c .before .before .before .before .before .args .versions .now) (c .before .before .before .before .before .args .lengths .now) (c .before .before .before .before .before .args .version) (c .before .before .before .before .before .args .floor)) (c .before .before .before .before .before .args .store .now) (c .before .before .before .before .before .args .key) _ (c .before .before .before .body-number .ensures) (c .before .if1 .left) in omega (arith, c .place-of .ensures)
 
--- src/boards.rt:160:17
 length-at-requires : tie.Need-length-at-requires
 length-at-requires c κs = search needs
 
--- src/boards.rt:135:1
 returns-2 : tie.Need-returns-2
 returns-2 c = part-here (boardOf (c .before .before .before .before .before .before .args .keys .now) (c .before .before .before .before .before .before .args .versions .now) (c .before .before .before .before .before .before .args .lengths .now) (c .before .before .before .before .before .before .args .version) (c .before .before .before .before .before .before .args .floor)) (c .before .before .before .before .before .before .args .store .now) (c .before .before .before .before .before .before .args .key) _ _ _ (c .before .before .before .before .body-number .ensures) (c .before .before .if1 .left) (c .before .place-of .ensures) (c .length-at .ensures)
 

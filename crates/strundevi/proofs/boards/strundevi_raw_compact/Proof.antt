@@ -1,23 +1,16 @@
-use mathlib.Core.Path.{_≡_, ap, _∙_}
+use mathlib.Core.Path.{ap, _∙_}
 use Rattle.board.specs.declared.answer.Answer.{Answer}
 use Rattle.border.specs.Records.{verdictOut}
 use borrow.Author.Needs.{needs}
 use Rattle.strundevi.proofs.boards.strundevi_raw_compact.Statement.{statement}
 use Rattle.strundevi.proofs.boards.strundevi_raw_compact.Tie as tie
-use Rattle.strundevi.proofs.boards.strundevi_raw_compact.Reads as reads
-use Rattle.strundevi.proofs.boards.strundevi_raw_compact.Lts as lts
-use Rattle.border.proofs.verdict_out.Reads as verdict-out-reads
-use Rattle.lent.proofs.compact.Reads as compact-reads
 
--- src/boards.rt:131:25
 compact-requires : tie.Need-compact-requires
 compact-requires c κs = search needs
 
--- src/boards.rt:131:5
 verdict-out-requires : tie.Need-verdict-out-requires
 verdict-out-requires c κs = search needs
 
--- src/boards.rt:118:1
 returns : tie.Need-returns
 returns c = (c .verdict-out .ensures ∙ ap (λ (a : Answer). verdictOut (a .verdict)) (c .before .compact .ensures), ap (λ (a : Answer). a .board) (c .before .compact .ensures))
 

@@ -2,34 +2,22 @@ use Rattle.strundevi.proofs.Laws.{judge-counted}
 use borrow.Author.Needs.{needs}
 use Rattle.strundevi.proofs.routes.strundevi_raw_judge.Statement.{statement}
 use Rattle.strundevi.proofs.routes.strundevi_raw_judge.Tie as tie
-use Rattle.strundevi.proofs.routes.strundevi_raw_judge.Reads as reads
-use Rattle.strundevi.proofs.routes.strundevi_raw_judge.Lts as lts
-use Rattle.border.proofs.session_in.Reads as session-in-reads
-use Rattle.border.proofs.yes.Reads as yes-reads
-use Rattle.border.proofs.verdict_out.Reads as verdict-out-reads
-use Rattle.route.proofs.judge.Reads as judge-reads
 
--- src/routes.rt:34:34
 yes-requires : tie.Need-yes-requires
 yes-requires c κs = search needs
 
--- src/routes.rt:34:52
 session-in-requires : tie.Need-session-in-requires
 session-in-requires c κs = search needs
 
--- src/routes.rt:34:9
 judge-requires : tie.Need-judge-requires
 judge-requires c κs = search needs
 
--- src/routes.rt:36:9
 verdict-out-requires : tie.Need-verdict-out-requires
 verdict-out-requires c κs = search needs
 
--- src/routes.rt:36:9
 returns : tie.Need-returns
 returns c = cc
 
--- src/routes.rt:30:1
 returns-2 : tie.Need-returns-2
 returns-2 c =
     rw (← c .before .before .before .before .yes .ensures, ← c .before .before .before .session-in .ensures)
