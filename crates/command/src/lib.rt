@@ -2,6 +2,13 @@
 // that they say (console.md). A line out of form is `Bad`, whatever its words mean; empty lines and lines
 // that begin with `#` are `Skip`.
 ghost use mathlib.Core.Path.{_≡_};
+ghost use Prim.Native.Nat.{_*_, _≤_};
+ghost use lib.ListN.{length};
+ghost use Rattle.io.specs.Counts.{Counts};
+ghost use Rattle.octets.specs.Octets.{over};
+ghost use Rattle.words.specs.Words.{wordOf};
+ghost use Rattle.hexadecimal.specs.Hexadecimal.{octetsOf};
+ghost use Rattle.forms.specs.Forms.{space};
 ghost use Rattle.command.specs.Commands.{commandOf, skipped, bare};
 use decimal::value;
 use forms::ERO;
@@ -77,4 +84,14 @@ pub fn parse(line: &[u8]) -> Command
         three: three,
         four: four,
     }
+}
+
+// The octets that word `i` spells, laid over the start of `out`, and their number.
+pub fn octets_at(line: &[u8], i: usize, out: &mut [u8]) -> usize
+    requires { ⌜ length (now line) ≤ 2 * length (now out) ⌝ }
+    ensures octets { λ r. ⌜ (r ≡ length (octetsOf (wordOf space (now (line .entry)) i))) × (now (out .exit) ≡ over (octetsOf (wordOf space (now (line .entry)) i)) (now (out .entry))) ⌝ }
+    ensures within { λ r. ⌜ Counts r (now (out .exit)) ⌝ }
+    ensures room { λ _. ⌜ length (now (out .exit)) ≡ length (now (out .entry)) ⌝ }
+{
+    hexadecimal::decode(word(line, SPACE, i), out)
 }

@@ -1,0 +1,37 @@
+-- What the reading of lines and the laying out of answers promise determines what they do: of any two answers that fit a contract, equality, and of
+-- any two buffers, equality where the contract speaks of them.
+use Prim.Native.Nat.{ℕ}
+use mathlib.Core.Path.{_≡_, sym, _∙_, ap}
+use mathlib.Core.Bool.{Bool}
+use mathlib.Core.List.{List}
+use lib.ListN.{length, take}
+use Rattle.octets.specs.Octets.{over}
+use Rattle.words.specs.Words.{wordOf}
+use Rattle.decimal.specs.Decimal.{valueOf, structureOf}
+use Rattle.hexadecimal.specs.Hexadecimal.{isOctets, octetsOf}
+use Rattle.forms.specs.Forms.{space}
+use Rattle.printing.specs.Text.{Behind}
+use Rattle.command.specs.Commands.{commandOf}
+use Rattle.command.specs.declared.Command.{Command}
+
+pub word-determined : (m : ℕ) (line : List ℕ) (i : ℕ) {a b : List ℕ} → a ≡ wordOf m line i → b ≡ wordOf m line i → a ≡ b
+word-determined m line i p q = p ∙ sym q
+
+pub value-determined : (w : List ℕ) {a b : ℕ} → a ≡ valueOf w → b ≡ valueOf w → a ≡ b
+value-determined w p q = p ∙ sym q
+
+pub structure-determined : (w : List ℕ) {a b : List ℕ} → a ≡ structureOf w → b ≡ structureOf w → a ≡ b
+structure-determined w p q = p ∙ sym q
+
+pub octets-form-determined : (w : List ℕ) {a b : Bool} → a ≡ isOctets w → b ≡ isOctets w → a ≡ b
+octets-form-determined w p q = p ∙ sym q
+
+pub decode-determined : (w out : List ℕ) {a b : List ℕ} → a ≡ over (octetsOf w) out → b ≡ over (octetsOf w) out → a ≡ b
+decode-determined w out p q = p ∙ sym q
+
+pub parse-determined : (line : List ℕ) {a b : Command} → a ≡ commandOf line → b ≡ commandOf line → a ≡ b
+parse-determined line p q = p ∙ sym q
+
+-- The end of a text, and the text up to it.
+pub text-determined : {before x y more : List ℕ} {at e f : ℕ} → Behind before x at e more → Behind before y at f more → (e ≡ f) × (take e x ≡ take f y)
+text-determined p q = (p .ends ∙ sym (q .ends), p .text ∙ sym (q .text))

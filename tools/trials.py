@@ -1,0 +1,447 @@
+#!/usr/bin/env python3
+# Writes what the trial programs are run on: crates/NAME/stdin for the console and each trial crate, console lines
+# (document console.md), from document 01's examples and the points that are easy to get wrong.
+# What they must answer, crates/NAME/stdout, comes from the reference in rust/, not from here: tools/trials.sh.
+import random
+import os
+
+O = bytes.fromhex("01100020201E7807002200120000000103000000001B0006000000002C040000")
+E = bytes.fromhex("0710001C2818000200000001" "20010DB8000000010000000000000001")
+SID = E[12:28]
+ALL64 = 2**64 - 1
+
+
+def hexes(b):
+    return b.hex().upper() or "-"
+
+
+def put16(b, at, n):
+    return b[:at] + bytes([n // 256 % 256, n % 256]) + b[at + 2:]
+
+
+def sized(b):
+    return put16(b, 2, len(b))
+
+
+# An OPEN of these TLVs, and a TLV or sub-TLV: with its padding, unless `pad` says how much of it.
+def tlv(kind, value, pad=None):
+    need = -len(value) % 4
+    return bytes([kind // 256, kind % 256, len(value) // 256, len(value) % 256]) + value + bytes(need if pad is None else pad)
+
+
+def opened(*tlvs):
+    return sized(bytes([1, 0x10, 0, 0, 0x20, 30, 120, 7]) + b"".join(tlvs))
+
+
+def setup(types, subs, listpad=None):
+    need = -len(types) % 4
+    pad = bytes(need) if listpad is None else listpad
+    return tlv(34, bytes([0, 0, 0, len(types)]) + bytes(types) + pad + subs)
+
+
+def srv6(flags, pairs, pad=None):
+    return tlv(27, bytes([0, 0, 0, flags]) + bytes(pairs), pad)
+
+
+# A subobject of an ERO or RRO, from its fields; the length is the true one unless given.
+def sub(nt=0, s=0, f=None, t=0, v=0, l=0, behaviour=1, kind=40, length=None, bits=(40, 24, 16, 48), sid=SID, nai=None, reserved=0):
+    f = (1 if nt == 0 else 0) if f is None else f
+    long = {2: 16, 4: 32, 6: 40}.get(nt, 0)
+    body = bytes([0, reserved, behaviour // 256, behaviour % 256])
+    if s == 0:
+        body += sid
+    body += (bytes(range(1, long + 1)) if nai is None else nai)
+    if t == 1 and s == 0:
+        body += bytes(bits) + bytes(4)
+    head = bytes([l * 128 + kind, (4 + len(body) if length is None else length) % 256, nt * 16, v * 8 + t * 4 + f * 2 + s])
+    return head + body
+
+
+def route(subs, kind=7, length=None):
+    b = bytes([kind, 0x10, 0, 0]) + b"".join(subs)
+    return put16(b, 2, len(b) if length is None else length)
+
+
+def wire(b, k):
+    return sized(b[:k]) if k >= 4 else b[:k]
+
+
+# -- the OPEN -----------------------------------------------------------------------------------------------------
+
+
+def trial_open():
+    out = ["# P1, P2, P3"]
+
+    def pcc(b):
+        out.append("pcc " + hexes(b))
+
+    pcc(O)
+    pcc(O[:16] + b"\0" + O[17:])
+    pcc(O[:28] + b"\0" + O[29:])
+    out.append("# every prefix of O, as it is and with its length put right")
+    for k in range(len(O) + 1):
+        pcc(O[:k])
+        pcc(wire(O, k))
+    out.append("# every length of O, of its TLV 34, of its sub-TLV 27, and every count of its list")
+    for n in list(range(0, 41)) + [65535]:
+        pcc(put16(O, 2, n))
+    for n in list(range(0, 26)) + [65535]:
+        pcc(put16(O, 10, n))
+    for n in list(range(0, 14)) + [65535]:
+        pcc(put16(O, 22, n))
+    for n in list(range(0, 16)) + [255]:
+        pcc(O[:15] + bytes([n]) + O[16:])
+    out.append("# each octet of O made 0, made FF, and with its lowest bit turned")
+    for i in range(len(O)):
+        for x in (0, 255, O[i] ^ 1):
+            pcc(O[:i] + bytes([x]) + O[i + 1:])
+    two = srv6(2, [41, 9])
+    rows = [
+        ("only the first TLV 34 counts", [opened(setup([0], b""), setup([3], two)), opened(setup([3], two), setup([0], b"")),
+            opened(setup([3], two), tlv(34, b"\0\0\0\x09")), opened(setup([3], b""), setup([3], two))]),
+        ("only the first sub-TLV 27 counts", [opened(setup([3], two + srv6(0, [42, 2]))), opened(setup([3], two + srv6(0, [7, 2]))),
+            opened(setup([3], two + tlv(27, b"\0\0\0"))), opened(setup([3], srv6(0, [7, 2]) + two))]),
+        ("1 to the last TLV goes before 2 and 3", [opened(setup([3], b""), tlv(9, b"abcd")[:7] + b"d"), opened(setup([3], b""), b"\0\x09\0\x08"),
+            opened(setup([3], srv6(0, [7, 2])), b"\0\x09\0\x08"), opened(setup([3], b"")), opened(setup([3], srv6(0, [7, 2])))]),
+        ("the inside of the first TLV 34 is whole even without type 3", [opened(setup([0], b"\0\x1b\0\x09abcd")), opened(setup([], b"\0")),
+            opened(setup([], b"")), opened(setup([0], b"\0\x1b")), opened(setup([1], tlv(27, b"\0\0\0")))]),
+        ("the list's padding lies inside", [opened(setup([3], b"", b"")), opened(setup([0], b"", b"")), opened(setup([0], b"", b"\0\0")), opened(setup([0, 1, 2, 4], b""))]),
+        ("only the last sub-TLV's padding may be missing or cut", [opened(setup([3], srv6(0, [41, 9], 0))), opened(setup([3], srv6(0, [41, 9], 1))),
+            opened(setup([3], tlv(1, b"abcde", 0) + two)), opened(setup([3], tlv(1, b"abcde") + two)), opened(setup([3], two + tlv(1, b"a", 0))), opened(setup([3], two + tlv(1, b"a", 2)))]),
+        ("1 to 3 octets left over are no sub-TLV", [opened(setup([3], two + bytes(n))) for n in range(0, 9)]),
+        ("a 3 in the list's padding is not listed", [opened(setup([0], two, b"\3\3\3")), opened(setup([0, 3], two)), opened(setup([0, 1, 2, 4, 3], two)), opened(setup([0, 1, 2, 4], two))]),
+        ("X and pairs", [opened(setup([3], srv6(0, []))), opened(setup([3], srv6(0, [41, 0]))), opened(setup([3], srv6(1, [41, 4]))), opened(setup([3], srv6(1, [7, 4]))),
+            opened(setup([3], srv6(1, [7]))), opened(setup([3], srv6(0, [41]))), opened(setup([3], srv6(2, [41, 200, 42, 3, 44, 7, 45, 5]))), opened(setup([3], srv6(0, [41, 1, 43, 1]))),
+            opened(setup([3], srv6(3, []))), opened(setup([3], srv6(0xFC, [45, 255]))), opened(setup([3], srv6(0xFE, [45, 255])))]
+            + [opened(setup([3], srv6(0, [n, 8]))) for n in (0, 40, 41, 42, 43, 44, 45, 46, 255)]),
+        ("sub-TLV 27 of fewer than 4 octets, with and without type 3", [opened(setup(types, tlv(27, bytes(n)))) for types in ([3], [0]) for n in range(0, 8)]),
+        ("TLVs that nobody knows are passed over", [opened(tlv(1, b"abcde"), setup([3], two)), opened(tlv(65535, b""), tlv(0, b"x"), setup([3], two), tlv(99, b"zz")), opened(tlv(1, b"abcde", 2), setup([3], two)),
+            opened(setup([3], tlv(26, b"abcd") + two)), opened(), opened(tlv(27, b"abcd"))]),
+        ("class, type and version", [b"\2" + O[1:], O[:1] + b"\x1F" + O[2:], O[:1] + b"\x20" + O[2:], O[:4] + b"\x3F" + O[5:], O[:4] + b"\x40" + O[5:], O[:4] + b"\0" + O[5:]]),
+        ("an OPEN with no TLV, and octets behind its length", [opened(), O + b"\0\0\0\0", O + b"\0", O[:8]]),
+        ("a count that is larger than what is there", [opened(tlv(34, bytes([0, 0, 0, n]) + b"\3\0\0\0")) for n in (0, 1, 2, 3, 4, 5, 8, 255)]),
+    ]
+    for name, opens in rows:
+        out.append("# " + name)
+        for b in opens:
+            pcc(b)
+    out.append("# a session: SRv6 is agreed if both carry it; N and the limit are the PCC's")
+    bare = opened(setup([0], b""))
+    able = opened(setup([3], srv6(2, [41, 1])))
+    nosid = route([sub(nt=2, s=1)])
+    pair = route([sub(), sub()])
+    for a in (O, bare, O[:9], able):
+        for b in (O, bare, O[:9], able):
+            pcc(a)
+            out.append("pce " + hexes(b))
+            for r in (E, nosid, pair):
+                out.append("ero 3 " + hexes(r))
+    return out
+
+
+# -- the route ----------------------------------------------------------------------------------------------------
+
+
+def agree(out, flags=0, pairs=(44, 4)):
+    out.append("pcc " + hexes(opened(setup([3], srv6(flags, list(pairs))))))
+    out.append("pce " + hexes(O))
+
+
+def trial_route():
+    out = ["# no session yet: 13, and what goes before it"]
+
+    def ero(b, pst=3):
+        out.append("ero %d %s" % (pst, hexes(b)))
+
+    def rro(b, pst=3):
+        out.append("rro %d %s" % (pst, hexes(b)))
+
+    ero(E)
+    ero(E[:27])
+    ero(route([sub(nt=3)]))
+    out += ["pcc " + hexes(O), "pce " + hexes(O), "# P4 to P10"]
+    ero(E)
+    ero(E, 1)
+    for x in (3, 6):
+        ero(E[:7] + bytes([x]) + E[8:])
+    for bits in ((40, 24, 16, 48), (40, 24, 16, 49), (64, 64, 64, 64), (128, 0, 0, 0), (0, 0, 0, 129), (255, 255, 255, 255)):
+        ero(route([sub(t=1, bits=bits)]))
+    out.append("# setup types")
+    for pst in (0, 1, 2, 4, 259, 2**32 + 3, ALL64):
+        ero(E, pst)
+    out.append("# four segments pass limit 4; a fifth is 12 at 100; a broken sixth goes before")
+    for n in range(0, 8):
+        ero(route([sub()] * n))
+    ero(route([sub()] * 5 + [sub(nt=3)]))
+    ero(route([sub()] * 5 + [sub(s=1)]))
+    ero(route([sub()] * 3 + [sub(t=1, bits=(64, 64, 64, 64))] + [sub()] * 3))
+    out.append("# every prefix of E, as it is and with its length put right")
+    for k in range(len(E) + 1):
+        ero(E[:k])
+        ero(wire(E, k))
+    rich = route([sub(nt=6, t=1, v=1, l=1), sub(nt=2), sub(nt=4)])
+    less = route([sub(nt=2, t=1), sub()])
+    out.append("# every length of E and of its subobject; the same of a route of two")
+    for n in list(range(0, 41)) + [65535]:
+        ero(put16(E, 2, n))
+    for n in range(0, 41):
+        ero(E[:5] + bytes([n]) + E[6:])
+    for at in (5, 53):
+        for n in range(0, 84):
+            ero(less[:at] + bytes([n]) + less[at + 1:])
+    for k in range(0, len(less) + 1):
+        ero(wire(less, k))
+    out.append("# every damage of one octet of E")
+    for i in range(len(E)):
+        for x in range(256):
+            if x != E[i]:
+                ero(E[:i] + bytes([x]) + E[i + 1:])
+    out.append("# kinds mixed: the first that differs from the first, whichever is SRv6; 14 where none is")
+    other = bytes([1, 8, 10, 0, 0, 1, 32, 0])
+    third = bytes([32, 4, 0, 0])
+    for subs in ([other], [other, other], [other, third], [other, sub()], [sub(), other], [sub(), sub(), other, third], [other, third, sub()], [other, other, sub(), third], [third, sub(), sub()],
+                 [sub(l=1), sub(), other], [sub(kind=104)], [bytes([40, 4, 0, 0])], [bytes([40, 4, 0, 3])], [bytes([40, 4, 16, 0])], [bytes([40, 4, 0, 2])], [sub(), bytes([40, 4, 0, 3])]):
+        ero(route(subs))
+        rro(route(subs, 8))
+    out.append("# class, type, and the low 4 bits of the type's octet")
+    for b in (b"\7\x1F" + E[2:], b"\7\x20" + E[2:], b"\x08\x10" + E[2:], b"\0\x10" + E[2:]):
+        ero(b)
+        rro(b)
+    out.append("# an RRO: all 8 bits are the type, V is ignored, 10 and 12 are not applied")
+    R = b"\x08" + E[1:]
+    rro(R)
+    ero(R)
+    rro(E)
+    rro(route([sub(l=1)], 8))
+    rro(route([sub(v=1)], 8))
+    rro(route([sub(nt=2, s=1)], 8))
+    rro(route([sub()] * 6, 8))
+    rro(route([sub(l=1), sub()], 8))
+    rro(R, 1)
+    for i in range(len(R)):
+        for bit in range(8):
+            rro(R[:i] + bytes([R[i] ^ (1 << bit)]) + R[i + 1:])
+    for k in range(len(R) + 1):
+        rro(R[:k])
+    out.append("# every NT with every flag, at the length of its parts and 4 octets longer: N 0, N 1, and an RRO")
+    for side, flags in (("ero", 0), ("ero", 2), ("rro", 0)):
+        agree(out, flags)
+        for nt in (0, 1, 2, 3, 4, 5, 6, 7, 15):
+            for bits in range(16):
+                v, t, f, s = bits >> 3, bits >> 2 & 1, bits >> 1 & 1, bits & 1
+                a = sub(nt=nt, s=s, f=f, t=t, v=v, nai=None if nt in (2, 4, 6) else b"")
+                for b in (a, a[:1] + bytes([len(a) + 4]) + a[2:] + bytes(4)):
+                    out.append("%s 3 %s" % (side, hexes(route([b], 7 if side == "ero" else 8))))
+    out.append("# T is ignored where S is 1; padding, reserved octets and unassigned bits are ignored")
+    agree(out, 2)
+    for b in (sub(nt=2, s=1, t=1), sub(nt=2, s=1, t=1) + bytes(8), sub(reserved=255), bytes([40, 24, 0x0F, 0xF2]) + E[8:]):
+        ero(route([b]))
+        out.append("ero-segment 3 0 " + hexes(route([b])))
+    out.append("# limits: none, 0, 1, 255")
+    for pairs in ((), (41, 0), (41, 1), (41, 255)):
+        agree(out, 0, pairs)
+        ero(E)
+        ero(route([sub()] * 2))
+        if pairs == (41, 255):
+            ero(route([sub()] * 255))
+            ero(route([sub()] * 256))
+        rro(route([sub()] * 2, 8))
+    out.append("# segments: each of a route, then 15")
+    agree(out, 2, ())
+    for i in (0, 1, 2, 3, 4, 2**32, ALL64):
+        out.append("ero-segment 3 %d %s" % (i, hexes(rich)))
+        out.append("rro-segment 3 %d %s" % (i, hexes(b"\x08" + b"".join([rich[1:4], b"\x28", rich[5:]]))))
+    for nt in (0, 2, 4, 6):
+        for s in (0, 1):
+            for t in (0, 1):
+                for l in (0, 1):
+                    b = sub(nt=nt, s=s, t=t, l=l, v=1 - l, behaviour=258 * nt)
+                    out.append("ero-segment 3 0 " + hexes(route([b])))
+                    out.append("rro-segment 3 0 " + hexes(route([b], 8)))
+    out += ["ero-segment 1 0 " + hexes(E), "ero-segment 3 9 " + hexes(E[:27]), "ero-segment 3 0 -", "rro-segment 3 0 " + hexes(E)]
+    return out
+
+
+# -- writing ------------------------------------------------------------------------------------------------------
+
+
+def added(nt, sid, structure, l=0, v=0, behaviour=1, nai=None):
+    long = {2: 16, 4: 32, 6: 40}.get(nt, 0)
+    nai = bytes(range(1, long + 1)) if nai is None else nai
+    return "add %d %d %d %d %s %s %s" % (l, v, nt, behaviour, hexes(sid), hexes(nai), structure)
+
+
+def trial_writer():
+    out = ["# before a begin: no buffer, place 0", "lent", "finish", added(0, SID, "-"), "# begin"]
+    for n in (0, 1, 2, 3, 4, 5, 8):
+        for side in ("ero", "rro"):
+            out += ["begin %s %d" % (side, n), "lent", "finish", added(0, SID, "-"), "lent"]
+    out.append("# every NT, with and without SID and structure, to the edge of the buffer and one octet short; read back and written again")
+    agree(out, 2, ())
+    for side, kind in (("ero", 7), ("rro", 8)):
+        for nt in (0, 1, 2, 3, 4, 5, 6, 7, 16, 255):
+            for sid in (SID, b""):
+                for structure in ("-", "40,24,16,48", "64,64,64,64"):
+                    for l, v in ((0, 0), (1, 0), (0, 1)) if nt in (0, 6) else ((0, 0),):
+                        good = nt in (0, 2, 4, 6)
+                        b = sub(nt=nt if good else 0, s=0 if sid else 1, t=0 if structure == "-" else 1, l=l, v=v)
+                        for n in (4 + len(b), 4 + len(b) - 1):
+                            out += ["begin %s %d" % (side, n), added(nt, sid, structure, l, v), "finish", "lent"]
+                        if good:
+                            out.append("%s-segment 3 0 %s" % (side, hexes(route([b], kind))))
+    out.append("# octets kept for a part that is absent or shorter")
+    out.append("begin ero 400")
+    for nt, nai in ((0, b"\1"), (0, bytes(40)), (0, bytes(39) + b"\1"), (2, bytes(16)), (2, bytes(16) + b"\1"), (2, bytes(range(16)) + bytes(24)), (4, bytes(33)), (4, bytes(39) + b"\1"), (6, bytes(39) + b"\1"), (6, b"\1"), (2, b"")):
+        out.append(added(nt, SID, "-", nai=nai))
+        out.append(added(nt, b"", "-", nai=nai))
+    out += ["finish", "lent"]
+    out.append("# bit lengths")
+    for structure in ("128,0,0,0", "129,0,0,0", "0,0,0,0", "32,32,32,32", "32,32,32,33", "255,255,255,255", "0040,024,16,48"):
+        out.append(added(0, SID, structure))
+        out.append(added(0, b"", structure))
+        out.append(added(2, b"", structure))
+    out.append("# behaviours and the order of the numbers")
+    for behaviour in (0, 1, 255, 256, 65535):
+        out.append(added(4, SID, "1,2,3,4", 1, 1, behaviour))
+    out += [added(9, b"", "200,0,0,0", nai=b"\1"), added(0, b"", "200,0,0,0", nai=b"\1"), added(2, b"", "200,0,0,0"), added(2, SID, "200,0,0,0")]
+    out += ["finish", "lent", "# more is added and the route finished again", added(6, SID, "1,2,3,4"), "finish", "finish", "# a refused begin keeps buffer, kind and place", "begin rro 3", "begin rro 0", added(0, SID, "-", 1), "finish", "lent"]
+    out.append("# octets behind a segment stay")
+    out += ["begin rro 40", added(0, SID, "-"), "lent", added(2, b"", "-"), "lent", "finish", "lent"]
+    out.append("# read, written again: the same octets")
+    for subs in ([sub()], [sub(nt=6, t=1, v=1, l=1), sub(nt=2), sub(nt=4, s=1), sub(t=1, bits=(1, 2, 3, 4))]):
+        b = route(subs)
+        out.append("begin ero %d" % len(b))
+        for x in subs:
+            nt, flags = x[2] // 16, x[3]
+            s, t, v = flags & 1, flags >> 2 & 1, flags >> 3
+            sid = b"" if s else x[8:24]
+            at = 8 if s else 24
+            long = {2: 16, 4: 32, 6: 40}.get(nt, 0)
+            bits = ",".join(str(y) for y in x[at + long:at + long + 4]) if t and not s else "-"
+            out.append(added(nt, sid, bits, x[0] // 128, v, x[6] * 256 + x[7], x[at:at + long]))
+        out += ["finish", "ero 3 " + hexes(b)]
+    out.append("# the most octets of an object are 65,532")
+    out.append("begin ero 65536")
+    for i in range(1023):
+        out.append("add 0 0 4 1 %s %s 1,2,3,4" % ("0" * 32, "0" * 64))
+    out += [added(6, b"", "-"), added(0, SID, "-"), added(0, SID, "-"), added(2, b"", "-"), "begin ero 4", "finish"]
+    return out
+
+
+# -- the board ----------------------------------------------------------------------------------------------------
+
+
+def follow(out, s, w, turns):
+    for _ in range(turns):
+        out.append("next %d %d" % (s, w))
+
+
+def trial_board():
+    out = ["# the empty board", "board", "mark", "body 1", "remove 1", "next 0 0", "next 1 0", "next 0 1", "compact 0", "compact 1", "report 1 3 " + hexes(E)]
+    out += ["pcc " + hexes(opened(setup([3], srv6(2, [])))), "pce " + hexes(O)]
+    A, B = hexes(E), hexes(route([sub(nt=2), sub()]))
+    out += ["# report A, report B, remove A; mark (1, 1); compact 3", "report 10 3 " + A, "report 20 3 " + B, "remove 10", "board", "next 1 1", "next 1 2", "next 1 3", "mark", "next 3 0", "next 3 2",
+            "compact 3", "board", "next 2 2", "next 3 3", "next 3 0", "next 3 2", "next 2 3", "next 0 3", "next 3 4", "next 4 3", "compact 2", "board", "compact 4"]
+    out.append("# keys, and the order of the numbers")
+    for key in (0, 1, 1048574, 1048575, 2**32 + 1, ALL64):
+        out += ["report %d 3 %s" % (key, A), "report %d 1 %s" % (key, A), "body %d" % key, "remove %d" % key, "body %d" % key, "remove %d" % key]
+    out.append("# refused routes with their places, and a body of 384 octets and more")
+    for b in (E[:27], route([]), route([sub(), sub(nt=3)]), route([sub(), sub(s=1)]), route([sub()] * 16), route([sub()] * 17), route([sub(nt=6, t=1)] * 5 + [sub()]), route([sub(nt=6, t=1)] * 5 + [sub(nt=2)])):
+        out += ["report 30 3 " + hexes(b), "body 30", "board"]
+    out += ["report 30 3 " + A, "body 30", "report 30 3 " + A, "body 30", "board", "# a removal's key keeps its place", "remove 30", "report 30 3 " + B, "body 30", "board"]
+    out.append("# all places: 127 paths and a removal, then 128 paths")
+    for k in range(100, 225):
+        out.append("report %d 3 %s" % (k, hexes(route([sub(behaviour=k)]))))
+    out += ["board", "report 300 3 " + A, "report 301 3 " + A, "report 302 3 " + A, "report 303 3 " + A, "board", "body 300", "body 301", "remove 150", "board", "report 304 3 " + B, "board", "body 150", "body 304", "remove 160", "remove 151", "remove 155",
+            "report 305 3 " + A, "board", "report 151 3 " + A, "board", "report 306 3 " + A, "board", "report 307 3 " + A, "report 307 3 " + E[:27].hex(), "board"]
+    out.append("# what followers are handed, from the empty one, from a mark, and after compaction")
+    follow(out, 0, 0, 1)
+    r = random.Random(1)
+    for _ in range(60):
+        out.append("next %d %d" % (r.randrange(0, 160), r.randrange(0, 160)))
+    out += ["compact 145", "board", "next 144 144", "next 145 0", "next 145 145", "next 0 145"]
+    out.append("# a longer history")
+    r = random.Random(7)
+    version, keys = 145, list(range(1, 150))
+    shapes = [[sub()], [sub(nt=2)], [sub(nt=4, s=1)], [sub(nt=6, t=1), sub()], [sub()] * 16, [sub()] * 17, [sub(nt=5)]]
+    for step in range(700):
+        roll = r.random()
+        key = r.choice(keys)
+        if roll < 0.45:
+            out.append("report %d %d %s" % (key, 3 if r.random() < 0.95 else 2, hexes(route(r.choice(shapes[:4]) if r.random() < 0.9 else r.choice(shapes[4:])))))
+            version += 1
+        elif roll < 0.70:
+            out.append("remove %d" % key)
+        elif roll < 0.72:
+            out.append("compact %d" % r.randrange(max(0, version - 120), version + 2))
+        elif roll < 0.80:
+            out.append("body %d" % key)
+        elif roll < 0.82:
+            out += ["board", "mark"]
+        else:
+            s = r.randrange(max(0, version - 200), version + 3)
+            out.append("next %d %d" % (s, max(0, s + r.randrange(-60, 60))))
+    return out
+
+
+# -- the console's own edges --------------------------------------------------------------------------------------
+
+
+def console():
+    out = ["", "# the start: an empty board, both OPENs refused, the writer at place 0 of an ERO with no buffer", "board", "mark", "lent", "finish", "ero 3 " + hexes(E), "ero 3 -", "",
+           "pcc " + hexes(O), "pce " + hexes(O).lower(), "ero 3 " + hexes(E), "ero 03 " + hexes(E).lower(), "rro 3 " + hexes(E), "ero-segment 3 0 " + hexes(E)]
+    out += ["# out of form", " ", "  ", " board", "board ", "board  ", "board board", "Board", "BOARD", "boar", "boards", "board\r", "\r", "board\t", "\tboard", "\0", "\0board", "board\0", "0", "-", "ero", "ero 3", "ero  3 " + hexes(E), "ero 3  " + hexes(E), "ero 3 " + hexes(E) + " ",
+            "ero 3 " + hexes(E) + " 0", "ero  " + hexes(E), "ero - " + hexes(E), "ero +3 " + hexes(E), "ero -3 " + hexes(E), "ero 3.0 " + hexes(E), "ero 0x3 " + hexes(E), "ero 3, " + hexes(E), "ero : " + hexes(E), "ero / " + hexes(E), "ero " + hexes(E), "ero " + hexes(E) + " 3"]
+    out += ["# numbers to 2^64-1", "ero 18446744073709551615 " + hexes(E), "ero 18446744073709551616 " + hexes(E), "ero 18446744073709551620 " + hexes(E), "ero 99999999999999999999 " + hexes(E), "ero 184467440737095516150 " + hexes(E), "ero 1844674407370955162 " + hexes(E),
+            "ero 000000000000000000000000000000000000000000000000000000000000003 " + hexes(E), "ero 0000000000000000000018446744073709551616 " + hexes(E), "next 18446744073709551615 18446744073709551615", "next 18446744073709551616 0", "compact 18446744073709551615", "remove 18446744073709551615"]
+    out += ["# octets", "pcc", "pcc ", "pcc 0", "pcc 01 10", "pcc 0G", "pcc G0", "pcc @0", "pcc `0", "pcc :0", "pcc /0", "pcc g0", "pcc 0x01", "pcc -01", "pcc 01-", "pcc --", "pcc -", "ero 3 " + hexes(E)[:-1], "ero 3 " + hexes(E) + "0", "ero 3 " + hexes(E)[:20] + " " + hexes(E)[20:],
+            "ero 3 " + hexes(E), "pcc " + hexes(O), "ero 3 " + hexes(E)]
+    sid = hexes(SID)
+    out += ["# the writer's words", "begin", "begin ero", "begin ero 65537", "begin ero 65536 ", "begin Ero 4", "begin pro 4", "begin 4 ero", "begin ero -", "begin ero 0", "begin ero 00028", "lent", "begin ero 18446744073709551644",
+            "add 0 0 0 1 " + sid + " - -", "finish", "add 2 0 0 1 " + sid + " - -", "add 0 2 0 1 " + sid + " - -", "add 0 0 256 1 " + sid + " - -", "add 0 0 0 65536 " + sid + " - -", "add 0 0 0 1 " + sid[:-2] + " - -", "add 0 0 0 1 " + sid + "00 - -", "add 0 0 0 1 " + sid + " " + "00" * 41 + " -",
+            "add 0 0 0 1 " + sid + " " + "00" * 40 + " -", "add 0 0 0 1 " + sid + " - 1,2,3", "add 0 0 0 1 " + sid + " - 1,2,3,4,5", "add 0 0 0 1 " + sid + " - 1,2,3,256", "add 0 0 0 1 " + sid + " - 1,2,3,", "add 0 0 0 1 " + sid + " - ,1,2,3", "add 0 0 0 1 " + sid + " - 1,2,,3",
+            "add 0 0 0 1 " + sid + " - 1, 2,3,4", "add 0 0 0 1 " + sid + " - 1;2;3;4", "add 0 0 0 1 " + sid + " - --", "add 0 0 0 1 " + sid + " - 0001,2,3,4", "add 0 0 0 1 " + sid + " -", "add 0 0 0 1 " + sid + " - - -", "add 0 0 0 1 - - -", "add 1 1 2 65535 - " + "ab" * 16 + " -", "add 00 01 002 0001 " + sid + " " + "Cd" * 16 + " -", "finish", "lent",
+            "finish ", "finish 1", "lent ", "lent 0", "begin rro 4", "lent"]
+    out += ["# form goes before meaning", "report 0 3 0", "report 0 x " + hexes(E), "report 0 3 " + hexes(E), "ero-segment 1 x " + hexes(E), "ero-segment 1 0 " + hexes(E)]
+    out += ["# the board's words", "report", "report 1", "report 1 3", "report 1 3 " + hexes(E) + " 1", "remove", "remove ", "remove 1 1", "remove x", "compact", "compact -", "body", "body 1", "next", "next 0", "next 0 0 0", "next 0 0", "mark 0", "mark", "board 0",
+            "report 1 3 " + hexes(E), "body 1", "next 0 0", "remove 0001", "next 1 1", "mark"]
+    text = "\n".join(out) + "\n"
+    text += "#" + "x" * 131300 + "\n"
+    long = "ero 00000 "
+    digits = 131200 - len(long)
+    text += long + "0" * digits + "\n"
+    text += "ero 000000 " + "0" * digits + "\n"
+    text += "mark\nboard"
+    return text
+
+
+# -- the checking program: inputs, one to a line ------------------------------------------------------------------
+
+
+def trial_checker():
+    good = O + O + E
+    out = [good, b"", O, O + O, good + b"\0", good + E, good + bytes(40)]
+    out += [good[:k] for k in range(0, len(good), 3)]
+    for at, most in ((2, 40), (34, 40), (66, 36)):
+        out += [put16(good, at, n) for n in (0, 1, 2, 3, 4, 5, 8, 27, 28, 29, 31, 32, 33, most, 60, 64, 92, 65535)]
+    for i in range(len(good)):
+        out.append(good[:i] + bytes([good[i] ^ 1]) + good[i + 1:])
+    bare = opened(setup([0], b""))
+    wide = opened(setup([3], srv6(2, [])))
+    for a in (O, bare, wide, O[:28] + b"\0" + O[29:], opened(setup([3], b"")), sized(O[:8])):
+        for b in (O, bare, wide, O[:28] + b"\0" + O[29:], opened(setup([3], b""))):
+            for r in (E, route([sub(nt=2, s=1)]), route([sub()] * 5)):
+                out.append(a + b + r)
+    return [x.hex().upper() for x in out]
+
+
+def main():
+    here = os.path.join(os.path.dirname(os.path.abspath(__file__)), "..", "crates")
+    for name, made in (("console", console()), ("trial_open", trial_open()), ("trial_route", trial_route()), ("trial_writer", trial_writer()), ("trial_board", trial_board()), ("trial_checker", trial_checker())):
+        text = made if isinstance(made, str) else "\n".join(made) + "\n"
+        os.makedirs(os.path.join(here, name), exist_ok=True)
+        with open(os.path.join(here, name, "stdin"), "wb") as f:
+            f.write(text.encode("latin-1"))
+
+
+main()
