@@ -37,35 +37,12 @@ pub fn reported(
     ensures { λ r. ⌜ r .end ≤ 128 ⌝ }
 {
     let n = octets_at(line, 3, room);
-    let b = state.board;
-    let mut keys = b.keys;
-    let mut versions = b.versions;
-    let mut lengths = b.lengths;
-    let mut version = b.version;
-    let mut floor = b.floor;
-    let v = lent::report(
-        &mut keys,
-        &mut versions,
-        &mut lengths,
-        &mut version,
-        &mut floor,
-        store,
-        c.one,
-        &room[..n],
-        session,
-        c.two,
-    );
+    let before = state.board;
+    let a = calls::report(before, store, c.one, &room[..n], session, c.two);
+    let v = a.verdict;
+    let after = a.board;
     Turn {
-        state: with_board(
-            state,
-            Board {
-                keys: keys,
-                versions: versions,
-                lengths: lengths,
-                version: version,
-                floor: floor,
-            },
-        ),
+        state: with_board(state, after),
         end: told(out, v),
     }
 }
@@ -75,31 +52,12 @@ pub fn removed(state: State, c: Command, store: &[u8], out: &mut [u8]) -> Turn
     requires { ⌜ 128 ≤ length (now out) ⌝ }
     ensures { λ r. ⌜ r .end ≤ 128 ⌝ }
 {
-    let b = state.board;
-    let keys = b.keys;
-    let mut versions = b.versions;
-    let mut lengths = b.lengths;
-    let mut version = b.version;
-    let v = lent::remove(
-        &keys,
-        &mut versions,
-        &mut lengths,
-        &mut version,
-        b.floor,
-        store,
-        c.one,
-    );
+    let before = state.board;
+    let a = calls::remove(before, store, c.one);
+    let v = a.verdict;
+    let after = a.board;
     Turn {
-        state: with_board(
-            state,
-            Board {
-                keys: keys,
-                versions: versions,
-                lengths: lengths,
-                version: version,
-                floor: b.floor,
-            },
-        ),
+        state: with_board(state, after),
         end: done(out, v),
     }
 }
@@ -109,31 +67,12 @@ pub fn compacted(state: State, c: Command, store: &[u8], out: &mut [u8]) -> Turn
     requires { ⌜ 128 ≤ length (now out) ⌝ }
     ensures { λ r. ⌜ r .end ≤ 128 ⌝ }
 {
-    let b = state.board;
-    let mut keys = b.keys;
-    let mut versions = b.versions;
-    let lengths = b.lengths;
-    let mut floor = b.floor;
-    let v = lent::compact(
-        &mut keys,
-        &mut versions,
-        &lengths,
-        b.version,
-        &mut floor,
-        store,
-        c.one,
-    );
+    let before = state.board;
+    let a = calls::compact(before, store, c.one);
+    let v = a.verdict;
+    let after = a.board;
     Turn {
-        state: with_board(
-            state,
-            Board {
-                keys: keys,
-                versions: versions,
-                lengths: lengths,
-                version: b.version,
-                floor: floor,
-            },
-        ),
+        state: with_board(state, after),
         end: done(out, v),
     }
 }
@@ -143,17 +82,11 @@ pub fn body(b: Board, c: Command, store: &[u8], out: &mut [u8]) -> usize
     requires { ⌜ 2 * length (now store) + 128 ≤ length (now out) ⌝ }
     ensures { λ r. ⌜ r ≤ length (now (out .entry)) ⌝ }
 {
-    let keys = b.keys;
-    let versions = b.versions;
-    let lengths = b.lengths;
-    let v = lent::body_number(&keys, &versions, &lengths, b.version, b.floor, store, c.one);
+    let v = calls::body_number(b, store, c.one);
     if v.number != 0 {
         return telling::refusal(out, v.number, v.place);
     }
-    let path = within(
-        lent::body(&keys, &versions, &lengths, b.version, b.floor, store, c.one),
-        store.len(),
-    );
+    let path = within(calls::body(b, store, c.one), store.len());
     telling::octets(out, path)
 }
 
@@ -162,19 +95,7 @@ pub fn next(b: Board, c: Command, store: &[u8], out: &mut [u8]) -> usize
     requires { ⌜ 2 * length (now store) + 128 ≤ length (now out) ⌝ }
     ensures { λ r. ⌜ r ≤ length (now (out .entry)) ⌝ }
 {
-    let keys = b.keys;
-    let versions = b.versions;
-    let lengths = b.lengths;
-    match lent::next(
-        &keys,
-        &versions,
-        &lengths,
-        b.version,
-        b.floor,
-        store,
-        c.one,
-        c.two,
-    ) {
+    match calls::next(b, store, c.one, c.two) {
         Handed::Refused(v) => telling::refusal(out, v.number, v.place),
         Handed::Path(change, part) => telling::path(
             out,
@@ -215,12 +136,13 @@ fn within(part: &[u8], most: usize) -> &[u8]
     part
 }
 
-// `mark`: the board's version for s and 0 for w.
+// `mark`: a fresh one.
 pub fn mark(b: Board, out: &mut [u8]) -> usize
     requires { ⌜ 128 ≤ length (now out) ⌝ }
     ensures { λ r. ⌜ r ≤ 128 ⌝ }
 {
-    telling::two(out, b.version, 0)
+    let m = calls::fresh_mark(b);
+    telling::two(out, m.s, m.w)
 }
 
 // `board`: version and floor.

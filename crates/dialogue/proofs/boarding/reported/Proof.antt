@@ -4,10 +4,10 @@ use Rattle.dialogue.proofs.boarding.reported.Statement.{statement}
 use Rattle.dialogue.proofs.boarding.reported.Tie as tie
 use Rattle.dialogue.proofs.boarding.reported.Reads as reads
 use Rattle.dialogue.proofs.boarding.reported.Lts as lts
+use Rattle.calls.proofs.report.Reads as report-reads
 use Rattle.command.proofs.octets_at.Reads as octets-at-reads
 use Rattle.dialogue.proofs.routing.told.Reads as told-reads
 use Rattle.dialogue.proofs.state.with_board.Reads as with-board-reads
-use Rattle.lent.proofs.report.Reads as report-reads
 
 octets-at-requires : tie.Need-octets-at-requires
 octets-at-requires c κs = search needs
@@ -25,13 +25,13 @@ with-board-requires : tie.Need-with-board-requires
 with-board-requires c κs = search needs
 
 told-requires : tie.Need-told-requires
-told-requires c κs = omega (arith, c .before .before .before .before .before .before .before .before .before .before .before .before .before .before .before .before .before .before .before .before .before .before .before .before .pre .1)
+told-requires c κs = omega (arith, c .before .before .before .before .before .before .before .before .before .before .before .before .before .before .before .before .before .before .pre .1)
 
 same-length : tie.Need-same-length
 same-length c = search needs
 
 same-length-2 : tie.Need-same-length-2
-same-length-2 c = c .before .before .before .before .before .before .before .before .before .before .before .before .before .before .before .before .before .before .before .before .before .octets-at .ensures .1 .1
+same-length-2 c = search needs
 
 same-length-3 : tie.Need-same-length-3
 same-length-3 c = search needs
