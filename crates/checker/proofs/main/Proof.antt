@@ -4,13 +4,6 @@ use native.Mathlib.Omega.{arith}
 use borrow.Author.Needs.{needs}
 use Rattle.checker.proofs.main.Statement.{statement}
 use Rattle.checker.proofs.main.Tie as tie
-use Rattle.checker.proofs.main.Reads as reads
-use Rattle.checker.proofs.main.Lts as lts
-use Rattle.checking.proofs.check.Reads as check-reads
-use Rattle.io.proofs.large_buffer.Reads as large-buffer-reads
-use Rattle.io.proofs.read_full.Reads as read-full-reads
-use Rattle.io.proofs.write_all.Reads as write-all-reads
-use Rattle.telling.proofs.whole.Reads as whole-reads
 
 large-buffer-requires : tie.Need-large-buffer-requires
 large-buffer-requires c κs = search needs

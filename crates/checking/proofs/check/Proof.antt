@@ -10,14 +10,6 @@ use Prim.Native.Nat.{ℕ}
 use borrow.Author.Needs.{needs}
 use Rattle.checking.proofs.check.Statement.{statement}
 use Rattle.checking.proofs.check.Tie as tie
-use Rattle.checking.proofs.check.Reads as reads
-use Rattle.checking.proofs.check.Lts as lts
-use Rattle.answers.proofs.refused.Reads as refused-reads
-use Rattle.cutting.proofs.first.Reads as first-reads
-use Rattle.cutting.proofs.rest.Reads as rest-reads
-use Rattle.open.proofs.read_open.Reads as read-open-reads
-use Rattle.route.proofs.judge.Reads as judge-reads
-use Rattle.session.proofs.agree.Reads as agree-reads
 
 rest-requires : tie.Need-rest-requires
 rest-requires c κs = search needs

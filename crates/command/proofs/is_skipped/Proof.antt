@@ -3,8 +3,6 @@ use Rattle.command.specs.Commands.{skipped}
 use borrow.Author.Needs.{needs}
 use Rattle.command.proofs.is_skipped.Statement.{statement}
 use Rattle.command.proofs.is_skipped.Tie as tie
-use Rattle.command.proofs.is_skipped.Reads as reads
-use Rattle.command.proofs.is_skipped.Lts as lts
 
 returns : tie.Need-returns
 returns c = skipped-empty _ (c .if1 .taken)

@@ -11,10 +11,6 @@ use native.Mathlib.Omega.{arith}
 use borrow.Author.Needs.{needs}
 use Rattle.command.proofs.octets_at.Statement.{statement}
 use Rattle.command.proofs.octets_at.Tie as tie
-use Rattle.command.proofs.octets_at.Reads as reads
-use Rattle.command.proofs.octets_at.Lts as lts
-use Rattle.hexadecimal.proofs.decode.Reads as decode-reads
-use Rattle.words.proofs.word.Reads as word-reads
 
 word-requires : tie.Need-word-requires
 word-requires c κs = search needs

@@ -10,15 +10,6 @@ use mathlib.Core.Path.{_≡_, refl, sym, _∙_, ap}
 use borrow.Author.Needs.{needs}
 use Rattle.command.proofs.parse.Statement.{statement}
 use Rattle.command.proofs.parse.Tie as tie
-use Rattle.command.proofs.parse.Reads as reads
-use Rattle.command.proofs.parse.Lts as lts
-use Rattle.command.proofs.alone.Reads as alone-reads
-use Rattle.command.proofs.is_skipped.Reads as is-skipped-reads
-use Rattle.decimal.proofs.value.Reads as value-reads
-use Rattle.forms.proofs.is_formed.Reads as is-formed-reads
-use Rattle.forms.proofs.named.Reads as named-reads
-use Rattle.words.proofs.same.Reads as same-reads
-use Rattle.words.proofs.word.Reads as word-reads
 
 is-skipped-requires : tie.Need-is-skipped-requires
 is-skipped-requires c κs = search needs

@@ -4,9 +4,6 @@ use native.Mathlib.Omega.{arith}
 use borrow.Author.Needs.{needs}
 use Rattle.cutting.proofs.cut.Statement.{statement}
 use Rattle.cutting.proofs.cut.Tie as tie
-use Rattle.cutting.proofs.cut.Reads as reads
-use Rattle.cutting.proofs.cut.Lts as lts
-use Rattle.octets.proofs.read16.Reads as read16-reads
 
 returns : tie.Need-returns
 returns c = (cut-short _ (c .if1 .taken), omega arith)

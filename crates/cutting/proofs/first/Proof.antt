@@ -4,9 +4,6 @@ use native.Mathlib.Omega.{arith}
 use borrow.Author.Needs.{needs}
 use Rattle.cutting.proofs.first.Statement.{statement}
 use Rattle.cutting.proofs.first.Tie as tie
-use Rattle.cutting.proofs.first.Reads as reads
-use Rattle.cutting.proofs.first.Lts as lts
-use Rattle.cutting.proofs.cut.Reads as cut-reads
 
 cut-requires : tie.Need-cut-requires
 cut-requires c κs = search needs

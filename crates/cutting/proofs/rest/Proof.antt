@@ -3,9 +3,6 @@ use mathlib.Core.Path.{_≡_, refl, sym, _∙_, ap}
 use borrow.Author.Needs.{needs}
 use Rattle.cutting.proofs.rest.Statement.{statement}
 use Rattle.cutting.proofs.rest.Tie as tie
-use Rattle.cutting.proofs.rest.Reads as reads
-use Rattle.cutting.proofs.rest.Lts as lts
-use Rattle.cutting.proofs.cut.Reads as cut-reads
 
 cut-requires : tie.Need-cut-requires
 cut-requires c κs = search needs

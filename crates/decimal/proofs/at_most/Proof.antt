@@ -3,10 +3,6 @@ use mathlib.Core.Path.{_∙_}
 use Rattle.decimal.specs.Decimal.{numberOf, isNumber, valueOf, isAtMost}
 use Rattle.decimal.proofs.at_most.Statement.{statement}
 use Rattle.decimal.proofs.at_most.Tie as tie
-use Rattle.decimal.proofs.at_most.Reads as reads
-use Rattle.decimal.proofs.at_most.Lts as lts
-use Rattle.decimal.proofs.spelled.Reads as spelled-reads
-use Rattle.octets.proofs.both.Reads as both-reads
 
 spelled-requires : tie.Need-spelled-requires
 spelled-requires c κs = search needs

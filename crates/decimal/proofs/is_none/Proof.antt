@@ -2,9 +2,6 @@ use Rattle.decimal.specs.Decimal.{isNone}
 use borrow.Author.Needs.{needs}
 use Rattle.decimal.proofs.is_none.Statement.{statement}
 use Rattle.decimal.proofs.is_none.Tie as tie
-use Rattle.decimal.proofs.is_none.Reads as reads
-use Rattle.decimal.proofs.is_none.Lts as lts
-use Rattle.words.proofs.same.Reads as same-reads
 
 slice-aggregate-same : tie.Need-slice-aggregate-same
 slice-aggregate-same c = search needs

@@ -7,14 +7,6 @@ use borrow.Author.Needs.{needs}
 use Rattle.decimal.specs.Decimal.{isStructure}
 use Rattle.decimal.proofs.is_structure.Statement.{statement}
 use Rattle.decimal.proofs.is_structure.Tie as tie
-use Rattle.decimal.proofs.is_structure.Reads as reads
-use Rattle.decimal.proofs.is_structure.Lts as lts
-use Rattle.decimal.proofs.at_most.Reads as at-most-reads
-use Rattle.decimal.proofs.is_none.Reads as is-none-reads
-use Rattle.octets.proofs.both.Reads as both-reads
-use Rattle.octets.proofs.either.Reads as either-reads
-use Rattle.words.proofs.count.Reads as count-reads
-use Rattle.words.proofs.word.Reads as word-reads
 
 count-requires : tie.Need-count-requires
 count-requires c κs = search needs

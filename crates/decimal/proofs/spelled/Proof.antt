@@ -6,9 +6,6 @@ use native.Mathlib.Omega.{arith}
 use borrow.Author.Needs.{needs}
 use Rattle.decimal.proofs.spelled.Statement.{statement}
 use Rattle.decimal.proofs.spelled.Tie as tie
-use Rattle.decimal.proofs.spelled.Reads as reads
-use Rattle.decimal.proofs.spelled.Lts as lts
-use Rattle.decimal.proofs.digit.Reads as digit-reads
 
 abbrev Inv-loop : tie.InvT-loop
 Inv-loop word v₀ i₀ v i = Reading word v i

@@ -2,11 +2,6 @@ use borrow.Author.Needs.{needs}
 use Rattle.decimal.specs.Decimal.{structureOf}
 use Rattle.decimal.proofs.structure.Statement.{statement}
 use Rattle.decimal.proofs.structure.Tie as tie
-use Rattle.decimal.proofs.structure.Reads as reads
-use Rattle.decimal.proofs.structure.Lts as lts
-use Rattle.decimal.proofs.low.Reads as low-reads
-use Rattle.decimal.proofs.value.Reads as value-reads
-use Rattle.words.proofs.word.Reads as word-reads
 
 word-requires : tie.Need-word-requires
 word-requires c κs = search needs

@@ -6,9 +6,6 @@ use native.Mathlib.Omega.{arith}
 use borrow.Author.Needs.{needs}
 use Rattle.hexadecimal.proofs.all_pairs.Statement.{statement}
 use Rattle.hexadecimal.proofs.all_pairs.Tie as tie
-use Rattle.hexadecimal.proofs.all_pairs.Reads as reads
-use Rattle.hexadecimal.proofs.all_pairs.Lts as lts
-use Rattle.hexadecimal.proofs.hex_code.Reads as hex-code-reads
 
 abbrev Inv-loop : tie.InvT-loop
 Inv-loop word i₀ i = (i ≤ length word) × (allHex (drop i word) ≡ allHex word)

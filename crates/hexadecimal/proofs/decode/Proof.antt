@@ -8,9 +8,6 @@ use native.Mathlib.Omega.{arith}
 use borrow.Author.Needs.{needs}
 use Rattle.hexadecimal.proofs.decode.Statement.{statement}
 use Rattle.hexadecimal.proofs.decode.Tie as tie
-use Rattle.hexadecimal.proofs.decode.Reads as reads
-use Rattle.hexadecimal.proofs.decode.Lts as lts
-use Rattle.hexadecimal.proofs.pair.Reads as pair-reads
 
 abbrev Inv-loop : tie.InvT-loop
 Inv-loop word out₀ n₀ out n = (n ≤ length word / 2) × (length out ≡ length out₀) × (length word ≤ 2 * length out₀) × (out ≡ copied out₀ (octetsOf word) n)

@@ -5,8 +5,6 @@ use native.Mathlib.Omega.{arith}
 use borrow.Author.Needs.{needs}
 use Rattle.hexadecimal.proofs.hex_code.Statement.{statement}
 use Rattle.hexadecimal.proofs.hex_code.Tie as tie
-use Rattle.hexadecimal.proofs.hex_code.Reads as reads
-use Rattle.hexadecimal.proofs.hex_code.Lts as lts
 
 returns : tie.Need-returns
 returns c = (hex-before _ (c .if1 .taken), search needs)

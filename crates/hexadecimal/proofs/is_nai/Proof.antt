@@ -2,11 +2,6 @@ use Rattle.hexadecimal.specs.Hexadecimal.{isOctets, isSid, isNai}
 use borrow.Author.Needs.{needs}
 use Rattle.hexadecimal.proofs.is_nai.Statement.{statement}
 use Rattle.hexadecimal.proofs.is_nai.Tie as tie
-use Rattle.hexadecimal.proofs.is_nai.Reads as reads
-use Rattle.hexadecimal.proofs.is_nai.Lts as lts
-use Rattle.hexadecimal.proofs.is_octets.Reads as is-octets-reads
-use Rattle.hexadecimal.proofs.octets_in.Reads as octets-in-reads
-use Rattle.octets.proofs.both.Reads as both-reads
 
 is-octets-requires : tie.Need-is-octets-requires
 is-octets-requires c κs = search needs

@@ -2,12 +2,6 @@ use Rattle.hexadecimal.specs.Hexadecimal.{isOctets, isSid, isNai}
 use borrow.Author.Needs.{needs}
 use Rattle.hexadecimal.proofs.is_octets.Statement.{statement}
 use Rattle.hexadecimal.proofs.is_octets.Tie as tie
-use Rattle.hexadecimal.proofs.is_octets.Reads as reads
-use Rattle.hexadecimal.proofs.is_octets.Lts as lts
-use Rattle.decimal.proofs.is_none.Reads as is-none-reads
-use Rattle.hexadecimal.proofs.all_pairs.Reads as all-pairs-reads
-use Rattle.octets.proofs.both.Reads as both-reads
-use Rattle.octets.proofs.either.Reads as either-reads
 
 is-none-requires : tie.Need-is-none-requires
 is-none-requires c κs = search needs

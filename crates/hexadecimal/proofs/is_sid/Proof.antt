@@ -2,13 +2,6 @@ use Rattle.hexadecimal.specs.Hexadecimal.{isOctets, isSid, isNai}
 use borrow.Author.Needs.{needs}
 use Rattle.hexadecimal.proofs.is_sid.Statement.{statement}
 use Rattle.hexadecimal.proofs.is_sid.Tie as tie
-use Rattle.hexadecimal.proofs.is_sid.Reads as reads
-use Rattle.hexadecimal.proofs.is_sid.Lts as lts
-use Rattle.decimal.proofs.is_none.Reads as is-none-reads
-use Rattle.hexadecimal.proofs.is_octets.Reads as is-octets-reads
-use Rattle.hexadecimal.proofs.octets_in.Reads as octets-in-reads
-use Rattle.octets.proofs.both.Reads as both-reads
-use Rattle.octets.proofs.either.Reads as either-reads
 
 is-octets-requires : tie.Need-is-octets-requires
 is-octets-requires c κs = search needs

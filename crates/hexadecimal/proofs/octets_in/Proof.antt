@@ -5,8 +5,6 @@ use native.Mathlib.Omega.{arith}
 use borrow.Author.Needs.{needs}
 use Rattle.hexadecimal.proofs.octets_in.Statement.{statement}
 use Rattle.hexadecimal.proofs.octets_in.Tie as tie
-use Rattle.hexadecimal.proofs.octets_in.Reads as reads
-use Rattle.hexadecimal.proofs.octets_in.Lts as lts
 
 returns : tie.Need-returns
 returns c = sym (length-octets _)

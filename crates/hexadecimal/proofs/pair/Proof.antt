@@ -5,9 +5,6 @@ use native.Mathlib.Omega.{arith}
 use borrow.Author.Needs.{needs}
 use Rattle.hexadecimal.proofs.pair.Statement.{statement}
 use Rattle.hexadecimal.proofs.pair.Tie as tie
-use Rattle.hexadecimal.proofs.pair.Reads as reads
-use Rattle.hexadecimal.proofs.pair.Lts as lts
-use Rattle.hexadecimal.proofs.hex_code.Reads as hex-code-reads
 
 hex-code-requires : tie.Need-hex-code-requires
 hex-code-requires c κs = search needs

@@ -6,8 +6,6 @@ use native.Mathlib.Omega.{arith}
 use borrow.Author.Needs.{needs}
 use Rattle.printing.proofs.glyph.Statement.{statement}
 use Rattle.printing.proofs.glyph.Tie as tie
-use Rattle.printing.proofs.glyph.Reads as reads
-use Rattle.printing.proofs.glyph.Lts as lts
 
 add-result : tie.Need-add-result
 add-result c = search needs

@@ -7,10 +7,6 @@ use native.Mathlib.Omega.{arith}
 use borrow.Author.Needs.{needs}
 use Rattle.printing.proofs.number.Statement.{statement}
 use Rattle.printing.proofs.number.Tie as tie
-use Rattle.printing.proofs.number.Reads as reads
-use Rattle.printing.proofs.number.Lts as lts
-use Rattle.io.proofs.decimal.Reads as decimal-reads
-use Rattle.printing.proofs.push.Reads as push-reads
 
 decimal-requires : tie.Need-decimal-requires
 decimal-requires c κs = search needs

@@ -5,10 +5,6 @@ use native.Mathlib.Omega.{arith}
 use borrow.Author.Needs.{needs}
 use Rattle.printing.proofs.octets.Statement.{statement}
 use Rattle.printing.proofs.octets.Tie as tie
-use Rattle.printing.proofs.octets.Reads as reads
-use Rattle.printing.proofs.octets.Lts as lts
-use Rattle.printing.proofs.pairs.Reads as pairs-reads
-use Rattle.printing.proofs.push.Reads as push-reads
 
 slice-aggregate-push : tie.Need-slice-aggregate-push
 slice-aggregate-push c = search needs

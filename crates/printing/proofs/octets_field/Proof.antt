@@ -3,10 +3,6 @@ use native.Mathlib.Omega.{arith}
 use borrow.Author.Needs.{needs}
 use Rattle.printing.proofs.octets_field.Statement.{statement}
 use Rattle.printing.proofs.octets_field.Tie as tie
-use Rattle.printing.proofs.octets_field.Reads as reads
-use Rattle.printing.proofs.octets_field.Lts as lts
-use Rattle.printing.proofs.octets.Reads as octets-reads
-use Rattle.printing.proofs.push.Reads as push-reads
 
 slice-aggregate-push : tie.Need-slice-aggregate-push
 slice-aggregate-push c = search needs

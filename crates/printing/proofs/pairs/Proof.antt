@@ -8,10 +8,6 @@ use native.Mathlib.Omega.{arith}
 use borrow.Author.Needs.{needs}
 use Rattle.printing.proofs.pairs.Statement.{statement}
 use Rattle.printing.proofs.pairs.Tie as tie
-use Rattle.printing.proofs.pairs.Reads as reads
-use Rattle.printing.proofs.pairs.Lts as lts
-use Rattle.printing.proofs.glyph.Reads as glyph-reads
-use Rattle.printing.proofs.push.Reads as push-reads
 
 abbrev Inv-loop : tie.InvT-loop
 Inv-loop out₀ at s end₀ i₀ out end i = (i ≤ length s) × (end ≡ at + 2 * i) × (at + 2 * length s ≤ length out₀) × (length out ≡ length out₀) × Behind out₀ out at end (hexOf (take i s))

@@ -5,9 +5,6 @@ use native.Mathlib.Omega.{arith}
 use borrow.Author.Needs.{needs}
 use Rattle.printing.proofs.push.Statement.{statement}
 use Rattle.printing.proofs.push.Tie as tie
-use Rattle.printing.proofs.push.Reads as reads
-use Rattle.printing.proofs.push.Lts as lts
-use Rattle.octets.proofs.lay.Reads as lay-reads
 
 lay-requires : tie.Need-lay-requires
 lay-requires c κs = search needs

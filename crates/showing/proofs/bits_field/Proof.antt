@@ -3,12 +3,6 @@ use native.Mathlib.Omega.{arith}
 use borrow.Author.Needs.{needs}
 use Rattle.showing.proofs.bits_field.Statement.{statement}
 use Rattle.showing.proofs.bits_field.Tie as tie
-use Rattle.showing.proofs.bits_field.Reads as reads
-use Rattle.showing.proofs.bits_field.Lts as lts
-use Rattle.printing.proofs.field.Reads as field-reads
-use Rattle.printing.proofs.number.Reads as number-reads
-use Rattle.printing.proofs.push.Reads as push-reads
-use Rattle.showing.proofs.wide.Reads as wide-reads
 
 array-read-wide : tie.Need-array-read-wide
 array-read-wide c = search needs

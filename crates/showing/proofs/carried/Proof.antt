@@ -3,12 +3,6 @@ use native.Mathlib.Omega.{arith}
 use borrow.Author.Needs.{needs}
 use Rattle.showing.proofs.carried.Statement.{statement}
 use Rattle.showing.proofs.carried.Tie as tie
-use Rattle.showing.proofs.carried.Reads as reads
-use Rattle.showing.proofs.carried.Lts as lts
-use Rattle.printing.proofs.field.Reads as field-reads
-use Rattle.printing.proofs.push.Reads as push-reads
-use Rattle.showing.proofs.bit.Reads as bit-reads
-use Rattle.showing.proofs.limit_field.Reads as limit-field-reads
 
 slice-aggregate-push : tie.Need-slice-aggregate-push
 slice-aggregate-push c = search needs

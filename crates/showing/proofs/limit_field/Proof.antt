@@ -2,10 +2,6 @@ use native.Mathlib.Omega.{arith}
 use borrow.Author.Needs.{needs}
 use Rattle.showing.proofs.limit_field.Statement.{statement}
 use Rattle.showing.proofs.limit_field.Tie as tie
-use Rattle.showing.proofs.limit_field.Reads as reads
-use Rattle.showing.proofs.limit_field.Lts as lts
-use Rattle.printing.proofs.field.Reads as field-reads
-use Rattle.printing.proofs.push.Reads as push-reads
 
 enum-told : tie.Need-enum-told
 enum-told c = search needs

@@ -5,10 +5,6 @@ use native.Mathlib.Omega.{arith}
 use borrow.Author.Needs.{needs}
 use Rattle.showing.proofs.nai_field.Statement.{statement}
 use Rattle.showing.proofs.nai_field.Tie as tie
-use Rattle.showing.proofs.nai_field.Reads as reads
-use Rattle.showing.proofs.nai_field.Lts as lts
-use Rattle.printing.proofs.octets_field.Reads as octets-field-reads
-use Rattle.subobject.proofs.nai_length.Reads as nai-length-reads
 
 nai-length-requires : tie.Need-nai-length-requires
 nai-length-requires c κs = search needs

@@ -3,10 +3,6 @@ use borrow.Author.Tests.{eq-eqb, ne-eqb}
 use borrow.Author.Needs.{needs}
 use Rattle.showing.proofs.opened.Statement.{statement}
 use Rattle.showing.proofs.opened.Tie as tie
-use Rattle.showing.proofs.opened.Reads as reads
-use Rattle.showing.proofs.opened.Lts as lts
-use Rattle.showing.proofs.carried.Reads as carried-reads
-use Rattle.telling.proofs.refusal.Reads as refusal-reads
 
 refusal-requires : tie.Need-refusal-requires
 refusal-requires c κs = search needs

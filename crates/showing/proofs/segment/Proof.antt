@@ -3,14 +3,6 @@ use native.Mathlib.Omega.{arith}
 use borrow.Author.Needs.{needs}
 use Rattle.showing.proofs.segment.Statement.{statement}
 use Rattle.showing.proofs.segment.Tie as tie
-use Rattle.showing.proofs.segment.Reads as reads
-use Rattle.showing.proofs.segment.Lts as lts
-use Rattle.printing.proofs.field.Reads as field-reads
-use Rattle.printing.proofs.push.Reads as push-reads
-use Rattle.showing.proofs.bit.Reads as bit-reads
-use Rattle.showing.proofs.nai_field.Reads as nai-field-reads
-use Rattle.showing.proofs.sid_field.Reads as sid-field-reads
-use Rattle.showing.proofs.structure_field.Reads as structure-field-reads
 
 slice-aggregate-push : tie.Need-slice-aggregate-push
 slice-aggregate-push c = search needs

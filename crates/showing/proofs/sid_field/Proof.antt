@@ -5,10 +5,6 @@ use native.Mathlib.Omega.{arith}
 use borrow.Author.Needs.{needs}
 use Rattle.showing.proofs.sid_field.Statement.{statement}
 use Rattle.showing.proofs.sid_field.Tie as tie
-use Rattle.showing.proofs.sid_field.Reads as reads
-use Rattle.showing.proofs.sid_field.Lts as lts
-use Rattle.octets.proofs.pick.Reads as pick-reads
-use Rattle.printing.proofs.octets_field.Reads as octets-field-reads
 
 pick-requires : tie.Need-pick-requires
 pick-requires c κs = search needs

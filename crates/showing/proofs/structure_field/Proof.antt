@@ -3,10 +3,6 @@ use native.Mathlib.Omega.{arith}
 use borrow.Author.Needs.{needs}
 use Rattle.showing.proofs.structure_field.Statement.{statement}
 use Rattle.showing.proofs.structure_field.Tie as tie
-use Rattle.showing.proofs.structure_field.Reads as reads
-use Rattle.showing.proofs.structure_field.Lts as lts
-use Rattle.printing.proofs.push.Reads as push-reads
-use Rattle.showing.proofs.bits_field.Reads as bits-field-reads
 
 bits-field-requires : tie.Need-bits-field-requires
 bits-field-requires c κs = search needs

@@ -3,10 +3,6 @@ use Rattle.printing.proofs.Laws.{then}
 use borrow.Author.Needs.{needs}
 use Rattle.telling.proofs.octets.Statement.{statement}
 use Rattle.telling.proofs.octets.Tie as tie
-use Rattle.telling.proofs.octets.Reads as reads
-use Rattle.telling.proofs.octets.Lts as lts
-use Rattle.printing.proofs.octets_field.Reads as octets-field-reads
-use Rattle.printing.proofs.push.Reads as push-reads
 
 slice-aggregate-push : tie.Need-slice-aggregate-push
 slice-aggregate-push c = search needs

@@ -3,11 +3,6 @@ use Rattle.printing.proofs.Laws.{then}
 use borrow.Author.Needs.{needs}
 use Rattle.telling.proofs.path.Statement.{statement}
 use Rattle.telling.proofs.path.Tie as tie
-use Rattle.telling.proofs.path.Reads as reads
-use Rattle.telling.proofs.path.Lts as lts
-use Rattle.printing.proofs.field.Reads as field-reads
-use Rattle.printing.proofs.octets_field.Reads as octets-field-reads
-use Rattle.printing.proofs.push.Reads as push-reads
 
 slice-aggregate-push : tie.Need-slice-aggregate-push
 slice-aggregate-push c = search needs

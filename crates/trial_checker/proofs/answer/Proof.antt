@@ -10,13 +10,6 @@ use native.Mathlib.Omega.{arith}
 use borrow.Author.Needs.{needs}
 use Rattle.trial_checker.proofs.answer.Statement.{statement}
 use Rattle.trial_checker.proofs.answer.Tie as tie
-use Rattle.trial_checker.proofs.answer.Reads as reads
-use Rattle.trial_checker.proofs.answer.Lts as lts
-use Rattle.checking.proofs.check.Reads as check-reads
-use Rattle.hexadecimal.proofs.decode.Reads as decode-reads
-use Rattle.io.proofs.large_buffer.Reads as large-buffer-reads
-use Rattle.io.proofs.write_all.Reads as write-all-reads
-use Rattle.telling.proofs.whole.Reads as whole-reads
 
 large-buffer-requires : tie.Need-large-buffer-requires
 large-buffer-requires c κs = search needs

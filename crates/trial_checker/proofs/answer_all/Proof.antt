@@ -4,9 +4,6 @@ use native.Mathlib.Omega.{arith}
 use borrow.Author.Needs.{needs}
 use Rattle.trial_checker.proofs.answer_all.Statement.{statement}
 use Rattle.trial_checker.proofs.answer_all.Tie as tie
-use Rattle.trial_checker.proofs.answer_all.Reads as reads
-use Rattle.trial_checker.proofs.answer_all.Lts as lts
-use Rattle.trial_checker.proofs.onward.Reads as onward-reads
 
 abbrev Inv-loop : tie.InvT-loop
 Inv-loop input at₀ at = at ≤ length input

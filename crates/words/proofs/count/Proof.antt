@@ -8,8 +8,6 @@ use native.Mathlib.Omega.{arith}
 use borrow.Author.Needs.{needs}
 use Rattle.words.proofs.count.Statement.{statement}
 use Rattle.words.proofs.count.Tie as tie
-use Rattle.words.proofs.count.Reads as reads
-use Rattle.words.proofs.count.Lts as lts
 
 abbrev Inv-loop : tie.InvT-loop
 Inv-loop line mark n₀ i₀ n i = (i ≤ length line) × (n ≤ i + 1) × (n + wordsIn mark (drop i line) ≡ 1 + wordsIn mark line)

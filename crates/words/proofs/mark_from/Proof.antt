@@ -7,8 +7,6 @@ use native.Mathlib.Omega.{arith}
 use borrow.Author.Needs.{needs}
 use Rattle.words.proofs.mark_from.Statement.{statement}
 use Rattle.words.proofs.mark_from.Tie as tie
-use Rattle.words.proofs.mark_from.Reads as reads
-use Rattle.words.proofs.mark_from.Lts as lts
 
 abbrev Inv-loop : tie.InvT-loop
 Inv-loop line from mark i₀ i = (from ≤ i) × (i ≤ length line) × (from + length (untilMark mark (drop from line)) ≡ i + length (untilMark mark (drop i line)))

@@ -7,8 +7,6 @@ use native.Mathlib.Omega.{arith}
 use borrow.Author.Needs.{needs}
 use Rattle.words.proofs.same.Statement.{statement}
 use Rattle.words.proofs.same.Tie as tie
-use Rattle.words.proofs.same.Reads as reads
-use Rattle.words.proofs.same.Lts as lts
 
 abbrev Inv-loop : tie.InvT-loop
 Inv-loop word name i₀ i = (i ≤ length word) × (length word ≡ length name) × (sameOf (drop i word) (drop i name) ≡ sameOf word name)

@@ -9,9 +9,6 @@ use native.Mathlib.Omega.{arith}
 use borrow.Author.Needs.{needs}
 use Rattle.words.proofs.word.Statement.{statement}
 use Rattle.words.proofs.word.Tie as tie
-use Rattle.words.proofs.word.Reads as reads
-use Rattle.words.proofs.word.Lts as lts
-use Rattle.words.proofs.mark_from.Reads as mark-from-reads
 
 abbrev Inv-loop : tie.InvT-loop
 Inv-loop line mark i from₀ k₀ from k = (from ≤ length line) × (wordOf mark (drop from line) k ≡ wordOf mark line i)

@@ -2,12 +2,6 @@ use native.Mathlib.Omega.{arith}
 use borrow.Author.Needs.{needs}
 use Rattle.dialogue.proofs.boarding.reported.Statement.{statement}
 use Rattle.dialogue.proofs.boarding.reported.Tie as tie
-use Rattle.dialogue.proofs.boarding.reported.Reads as reads
-use Rattle.dialogue.proofs.boarding.reported.Lts as lts
-use Rattle.calls.proofs.report.Reads as report-reads
-use Rattle.command.proofs.octets_at.Reads as octets-at-reads
-use Rattle.dialogue.proofs.routing.told.Reads as told-reads
-use Rattle.dialogue.proofs.state.with_board.Reads as with-board-reads
 
 octets-at-requires : tie.Need-octets-at-requires
 octets-at-requires c κs = search needs

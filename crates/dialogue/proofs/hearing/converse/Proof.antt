@@ -3,9 +3,6 @@ use native.Mathlib.Omega.{arith}
 use borrow.Author.Needs.{needs}
 use Rattle.dialogue.proofs.hearing.converse.Statement.{statement}
 use Rattle.dialogue.proofs.hearing.converse.Tie as tie
-use Rattle.dialogue.proofs.hearing.converse.Reads as reads
-use Rattle.dialogue.proofs.hearing.converse.Lts as lts
-use Rattle.dialogue.proofs.hearing.go_on.Reads as go-on-reads
 
 slice-aggregate-go-on : tie.Need-slice-aggregate-go-on
 slice-aggregate-go-on c = search needs

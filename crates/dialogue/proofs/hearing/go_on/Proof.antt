@@ -5,10 +5,6 @@ use native.Mathlib.Omega.{arith}
 use borrow.Author.Needs.{needs}
 use Rattle.dialogue.proofs.hearing.go_on.Statement.{statement}
 use Rattle.dialogue.proofs.hearing.go_on.Tie as tie
-use Rattle.dialogue.proofs.hearing.go_on.Reads as reads
-use Rattle.dialogue.proofs.hearing.go_on.Lts as lts
-use Rattle.dialogue.proofs.hearing.hear.Reads as hear-reads
-use Rattle.dialogue.proofs.state.start.Reads as start-reads
 
 abbrev Inv-loop : tie.InvT-loop
 Inv-loop line₀ store₀ buffer₀ room₀ out₀ h₀ turns₀ line store buffer room out h turns = (length line ≡ length line₀) × (length store ≡ length store₀) × (length buffer ≡ length buffer₀) × (length room ≡ length room₀) × (length out ≡ length out₀)

@@ -3,11 +3,6 @@ use native.Mathlib.Omega.{arith}
 use borrow.Author.Needs.{needs}
 use Rattle.dialogue.proofs.hearing.keep.Statement.{statement}
 use Rattle.dialogue.proofs.hearing.keep.Tie as tie
-use Rattle.dialogue.proofs.hearing.keep.Reads as reads
-use Rattle.dialogue.proofs.hearing.keep.Lts as lts
-use Rattle.dialogue.proofs.state.fit.Reads as fit-reads
-use Rattle.dialogue.proofs.state.least.Reads as least-reads
-use Rattle.octets.proofs.lay.Reads as lay-reads
 
 least-requires : tie.Need-least-requires
 least-requires c κs = search needs

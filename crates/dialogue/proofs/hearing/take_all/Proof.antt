@@ -5,9 +5,6 @@ use native.Mathlib.Omega.{arith}
 use borrow.Author.Needs.{needs}
 use Rattle.dialogue.proofs.hearing.take_all.Statement.{statement}
 use Rattle.dialogue.proofs.hearing.take_all.Tie as tie
-use Rattle.dialogue.proofs.hearing.take_all.Reads as reads
-use Rattle.dialogue.proofs.hearing.take_all.Lts as lts
-use Rattle.dialogue.proofs.hearing.take_in.Reads as take-in-reads
 
 abbrev Inv-loop : tie.InvT-loop
 Inv-loop read line₀ store₀ buffer₀ room₀ out₀ heard₀ at₀ line store buffer room out heard at = (at ≤ length read) × (length line ≡ length line₀) × (length store ≡ length store₀) × (length buffer ≡ length buffer₀) × (length room ≡ length room₀) × (length out ≡ length out₀)

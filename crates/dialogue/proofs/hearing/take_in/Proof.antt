@@ -2,11 +2,6 @@ use native.Mathlib.Omega.{arith}
 use borrow.Author.Needs.{needs}
 use Rattle.dialogue.proofs.hearing.take_in.Statement.{statement}
 use Rattle.dialogue.proofs.hearing.take_in.Tie as tie
-use Rattle.dialogue.proofs.hearing.take_in.Reads as reads
-use Rattle.dialogue.proofs.hearing.take_in.Lts as lts
-use Rattle.dialogue.proofs.hearing.answer.Reads as answer-reads
-use Rattle.dialogue.proofs.hearing.keep.Reads as keep-reads
-use Rattle.words.proofs.word.Reads as word-reads
 
 sub-word : tie.Need-sub-word
 sub-word c = search needs

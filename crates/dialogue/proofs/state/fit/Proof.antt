@@ -4,8 +4,6 @@ use mathlib.Core.Path.{sym}
 use native.Mathlib.Omega.{arith}
 use Rattle.dialogue.proofs.state.fit.Statement.{statement}
 use Rattle.dialogue.proofs.state.fit.Tie as tie
-use Rattle.dialogue.proofs.state.fit.Reads as reads
-use Rattle.dialogue.proofs.state.fit.Lts as lts
 
 returns : tie.Need-returns
 returns c = ((omega arith, sym (length-take-le (c .before .args .n) (c .before .args .s .now) (omega arith))), omega arith)

@@ -2,18 +2,6 @@ use native.Mathlib.Omega.{arith}
 use borrow.Author.Needs.{needs}
 use Rattle.dialogue.proofs.turning.about_board.Statement.{statement}
 use Rattle.dialogue.proofs.turning.about_board.Tie as tie
-use Rattle.dialogue.proofs.turning.about_board.Reads as reads
-use Rattle.dialogue.proofs.turning.about_board.Lts as lts
-use Rattle.dialogue.proofs.boarding.body.Reads as body-reads
-use Rattle.dialogue.proofs.boarding.compacted.Reads as compacted-reads
-use Rattle.dialogue.proofs.boarding.mark.Reads as mark-reads
-use Rattle.dialogue.proofs.boarding.next.Reads as next-reads
-use Rattle.dialogue.proofs.boarding.numbers.Reads as numbers-reads
-use Rattle.dialogue.proofs.boarding.removed.Reads as removed-reads
-use Rattle.dialogue.proofs.boarding.reported.Reads as reported-reads
-use Rattle.dialogue.proofs.turning.stay.Reads as stay-reads
-use Rattle.session.proofs.agree.Reads as agree-reads
-use Rattle.telling.proofs.bad.Reads as bad-reads
 
 enum-told : tie.Need-enum-told
 enum-told c = search needs

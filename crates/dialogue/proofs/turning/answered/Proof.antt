@@ -2,22 +2,6 @@ use native.Mathlib.Omega.{arith}
 use borrow.Author.Needs.{needs}
 use Rattle.dialogue.proofs.turning.answered.Statement.{statement}
 use Rattle.dialogue.proofs.turning.answered.Tie as tie
-use Rattle.dialogue.proofs.turning.answered.Reads as reads
-use Rattle.dialogue.proofs.turning.answered.Lts as lts
-use Rattle.command.proofs.parse.Reads as parse-reads
-use Rattle.dialogue.proofs.routing.heard.Reads as heard-reads
-use Rattle.dialogue.proofs.routing.judged.Reads as judged-reads
-use Rattle.dialogue.proofs.routing.picked.Reads as picked-reads
-use Rattle.dialogue.proofs.state.with_pcc.Reads as with-pcc-reads
-use Rattle.dialogue.proofs.state.with_pce.Reads as with-pce-reads
-use Rattle.dialogue.proofs.turning.about_board.Reads as about-board-reads
-use Rattle.dialogue.proofs.turning.stay.Reads as stay-reads
-use Rattle.dialogue.proofs.writing.added.Reads as added-reads
-use Rattle.dialogue.proofs.writing.begun.Reads as begun-reads
-use Rattle.dialogue.proofs.writing.finished.Reads as finished-reads
-use Rattle.dialogue.proofs.writing.shown.Reads as shown-reads
-use Rattle.session.proofs.agree.Reads as agree-reads
-use Rattle.showing.proofs.opened.Reads as opened-reads
 
 parse-requires : tie.Need-parse-requires
 parse-requires c κs = search needs

@@ -2,14 +2,6 @@ use native.Mathlib.Omega.{arith}
 use borrow.Author.Needs.{needs}
 use Rattle.dialogue.proofs.writing.added.Statement.{statement}
 use Rattle.dialogue.proofs.writing.added.Tie as tie
-use Rattle.dialogue.proofs.writing.added.Reads as reads
-use Rattle.dialogue.proofs.writing.added.Lts as lts
-use Rattle.dialogue.proofs.state.fit.Reads as fit-reads
-use Rattle.dialogue.proofs.state.with_writer.Reads as with-writer-reads
-use Rattle.dialogue.proofs.writing.segment_in.Reads as segment-in-reads
-use Rattle.telling.proofs.one.Reads as one-reads
-use Rattle.telling.proofs.refusal.Reads as refusal-reads
-use Rattle.writer.proofs.add.Reads as add-reads
 
 fit-requires : tie.Need-fit-requires
 fit-requires c κs = search needs

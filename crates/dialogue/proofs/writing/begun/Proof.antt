@@ -2,15 +2,6 @@ use native.Mathlib.Omega.{arith}
 use borrow.Author.Needs.{needs}
 use Rattle.dialogue.proofs.writing.begun.Statement.{statement}
 use Rattle.dialogue.proofs.writing.begun.Tie as tie
-use Rattle.dialogue.proofs.writing.begun.Reads as reads
-use Rattle.dialogue.proofs.writing.begun.Lts as lts
-use Rattle.dialogue.proofs.state.fit.Reads as fit-reads
-use Rattle.dialogue.proofs.state.with_writer.Reads as with-writer-reads
-use Rattle.dialogue.proofs.writing.fresh.Reads as fresh-reads
-use Rattle.dialogue.proofs.writing.narrow.Reads as narrow-reads
-use Rattle.telling.proofs.one.Reads as one-reads
-use Rattle.telling.proofs.refusal.Reads as refusal-reads
-use Rattle.writer.proofs.begin.Reads as begin-reads
 
 narrow-requires : tie.Need-narrow-requires
 narrow-requires c κs = search needs

@@ -5,8 +5,6 @@ use native.Mathlib.Omega.{arith}
 use borrow.Author.Needs.{needs}
 use Rattle.dialogue.proofs.writing.fill.Statement.{statement}
 use Rattle.dialogue.proofs.writing.fill.Tie as tie
-use Rattle.dialogue.proofs.writing.fill.Reads as reads
-use Rattle.dialogue.proofs.writing.fill.Lts as lts
 
 abbrev Inv-loop : tie.InvT-loop
 Inv-loop buffer₀ x i₀ buffer i = (i ≤ length buffer) × (length buffer ≡ length buffer₀)

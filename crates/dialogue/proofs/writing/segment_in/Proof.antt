@@ -2,13 +2,6 @@ use native.Mathlib.Omega.{arith}
 use borrow.Author.Needs.{needs}
 use Rattle.dialogue.proofs.writing.segment_in.Statement.{statement}
 use Rattle.dialogue.proofs.writing.segment_in.Tie as tie
-use Rattle.dialogue.proofs.writing.segment_in.Reads as reads
-use Rattle.dialogue.proofs.writing.segment_in.Lts as lts
-use Rattle.decimal.proofs.is_none.Reads as is-none-reads
-use Rattle.decimal.proofs.structure.Reads as structure-reads
-use Rattle.dialogue.proofs.writing.nai_in.Reads as nai-in-reads
-use Rattle.dialogue.proofs.writing.sid_in.Reads as sid-in-reads
-use Rattle.words.proofs.word.Reads as word-reads
 
 sid-in-requires : tie.Need-sid-in-requires
 sid-in-requires c κs = search needs

@@ -2,16 +2,6 @@ use mathlib.Core.Path.{_∙_, sym}
 use borrow.Author.Needs.{needs}
 use Rattle.forms.proofs.form.is_formed.Statement.{statement}
 use Rattle.forms.proofs.form.is_formed.Tie as tie
-use Rattle.forms.proofs.form.is_formed.Reads as reads
-use Rattle.forms.proofs.form.is_formed.Lts as lts
-use Rattle.forms.proofs.form.nothing.Reads as nothing-reads
-use Rattle.forms.proofs.form.number_octets.Reads as number-octets-reads
-use Rattle.forms.proofs.form.numbers_octets.Reads as numbers-octets-reads
-use Rattle.forms.proofs.form.octets_only.Reads as octets-only-reads
-use Rattle.forms.proofs.form.one_number.Reads as one-number-reads
-use Rattle.forms.proofs.form.segment.Reads as segment-reads
-use Rattle.forms.proofs.form.side_size.Reads as side-size-reads
-use Rattle.forms.proofs.form.two_numbers.Reads as two-numbers-reads
 
 enum-told : tie.Need-enum-told
 enum-told c = search needs

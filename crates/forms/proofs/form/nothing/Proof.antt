@@ -7,10 +7,6 @@ use Rattle.forms.specs.Forms.{formed}
 use borrow.Author.Needs.{needs}
 use Rattle.forms.proofs.form.nothing.Statement.{statement}
 use Rattle.forms.proofs.form.nothing.Tie as tie
-use Rattle.forms.proofs.form.nothing.Reads as reads
-use Rattle.forms.proofs.form.nothing.Lts as lts
-use Rattle.octets.proofs.both.Reads as both-reads
-use Rattle.words.proofs.count.Reads as count-reads
 
 count-requires : tie.Need-count-requires
 count-requires c κs = search needs

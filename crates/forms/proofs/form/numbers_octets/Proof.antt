@@ -9,13 +9,6 @@ use Rattle.forms.specs.Forms.{formed}
 use borrow.Author.Needs.{needs}
 use Rattle.forms.proofs.form.numbers_octets.Statement.{statement}
 use Rattle.forms.proofs.form.numbers_octets.Tie as tie
-use Rattle.forms.proofs.form.numbers_octets.Reads as reads
-use Rattle.forms.proofs.form.numbers_octets.Lts as lts
-use Rattle.decimal.proofs.is_number.Reads as is-number-reads
-use Rattle.hexadecimal.proofs.is_octets.Reads as is-octets-reads
-use Rattle.octets.proofs.both.Reads as both-reads
-use Rattle.words.proofs.count.Reads as count-reads
-use Rattle.words.proofs.word.Reads as word-reads
 
 count-requires : tie.Need-count-requires
 count-requires c κs = search needs

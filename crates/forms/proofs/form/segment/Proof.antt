@@ -8,15 +8,6 @@ use Rattle.forms.specs.Forms.{formed}
 use borrow.Author.Needs.{needs}
 use Rattle.forms.proofs.form.segment.Statement.{statement}
 use Rattle.forms.proofs.form.segment.Tie as tie
-use Rattle.forms.proofs.form.segment.Reads as reads
-use Rattle.forms.proofs.form.segment.Lts as lts
-use Rattle.decimal.proofs.at_most.Reads as at-most-reads
-use Rattle.decimal.proofs.is_structure.Reads as is-structure-reads
-use Rattle.hexadecimal.proofs.is_nai.Reads as is-nai-reads
-use Rattle.hexadecimal.proofs.is_sid.Reads as is-sid-reads
-use Rattle.octets.proofs.both.Reads as both-reads
-use Rattle.words.proofs.count.Reads as count-reads
-use Rattle.words.proofs.word.Reads as word-reads
 
 word-requires : tie.Need-word-requires
 word-requires c κs = search needs

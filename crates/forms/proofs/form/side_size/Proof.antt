@@ -10,14 +10,6 @@ use Rattle.forms.specs.Forms.{formed}
 use borrow.Author.Needs.{needs}
 use Rattle.forms.proofs.form.side_size.Statement.{statement}
 use Rattle.forms.proofs.form.side_size.Tie as tie
-use Rattle.forms.proofs.form.side_size.Reads as reads
-use Rattle.forms.proofs.form.side_size.Lts as lts
-use Rattle.decimal.proofs.at_most.Reads as at-most-reads
-use Rattle.octets.proofs.both.Reads as both-reads
-use Rattle.octets.proofs.either.Reads as either-reads
-use Rattle.words.proofs.count.Reads as count-reads
-use Rattle.words.proofs.same.Reads as same-reads
-use Rattle.words.proofs.word.Reads as word-reads
 
 word-requires : tie.Need-word-requires
 word-requires c κs = search needs

@@ -4,10 +4,6 @@ use mathlib.Core.Path.{_≡_, refl, sym, _∙_, ap}
 use borrow.Author.Needs.{needs}
 use Rattle.forms.proofs.verb.board_named.Statement.{statement}
 use Rattle.forms.proofs.verb.board_named.Tie as tie
-use Rattle.forms.proofs.verb.board_named.Reads as reads
-use Rattle.forms.proofs.verb.board_named.Lts as lts
-use Rattle.forms.proofs.verb.choose.Reads as choose-reads
-use Rattle.words.proofs.same.Reads as same-reads
 
 slice-aggregate-same : tie.Need-slice-aggregate-same
 slice-aggregate-same c = search needs

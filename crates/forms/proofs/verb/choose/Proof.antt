@@ -1,7 +1,5 @@
 use Rattle.forms.proofs.verb.choose.Statement.{statement}
 use Rattle.forms.proofs.verb.choose.Tie as tie
-use Rattle.forms.proofs.verb.choose.Reads as reads
-use Rattle.forms.proofs.verb.choose.Lts as lts
 
 returns : tie.Need-returns
 returns c = rw (c .if1 .taken)

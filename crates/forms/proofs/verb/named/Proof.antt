@@ -5,11 +5,6 @@ use Rattle.forms.specs.Forms.{verbOf}
 use borrow.Author.Needs.{needs}
 use Rattle.forms.proofs.verb.named.Statement.{statement}
 use Rattle.forms.proofs.verb.named.Tie as tie
-use Rattle.forms.proofs.verb.named.Reads as reads
-use Rattle.forms.proofs.verb.named.Lts as lts
-use Rattle.forms.proofs.verb.board_named.Reads as board-named-reads
-use Rattle.forms.proofs.verb.choose.Reads as choose-reads
-use Rattle.words.proofs.same.Reads as same-reads
 
 slice-aggregate-same : tie.Need-slice-aggregate-same
 slice-aggregate-same c = search needs
