@@ -108,6 +108,16 @@ typedef struct strundevi_segment {
     uint8_t structure[STRUNDEVI_STRUCTURE_OCTETS];
 } strundevi_segment;
 
+/* What a segment names beside its octets. */
+typedef struct strundevi_outline {
+    uint8_t loose;
+    uint8_t verify;
+    uint8_t nt;
+    uint16_t behaviour;
+    uint8_t hassid;
+    uint8_t structured;
+} strundevi_outline;
+
 /* The verdict, with the number of segments, and the segment asked for; refused: a segment of zeros. */
 typedef struct strundevi_picked {
     strundevi_verdict verdict;
@@ -167,7 +177,8 @@ strundevi_session strundevi_raw_agree(strundevi_opened pcc, strundevi_opened pce
 strundevi_verdict strundevi_raw_judge(const uint8_t *octets, size_t length, uint8_t ero, strundevi_session session, uint64_t pst);
 strundevi_picked strundevi_raw_segment_at(const uint8_t *octets, size_t length, uint8_t ero, strundevi_session session, uint64_t pst, uint64_t i);
 strundevi_written strundevi_raw_begin(uint8_t *buffer, size_t size, strundevi_writer writer, uint8_t ero);
-strundevi_written strundevi_raw_add(uint8_t *buffer, size_t size, strundevi_writer writer, strundevi_segment segment);
+strundevi_written strundevi_raw_add(uint8_t *buffer, size_t size, strundevi_writer writer, strundevi_outline outline, const uint8_t *sid,
+                                    const uint8_t *nai, const uint8_t *structure);
 strundevi_written strundevi_raw_finish(uint8_t *buffer, size_t size, strundevi_writer writer);
 void strundevi_raw_empty(uint32_t *keys, uint64_t *versions, uint16_t *lengths, uint64_t *version, uint64_t *floor);
 strundevi_verdict strundevi_raw_report(uint32_t *keys, uint64_t *versions, uint16_t *lengths, uint64_t *version, uint64_t *floor, uint8_t *store,
@@ -235,7 +246,9 @@ static inline strundevi_written strundevi_begin(uint8_t *buffer, size_t size, st
 /* Adds a segment: 8, 9, 7, 11, 16. */
 static inline strundevi_written strundevi_add(uint8_t *buffer, size_t size, strundevi_writer writer, strundevi_segment segment) {
     uint8_t none[1];
-    return strundevi_raw_add(strundevi_into(buffer, none), strundevi_lent(buffer, size), writer, segment);
+    strundevi_outline outline = {segment.loose, segment.verify, segment.nt, segment.behaviour, segment.hassid, segment.structured};
+    return strundevi_raw_add(strundevi_into(buffer, none), strundevi_lent(buffer, size), writer, outline, segment.sid, segment.nai,
+                             segment.structure);
 }
 
 /* Finishes the route, whose octets are those before the writer's place: 16, 5. */

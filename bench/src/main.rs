@@ -141,7 +141,7 @@ impl Bench {
         let library = |buffer: &mut [u8]| {
             let mut written = raw::begin(buffer, raw::Writer { ero: ERO, at: 0 }, ERO);
             for _ in 0..n {
-                written = raw::add(buffer, written.writer, *black_box(&segment));
+                written = raw::add(buffer, written.writer, black_box(&segment));
                 assert_eq!(written.verdict.number, 0);
             }
             raw::finish(buffer, written.writer).writer.at

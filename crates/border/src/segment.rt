@@ -1,7 +1,9 @@
-// A segment. Octets kept for a part that is absent or shorter are 0 in an answer, and cross as they are on the way in.
+// A segment. It is handed out whole; on the way in its octets are lent, and what it names beside them crosses as an outline.
+// Octets kept for a part that is absent or shorter are 0 in an answer.
 ghost use mathlib.Core.Path.{_≡_};
-ghost use Rattle.border.specs.Records.{segmentIn, segmentOut};
+ghost use Rattle.border.specs.Records.{outlineIn, segmentOut};
 use super::flag;
+use subobject::Outline;
 use subobject::Segment;
 
 #[repr(C)]
@@ -17,22 +19,26 @@ pub struct SegmentRecord {
     pub structure: [u8; 4],
 }
 
-pub fn segment_in(g: SegmentRecord) -> Segment
-    ensures segment { λ r. ⌜ r ≡ segmentIn g ⌝ }
+#[repr(C)]
+pub struct OutlineRecord {
+    pub loose: u8,
+    pub verify: u8,
+    pub nt: u8,
+    pub behaviour: u16,
+    pub hassid: u8,
+    pub structured: u8,
+}
+
+pub fn outline_in(o: OutlineRecord) -> Outline
+    ensures outline { λ r. ⌜ r ≡ outlineIn o ⌝ }
 {
-    let sid = g.sid;
-    let nai = g.nai;
-    let structure = g.structure;
-    Segment {
-        loose: flag::yes(g.loose),
-        verify: flag::yes(g.verify),
-        nt: g.nt,
-        behaviour: g.behaviour,
-        hassid: flag::yes(g.hassid),
-        sid: sid,
-        nai: nai,
-        structured: flag::yes(g.structured),
-        structure: structure,
+    Outline {
+        loose: flag::yes(o.loose),
+        verify: flag::yes(o.verify),
+        nt: o.nt,
+        behaviour: o.behaviour,
+        hassid: flag::yes(o.hassid),
+        structured: flag::yes(o.structured),
     }
 }
 

@@ -8,6 +8,7 @@ use Rattle.table.specs.Table.{emptyBoard}
 use Rattle.session.specs.Sessions.{sessionOf}
 use Rattle.open.specs.Open.{openOf}
 use Rattle.route.specs.Routes.{judgeOf, segmentOf}
+use Rattle.subobject.specs.Segments.{segmentWith}
 use Rattle.writer.specs.Writing.{beginAnswer, beginBuffer, addAnswer, addBuffer, finishAnswer, finishBuffer}
 use Rattle.board.specs.Report.{reportAnswer, reportStore}
 use Rattle.board.specs.Remove.{removeAnswer}
@@ -16,8 +17,8 @@ use Rattle.board.specs.Next.{nextAnswer}
 use Rattle.border.specs.declared.verdict.VerdictRecord.{VerdictRecord}
 use Rattle.border.specs.declared.opened.OpenedRecord.{OpenedRecord}
 use Rattle.border.specs.declared.agreement.SessionRecord.{SessionRecord}
-use Rattle.border.specs.declared.segment.SegmentRecord.{SegmentRecord}
-use Rattle.border.specs.Records.{isYes, openedIn, openedOut, sessionIn, sessionOut, segmentIn, verdictOut}
+use Rattle.border.specs.declared.segment.OutlineRecord.{OutlineRecord}
+use Rattle.border.specs.Records.{isYes, openedIn, openedOut, sessionIn, sessionOut, outlineIn, verdictOut}
 use Rattle.strundevi.specs.declared.routes.PickedRecord.{PickedRecord}
 use Rattle.strundevi.specs.declared.writing.WriterRecord.{WriterRecord}
 use Rattle.strundevi.specs.declared.writing.WrittenRecord.{WrittenRecord}
@@ -52,9 +53,10 @@ pub begin-determined : (b : List ℕ) (w : WriterRecord) (ero : ℕ)
     → One (writtenOut (beginAnswer b (writerIn w) (isYes ero))) × One (beginBuffer b (writerIn w) (isYes ero))
 begin-determined b w ero = (one _, one _)
 
-pub add-determined : (b : List ℕ) (w : WriterRecord) (g : SegmentRecord)
-    → One (writtenOut (addAnswer b (writerIn w) (segmentIn g))) × One (addBuffer b (writerIn w) (segmentIn g))
-add-determined b w g = (one _, one _)
+pub add-determined : (b : List ℕ) (w : WriterRecord) (o : OutlineRecord) (sid nai structure : List ℕ)
+    → One (writtenOut (addAnswer b (writerIn w) (segmentWith (outlineIn o) sid nai structure)))
+    × One (addBuffer b (writerIn w) (segmentWith (outlineIn o) sid nai structure))
+add-determined b w o sid nai structure = (one _, one _)
 
 pub finish-determined : (b : List ℕ) (w : WriterRecord) → One (writtenOut (finishAnswer b (writerIn w))) × One (finishBuffer b (writerIn w))
 finish-determined b w = (one _, one _)

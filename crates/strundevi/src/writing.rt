@@ -1,9 +1,10 @@
 // Writing a route: begun, given one segment at a time, and finished. The writer's small state goes in and comes back.
 ghost use mathlib.Core.Path.{_≡_};
+ghost use Rattle.subobject.specs.Segments.{segmentWith};
 ghost use Rattle.writer.specs.Writing.{beginAnswer, beginBuffer, addAnswer, addBuffer, finishAnswer, finishBuffer};
-ghost use Rattle.border.specs.Records.{isYes, segmentIn};
+ghost use Rattle.border.specs.Records.{isYes, outlineIn};
 ghost use Rattle.strundevi.specs.Writers.{writerIn, writtenOut};
-use border::SegmentRecord;
+use border::OutlineRecord;
 use border::VerdictRecord;
 use writer::Writer;
 use writer::Written;
@@ -57,17 +58,27 @@ pub extern "C" fn strundevi_raw_begin(
     written_out(writer::begin(buffer, writer_in(writer), border::yes(ero)))
 }
 
-// Writes a segment from the present place on.
+// Writes a segment from the present place on. The segment's octets are lent.
 #[no_mangle]
 pub extern "C" fn strundevi_raw_add(
     buffer: &mut [u8],
     writer: WriterRecord,
-    segment: SegmentRecord,
+    outline: OutlineRecord,
+    sid: &[u8; 16],
+    nai: &[u8; 40],
+    structure: &[u8; 4],
 ) -> WrittenRecord
-    ensures answer { λ r. ⌜ r ≡ writtenOut (addAnswer (now (buffer .entry)) (writerIn writer) (segmentIn segment)) ⌝ }
-    ensures octets { λ _. ⌜ now (buffer .exit) ≡ addBuffer (now (buffer .entry)) (writerIn writer) (segmentIn segment) ⌝ }
+    ensures answer { λ r. ⌜ r ≡ writtenOut (addAnswer (now (buffer .entry)) (writerIn writer) (segmentWith (outlineIn outline) (now (sid .entry)) (now (nai .entry)) (now (structure .entry)))) ⌝ }
+    ensures octets { λ _. ⌜ now (buffer .exit) ≡ addBuffer (now (buffer .entry)) (writerIn writer) (segmentWith (outlineIn outline) (now (sid .entry)) (now (nai .entry)) (now (structure .entry))) ⌝ }
 {
-    written_out(writer::add(buffer, writer_in(writer), border::segment_in(segment)))
+    written_out(writer::add_parts(
+        buffer,
+        writer_in(writer),
+        border::outline_in(outline),
+        sid,
+        nai,
+        structure,
+    ))
 }
 
 // Writes the length.

@@ -7,6 +7,7 @@ use lib.Dec.{eqb}
 use lib.ListN.{take, replicate}
 use Rattle.octets.specs.Octets.{be16, hi, lo, partOf}
 use Rattle.subobject.specs.declared.head.Head.{Head}
+use Rattle.subobject.specs.declared.segment.Outline.{Outline}
 use Rattle.subobject.specs.declared.segment.Segment.{Segment}
 use Rattle.subobject.specs.Layout.{srv6, naiLength, sidLength, expectedLength, sidPlace, naiPlace, structurePlace, headAt}
 use Rattle.subobject.specs.Rules.{flagF, hasStructure, sumAt}
@@ -51,19 +52,49 @@ noSegment =
 abbrev pub bit : Bool → ℕ
 bit b = cond b 1 0
 
+-- What a segment names beside its octets.
+abbrev pub outlineOf : Segment → Outline
+outlineOf g =
+    record {
+      loose = g .loose;
+      verify = g .verify;
+      nt = g .nt;
+      behaviour = g .behaviour;
+      hassid = g .hassid;
+      structured = g .structured;
+    }
+
+-- The segment of an outline, a SID, an NAI and four bit lengths.
+abbrev pub segmentWith : Outline → List ℕ → List ℕ → List ℕ → Segment
+segmentWith o sid nai structure =
+    record {
+      loose = o .loose;
+      verify = o .verify;
+      nt = o .nt;
+      behaviour = o .behaviour;
+      hassid = o .hassid;
+      sid = sid;
+      nai = nai;
+      structured = o .structured;
+      structure = structure;
+    }
+
 -- The head that a segment is written with: "F follows from NT"; the length is the expected one.
-unfoldable pub headOfSegment : Segment → Head
-headOfSegment g =
+abbrev pub headOfOutline : Outline → Head
+headOfOutline o =
     record {
       kind = srv6;
-      size = expectedLength (g .nt) (bit (not (g .hassid))) (bit (g .structured));
-      nt = g .nt;
-      s = bit (not (g .hassid));
-      f = flagF (g .nt);
-      t = bit (g .structured);
-      v = bit (g .verify);
-      l = bit (g .loose);
+      size = expectedLength (o .nt) (bit (not (o .hassid))) (bit (o .structured));
+      nt = o .nt;
+      s = bit (not (o .hassid));
+      f = flagF (o .nt);
+      t = bit (o .structured);
+      v = bit (o .verify);
+      l = bit (o .loose);
     }
+
+unfoldable pub headOfSegment : Segment → Head
+headOfSegment g = headOfOutline (outlineOf g)
 
 -- The first eight octets. "Padding, reserved octets and unassigned bits are written as 0."
 unfoldable pub fixedOctets : Head → ℕ → List ℕ

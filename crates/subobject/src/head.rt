@@ -4,9 +4,9 @@ ghost use mathlib.Core.Bool.{cond};
 ghost use Prim.Native.Nat.{_+_, _≤_, _<_};
 ghost use lib.ListN.{length};
 ghost use Rattle.subobject.specs.Layout.{headAt, kindOf};
-ghost use Rattle.subobject.specs.Segments.{headOfSegment};
-use super::layout;
-use super::segment::Segment;
+ghost use Rattle.subobject.specs.Segments.{headOfOutline};
+use super::parts;
+use super::segment::Outline;
 
 pub struct Head {
     pub kind: usize,
@@ -63,21 +63,21 @@ pub fn head_at(s: &[u8], at: usize, ero: bool) -> Head
 }
 
 // The head that a segment is written with: F follows from NT, the length is the expected one.
-pub fn head_of(g: Segment) -> Head
-    ensures head { λ r. ⌜ r ≡ headOfSegment g ⌝ }
+pub fn head_of(o: Outline) -> Head
+    ensures head { λ r. ⌜ r ≡ headOfOutline o ⌝ }
     ensures bits { λ r. ⌜ (r .size ≤ 72) × (r .nt < 256) × (r .s ≤ 1) × (r .f ≤ 1) × (r .t ≤ 1) × (r .v ≤ 1) × (r .l ≤ 1) ⌝ }
 {
-    let nt = octets::wide(g.nt);
-    let s = bit(!g.hassid);
-    let t = bit(g.structured);
+    let nt = octets::wide(o.nt);
+    let s = bit(!o.hassid);
+    let t = bit(o.structured);
     Head {
-        kind: layout::SRV6,
-        size: layout::expected(nt, s, t),
+        kind: parts::SRV6,
+        size: parts::expected(nt, s, t),
         nt: nt,
         s: s,
-        f: bit(nt == layout::NO_NAI),
+        f: bit(nt == parts::NO_NAI),
         t: t,
-        v: bit(g.verify),
-        l: bit(g.loose),
+        v: bit(o.verify),
+        l: bit(o.loose),
     }
 }

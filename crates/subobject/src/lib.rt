@@ -8,7 +8,7 @@
 //
 // Its rules refuse by 8, 9, 7, 10 and 11. In an RRO all 8 bits of the first octet are the type, V is ignored, and 10 isn't applied.
 mod head;
-mod layout;
+mod parts;
 mod rule;
 mod segment;
 
@@ -16,17 +16,17 @@ pub use head::Head;
 pub use head::head_at;
 pub use head::head_of;
 pub use head::kind;
-pub use layout::ADJACENCY;
-pub use layout::FIXED_LENGTH;
-pub use layout::LINK_LOCAL;
-pub use layout::MOST_BITS;
-pub use layout::NO_NAI;
-pub use layout::NODE;
-pub use layout::SID_LENGTH;
-pub use layout::SRV6;
-pub use layout::STRUCTURE_LENGTH;
-pub use layout::expected;
-pub use layout::nai_length;
+pub use parts::ADJACENCY;
+pub use parts::FIXED_LENGTH;
+pub use parts::LINK_LOCAL;
+pub use parts::MOST_BITS;
+pub use parts::NO_NAI;
+pub use parts::NODE;
+pub use parts::SID_LENGTH;
+pub use parts::SRV6;
+pub use parts::STRUCTURE_LENGTH;
+pub use parts::expected;
+pub use parts::nai_length;
 pub use rule::eight;
 pub use rule::eleven;
 pub use rule::nine;
@@ -34,4 +34,6 @@ pub use rule::seven;
 pub use rule::structured;
 pub use rule::sum_at;
 pub use rule::ten;
+pub use segment::Outline;
 pub use segment::Segment;
+pub use segment::outline_of;

@@ -4,17 +4,17 @@ ghost use Prim.Native.Nat.{_+_, _<_};
 ghost use lib.ListN.{length};
 ghost use Rattle.subobject.specs.Rules.{rule7, rule8, rule9, rule10, rule11, hasStructure, sumAt};
 use super::head::Head;
-use super::layout;
+use super::parts;
 
 // NT not 0, 2, 4, 6.
 pub fn eight(h: Head) -> bool
     ensures broken { λ r. ⌜ r ≡ rule8 h ⌝ }
 {
     !octets::either(
-        h.nt == layout::NO_NAI,
+        h.nt == parts::NO_NAI,
         octets::either(
-            h.nt == layout::NODE,
-            octets::either(h.nt == layout::ADJACENCY, h.nt == layout::LINK_LOCAL),
+            h.nt == parts::NODE,
+            octets::either(h.nt == parts::ADJACENCY, h.nt == parts::LINK_LOCAL),
         ),
     )
 }
@@ -31,8 +31,8 @@ pub fn seven(h: Head) -> bool
     ensures broken { λ r. ⌜ r ≡ rule7 h ⌝ }
 {
     octets::either(
-        h.f != octets::pick(h.nt == layout::NO_NAI, 1, 0),
-        h.size != layout::expected(h.nt, h.s, h.t),
+        h.f != octets::pick(h.nt == parts::NO_NAI, 1, 0),
+        h.size != parts::expected(h.nt, h.s, h.t),
     )
 }
 
@@ -47,14 +47,14 @@ pub fn ten(h: Head, ero: bool, n: bool) -> bool
 pub fn structured(h: Head) -> bool
     ensures structured { λ r. ⌜ r ≡ hasStructure h ⌝ }
 {
-    layout::structure_there(h.s, h.t)
+    parts::structure_there(h.s, h.t)
 }
 
 // Four bit lengths sum above 128.
 pub fn eleven(h: Head, sum: usize) -> bool
     ensures broken { λ r. ⌜ r ≡ rule11 h sum ⌝ }
 {
-    octets::both(structured(h), sum > layout::MOST_BITS)
+    octets::both(structured(h), sum > parts::MOST_BITS)
 }
 
 // The sum of four octets; past the end they are 0.

@@ -1,5 +1,8 @@
 // What one subobject says: L, V, NT, behaviour, SID or none, NAI, structure or none.
 // Octets kept for a part that is absent or shorter are 0.
+ghost use mathlib.Core.Path.{_≡_};
+ghost use Rattle.subobject.specs.Segments.{outlineOf};
+
 pub struct Segment {
     pub loose: bool,
     pub verify: bool,
@@ -10,4 +13,27 @@ pub struct Segment {
     pub nai: [u8; 40],
     pub structured: bool,
     pub structure: [u8; 4],
+}
+
+// What a segment names beside its octets.
+pub struct Outline {
+    pub loose: bool,
+    pub verify: bool,
+    pub nt: u8,
+    pub behaviour: u16,
+    pub hassid: bool,
+    pub structured: bool,
+}
+
+pub fn outline_of(g: Segment) -> Outline
+    ensures outline { λ r. ⌜ r ≡ outlineOf g ⌝ }
+{
+    Outline {
+        loose: g.loose,
+        verify: g.verify,
+        nt: g.nt,
+        behaviour: g.behaviour,
+        hassid: g.hassid,
+        structured: g.structured,
+    }
 }

@@ -8,6 +8,7 @@ mod route;
 mod state;
 
 pub use route::add;
+pub use route::add_parts;
 pub use route::begin;
 pub use route::finish;
 pub use state::Writer;

@@ -1,39 +1,50 @@
 // What adding and finishing refuse, as a number; 0 where they do not.
 ghost use mathlib.Core.Path.{_≡_};
+ghost use Rattle.subobject.specs.Segments.{headOfOutline, segmentWith};
+ghost use Rattle.layout.specs.Held.{Held};
 ghost use Rattle.writer.specs.Writing.{unfit, addNumber, finishNumber};
 use super::place;
 use super::state::Writer;
-use subobject::Segment;
+use subobject::Head;
+use subobject::Outline;
 
 // A structure without a SID, L or V in an RRO, octets kept for a part that is absent or shorter not 0.
-fn misfit(ero: bool, segment: Segment) -> bool
-    ensures misfit { λ r. ⌜ r ≡ unfit ero segment ⌝ }
+fn misfit(ero: bool, o: Outline, sid: &[u8], nai: &[u8], bits: &[u8]) -> bool
+    requires { ⌜ Held (segmentWith o (now sid) (now nai) (now bits)) ⌝ }
+    ensures misfit { λ r. ⌜ r ≡ unfit ero (segmentWith o (now (sid .entry)) (now (nai .entry)) (now (bits .entry))) ⌝ }
 {
     octets::either(
-        octets::both(segment.structured, !segment.hassid),
+        octets::both(o.structured, !o.hassid),
         octets::either(
-            octets::both(!ero, octets::either(segment.loose, segment.verify)),
-            !layout::tidy(segment),
+            octets::both(!ero, octets::either(o.loose, o.verify)),
+            !layout::tidy(o, sid, nai, bits),
         ),
     )
 }
 
 // Adding: 8, 9, 7, 11, then 16.
-pub fn adding(room: usize, writer: Writer, segment: Segment) -> usize
-    ensures number { λ r. ⌜ r ≡ addNumber room writer segment ⌝ }
+pub fn adding(
+    room: usize,
+    writer: Writer,
+    h: Head,
+    o: Outline,
+    sid: &[u8],
+    nai: &[u8],
+    bits: &[u8],
+) -> usize
+    requires { ⌜ (Held (segmentWith o (now sid) (now nai) (now bits))) × (h ≡ headOfOutline o) ⌝ }
+    ensures number { λ r. ⌜ r ≡ addNumber room writer (segmentWith o (now (sid .entry)) (now (nai .entry)) (now (bits .entry))) ⌝ }
 {
-    let h = subobject::head_of(segment);
     if subobject::eight(h) {
         return answers::NAI_UNKNOWN;
     }
     if subobject::nine(h) {
         return answers::NOTHING_THERE;
     }
-    if misfit(writer.ero, segment) {
+    if misfit(writer.ero, o, sid, nai, bits) {
         return answers::LENGTH_WRONG;
     }
-    let bits = segment.structure;
-    if subobject::eleven(h, subobject::sum_at(&bits, 0)) {
+    if subobject::eleven(h, subobject::sum_at(bits, 0)) {
         return answers::STRUCTURE_TOO_LONG;
     }
     if place::misplaced(writer.at, room) {

@@ -1,12 +1,15 @@
 // Begin, add and finish. An object starts with its class, its type in the high 4 bits of the next octet,
 // and a length of 2 octets that counts the 4 octets of the header.
 ghost use mathlib.Core.Path.{_≡_};
+ghost use Rattle.subobject.specs.Segments.{segmentWith};
+ghost use Rattle.layout.specs.Held.{Held};
 ghost use Rattle.writer.specs.Writing.{beginAnswer, beginBuffer, addAnswer, addBuffer, finishAnswer, finishBuffer};
 use super::place;
 use super::refusal;
 use super::state;
 use super::state::Writer;
 use super::state::Written;
+use subobject::Outline;
 use subobject::Segment;
 
 // ERO is class 7, RRO class 8, both type 1.
@@ -34,22 +37,49 @@ pub fn begin(buf: &mut [u8], writer: Writer, ero: bool) -> Written
     })
 }
 
-// Writes a segment into the rest of the buffer from the present place on.
-pub fn add(buf: &mut [u8], writer: Writer, segment: Segment) -> Written
-    ensures answer { λ r. ⌜ r ≡ addAnswer (now (buf .entry)) writer segment ⌝ }
-    ensures buffer { λ _. ⌜ now (buf .exit) ≡ addBuffer (now (buf .entry)) writer segment ⌝ }
+// Writes a segment into the rest of the buffer from the present place on. The segment's octets are lent: to hand them on by
+// value takes longer than to write them.
+pub fn add_parts(
+    buf: &mut [u8],
+    writer: Writer,
+    o: Outline,
+    sid: &[u8],
+    nai: &[u8],
+    bits: &[u8],
+) -> Written
+    requires { ⌜ Held (segmentWith o (now sid) (now nai) (now bits)) ⌝ }
+    ensures answer { λ r. ⌜ r ≡ addAnswer (now (buf .entry)) writer (segmentWith o (now (sid .entry)) (now (nai .entry)) (now (bits .entry))) ⌝ }
+    ensures buffer { λ _. ⌜ now (buf .exit) ≡ addBuffer (now (buf .entry)) writer (segmentWith o (now (sid .entry)) (now (nai .entry)) (now (bits .entry))) ⌝ }
 {
-    let number = refusal::adding(buf.len(), writer, segment);
+    let h = subobject::head_of(o);
+    let number = refusal::adding(buf.len(), writer, h, o, sid, nai, bits);
     if number != 0 {
         return state::refuse(number, writer);
     }
     let at = writer.at;
-    let h = subobject::head_of(segment);
-    layout::write(&mut buf[at..], segment);
+    layout::write(&mut buf[at..], h, o, sid, nai, bits);
     state::accept(Writer {
         ero: writer.ero,
         at: at + h.size,
     })
+}
+
+// The same, of a segment by value.
+pub fn add(buf: &mut [u8], writer: Writer, segment: Segment) -> Written
+    ensures answer { λ r. ⌜ r ≡ addAnswer (now (buf .entry)) writer segment ⌝ }
+    ensures buffer { λ _. ⌜ now (buf .exit) ≡ addBuffer (now (buf .entry)) writer segment ⌝ }
+{
+    let sid = segment.sid;
+    let nai = segment.nai;
+    let bits = segment.structure;
+    add_parts(
+        buf,
+        writer,
+        subobject::outline_of(segment),
+        &sid,
+        &nai,
+        &bits,
+    )
 }
 
 // Writes the length; the object is the first octets of the buffer, up to the place.

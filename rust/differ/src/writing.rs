@@ -106,7 +106,7 @@ impl Pair {
                 s.verify *= flag;
                 s.hassid *= flag;
                 s.structured *= flag;
-                (self.theirs.add(&mut self.their_buffer, segment), raw::add(&mut self.our_buffer, self.ours, s))
+                (self.theirs.add(&mut self.their_buffer, segment), raw::add(&mut self.our_buffer, self.ours, &s))
             }
             Step::Finish => (self.theirs.finish(&mut self.their_buffer), raw::finish(&mut self.our_buffer, self.ours)),
         };

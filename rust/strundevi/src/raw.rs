@@ -61,6 +61,18 @@ pub struct Picked {
     pub segment: Segment,
 }
 
+/// What a segment names beside its octets.
+#[repr(C)]
+#[derive(Clone, Copy)]
+struct Outline {
+    loose: u8,
+    verify: u8,
+    nt: u8,
+    behaviour: u16,
+    hassid: u8,
+    structured: u8,
+}
+
 #[repr(C)]
 #[derive(Clone, Copy)]
 pub struct Writer {
@@ -122,7 +134,15 @@ extern "C" {
     fn strundevi_raw_judge(octets: *const u8, length: usize, ero: u8, session: Session, pst: u64) -> Verdict;
     fn strundevi_raw_segment_at(octets: *const u8, length: usize, ero: u8, session: Session, pst: u64, i: u64) -> Picked;
     fn strundevi_raw_begin(buffer: *mut u8, size: usize, writer: Writer, ero: u8) -> Written;
-    fn strundevi_raw_add(buffer: *mut u8, size: usize, writer: Writer, segment: Segment) -> Written;
+    fn strundevi_raw_add(
+        buffer: *mut u8,
+        size: usize,
+        writer: Writer,
+        outline: Outline,
+        sid: *const [u8; 16],
+        nai: *const [u8; 40],
+        structure: *const [u8; 4],
+    ) -> Written;
     fn strundevi_raw_finish(buffer: *mut u8, size: usize, writer: Writer) -> Written;
     fn strundevi_raw_empty(keys: *mut Keys, versions: *mut Versions, lengths: *mut Lengths, version: *mut u64, floor: *mut u64);
     fn strundevi_raw_report(
@@ -209,8 +229,10 @@ pub fn begin(buffer: &mut [u8], writer: Writer, ero: u8) -> Written {
 }
 
 #[inline]
-pub fn add(buffer: &mut [u8], writer: Writer, segment: Segment) -> Written {
-    unsafe { strundevi_raw_add(buffer.as_mut_ptr(), buffer.len(), writer, segment) }
+pub fn add(buffer: &mut [u8], writer: Writer, segment: &Segment) -> Written {
+    let Segment { loose, verify, nt, behaviour, hassid, ref sid, ref nai, structured, ref structure } = *segment;
+    let outline = Outline { loose, verify, nt, behaviour, hassid, structured };
+    unsafe { strundevi_raw_add(buffer.as_mut_ptr(), buffer.len(), writer, outline, sid, nai, structure) }
 }
 
 #[inline]

@@ -109,8 +109,8 @@ impl Segment {
     }
 
     #[inline]
-    pub(crate) fn raw(&self) -> raw::Segment {
-        self.0
+    pub(crate) fn raw(&self) -> &raw::Segment {
+        &self.0
     }
 }
 

@@ -13,10 +13,10 @@ use Rattle.layout.proofs.spare.blank.Lts as lts
 use Rattle.octets.proofs.both.Reads as both-reads
 
 abbrev Inv-loop : tie.InvT-loop
-Inv-loop s from clear₀ i₀ clear i = (clear && zeros (drop i s)) ≡ zeros (drop from s)
+Inv-loop s clear₀ i₀ clear i = (clear && zeros (drop i s)) ≡ zeros s
 
 abbrev μ-loop : tie.MeasureT-loop
-μ-loop s from clear₀ i₀ clear i = length s - i
+μ-loop s clear₀ i₀ clear i = length s - i
 
 loop-holds : tie.Need-loop-holds Inv-loop μ-loop
 loop-holds c = refl

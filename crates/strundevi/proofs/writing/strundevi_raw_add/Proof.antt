@@ -1,32 +1,62 @@
+use mathlib.Core.Path.{ap, _∙_}
 use borrow.Author.Needs.{needs}
+use Rattle.subobject.specs.declared.segment.Outline.{Outline}
+use Rattle.subobject.specs.declared.segment.Segment.{Segment}
+use Rattle.subobject.specs.Segments.{segmentWith}
+use Rattle.writer.specs.declared.state.Writer.{Writer}
+use Rattle.writer.specs.Writing.{addAnswer, addBuffer}
+use Rattle.strundevi.specs.Writers.{writerIn, writtenOut}
 use Rattle.strundevi.proofs.writing.strundevi_raw_add.Statement.{statement}
 use Rattle.strundevi.proofs.writing.strundevi_raw_add.Tie as tie
+use Rattle.strundevi.proofs.writing.strundevi_raw_add.Reads as reads
+use Rattle.strundevi.proofs.writing.strundevi_raw_add.Lts as lts
+use Rattle.border.proofs.outline_in.Reads as outline-in-reads
+use Rattle.strundevi.proofs.writing.writer_in.Reads as writer-in-reads
+use Rattle.strundevi.proofs.writing.written_out.Reads as written-out-reads
+use Rattle.writer.proofs.add_parts.Reads as add-parts-reads
 
+-- src/writing.rt:76:9
 writer-in-requires : tie.Need-writer-in-requires
 writer-in-requires c κs = search needs
 
-segment-in-requires : tie.Need-segment-in-requires
-segment-in-requires c κs = search needs
+-- src/writing.rt:77:9
+outline-in-requires : tie.Need-outline-in-requires
+outline-in-requires c κs = search needs
 
-add-requires : tie.Need-add-requires
-add-requires c κs = search needs
+-- src/writing.rt:74:17
+add-parts-requires : tie.Need-add-parts-requires
+add-parts-requires c κs = search needs
 
+-- src/writing.rt:74:5
 written-out-requires : tie.Need-written-out-requires
 written-out-requires c κs = search needs
 
+-- src/writing.rt:62:1
 same-length : tie.Need-same-length
 same-length c = search needs
 
+-- src/writing.rt:62:1
 returns : tie.Need-returns
-returns c = (cc, cc)
+returns c =
+    let e = c .before .before .before .add-parts .ensures in
+    let g : Outline → Segment = λ o. segmentWith o (c .before .before .before .before .before .before .before .before .before .before .before .args .sid .now) (c .before .before .before .before .before .before .before .before .before .before .before .args .nai .now) (c .before .before .before .before .before .before .before .before .before .before .before .args .structure .now) in
+    let b = c .before .before .before .before .before .before .before .before .before .before .before .args .buffer .now in
+    let w = c .before .before .before .before .before .before .before .before .writer-in .result in
+    let o = c .before .before .before .before .before .before .before .outline-in .result in (
+      c .written-out .ensures
+          ∙ ap writtenOut (e .0 ∙ ap (λ (x : Writer). addAnswer b x (g o)) (c .before .before .before .before .before .before .before .before .writer-in .ensures)
+          ∙ ap (λ (x : Outline). addAnswer b (writerIn (c .before .before .before .before .before .before .before .before .before .before .before .args .writer)) (g x)) (c .before .before .before .before .before .before .before .outline-in .ensures)),
+      e .1 ∙ ap (λ (x : Writer). addBuffer b x (g o)) (c .before .before .before .before .before .before .before .before .writer-in .ensures)
+          ∙ ap (λ (x : Outline). addBuffer b (writerIn (c .before .before .before .before .before .before .before .before .before .before .before .args .writer)) (g x)) (c .before .before .before .before .before .before .before .outline-in .ensures),
+    )
 
 pub strundevi-raw-add-spec : {M : Type 1} → statement M
 strundevi-raw-add-spec =
     tie.close
     (tie.spec
     writer-in-requires
-    segment-in-requires
-    add-requires
+    outline-in-requires
+    add-parts-requires
     written-out-requires
     same-length
     returns)

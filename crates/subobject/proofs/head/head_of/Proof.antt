@@ -1,5 +1,4 @@
 use native.Mathlib.Omega.{arith}
-use Rattle.subobject.specs.Segments.{headOfSegment}
 use borrow.Author.Needs.{needs}
 use Rattle.subobject.proofs.head.head_of.Statement.{statement}
 use Rattle.subobject.proofs.head.head_of.Tie as tie
@@ -26,7 +25,6 @@ bit-requires-5 : tie.Need-bit-requires-5
 bit-requires-5 c κs = search needs
 
 returns : tie.Need-returns
-unfolding headOfSegment
 returns c = (cc, omega arith)
 
 pub head-of-spec : {M : Type 1} → statement M

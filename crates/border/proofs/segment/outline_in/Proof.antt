@@ -1,6 +1,6 @@
 use borrow.Author.Needs.{needs}
-use Rattle.border.proofs.segment.segment_in.Statement.{statement}
-use Rattle.border.proofs.segment.segment_in.Tie as tie
+use Rattle.border.proofs.segment.outline_in.Statement.{statement}
+use Rattle.border.proofs.segment.outline_in.Tie as tie
 
 yes-requires : tie.Need-yes-requires
 yes-requires c κs = search needs
@@ -17,6 +17,6 @@ yes-requires-4 c κs = search needs
 returns : tie.Need-returns
 returns c = cc
 
-pub segment-in-spec : {M : Type 1} → statement M
-segment-in-spec =
+pub outline-in-spec : {M : Type 1} → statement M
+outline-in-spec =
     tie.close (tie.spec yes-requires yes-requires-2 yes-requires-3 yes-requires-4 returns)

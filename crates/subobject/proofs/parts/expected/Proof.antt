@@ -4,8 +4,8 @@ use borrow.Author.Tests.{eq-eqb, ne-eqb}
 use Rattle.subobject.specs.Layout.{expectedLength}
 use Rattle.subobject.proofs.Laws.{there-sid}
 use borrow.Author.Needs.{needs}
-use Rattle.subobject.proofs.layout.expected.Statement.{statement}
-use Rattle.subobject.proofs.layout.expected.Tie as tie
+use Rattle.subobject.proofs.parts.expected.Statement.{statement}
+use Rattle.subobject.proofs.parts.expected.Tie as tie
 
 structure-there-requires : tie.Need-structure-there-requires
 structure-there-requires c κs = search needs

@@ -1,8 +1,8 @@
 use native.Mathlib.Omega.{arith}
 use Rattle.octets.proofs.Tests.{tests}
 use Rattle.subobject.specs.Layout.{naiLength}
-use Rattle.subobject.proofs.layout.without_sid.Statement.{statement}
-use Rattle.subobject.proofs.layout.without_sid.Tie as tie
+use Rattle.subobject.proofs.parts.without_sid.Statement.{statement}
+use Rattle.subobject.proofs.parts.without_sid.Tie as tie
 
 returns : tie.Need-returns
 unfolding naiLength

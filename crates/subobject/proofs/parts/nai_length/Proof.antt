@@ -1,8 +1,8 @@
 use native.Mathlib.Omega.{arith}
 use Rattle.octets.proofs.Tests.{tests}
 use Rattle.subobject.specs.Layout.{naiLength}
-use Rattle.subobject.proofs.layout.nai_length.Statement.{statement}
-use Rattle.subobject.proofs.layout.nai_length.Tie as tie
+use Rattle.subobject.proofs.parts.nai_length.Statement.{statement}
+use Rattle.subobject.proofs.parts.nai_length.Tie as tie
 
 returns : tie.Need-returns
 unfolding naiLength
