@@ -1,0 +1,3 @@
+pub mod Standing
+pub mod Answers
+pub mod Spelled

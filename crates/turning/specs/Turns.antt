@@ -1,0 +1,92 @@
+-- What a line of the console does (console.md): "It reads commands from standard input, one to a line, .. and writes exactly one line for each."
+use Prim.Native.Nat.{ℕ}
+use mathlib.Core.Path.{_≡_}
+use mathlib.Core.Bool.{true, false}
+use mathlib.Core.List.{List, []}
+use Rattle.session.specs.declared.Session.{Session}
+use Rattle.session.specs.Sessions.{sessionOf}
+use Rattle.printing.specs.Text.{Behind}
+use Rattle.telling.specs.Lines.{badLine}
+use Rattle.showing.specs.Shown.{openedLine}
+use Rattle.forms.specs.declared.verb.Verb.{Verb}
+use Rattle.forms.specs.declared.verb.Verb.the-variants as v
+use Rattle.command.specs.declared.Command.{Command}
+use Rattle.command.specs.Commands.{commandOf}
+use Rattle.standing.specs.Standing.{Console}
+use Rattle.routing.specs.Routing.{openIn, routeLine, segmentAnswer}
+use Rattle.composing.specs.Composing.{Composing, beginTurn, addTurn, finishTurn, lentLine}
+use Rattle.boarding.specs.Boarding.{Boarding, reportTurn, removeTurn, compactTurn, bodyLine, nextLine, markLine, boardLine}
+
+-- the console after a line, and the line that answers it
+pub record Turned : Type 0 where
+  pub console : Console
+  pub answer : List ℕ
+
+-- A line that changes nothing.
+abbrev pub stays : Console → List ℕ → Turned
+stays k answer = record { console = k; answer = answer }
+
+-- `pcc OCTETS`: "reads an OPEN object; its answer, a refusal too, becomes that side's half of the session"; `0 0 SRV6 N LIMIT`
+abbrev pub pccTurn : Console → List ℕ → Turned
+pccTurn k line = record {
+  console = record { board = k .board; store = k .store; pcc = openIn line; pce = k .pce; writer = k .writer; lent = k .lent };
+  answer = openedLine (openIn line);
+}
+
+-- `pce OCTETS`, the same for the other side
+abbrev pub pceTurn : Console → List ℕ → Turned
+pceTurn k line = record {
+  console = record { board = k .board; store = k .store; pcc = k .pcc; pce = openIn line; writer = k .writer; lent = k .lent };
+  answer = openedLine (openIn line);
+}
+
+-- "the session" of both halves
+abbrev pub sessionIn : Console → Session
+sessionIn k = sessionOf (k .pcc) (k .pce)
+
+-- What a command about the writer leaves, and its line.
+abbrev pub composes : Console → Composing → Turned
+composes k t = record {
+  console = record { board = k .board; store = k .store; pcc = k .pcc; pce = k .pce; writer = t .writer; lent = t .lent };
+  answer = t .answer;
+}
+
+-- What a command about the board leaves, and its line.
+abbrev pub boards : Console → Boarding → Turned
+boards k t = record {
+  console = record { board = t .board; store = t .store; pcc = k .pcc; pce = k .pce; writer = k .writer; lent = k .lent };
+  answer = t .answer;
+}
+
+-- the table of commands, row by row
+abbrev pub turnBy : Verb → Console → Command → List ℕ → ℕ → Turned
+-- "Empty lines, and lines that begin with `#`, are skipped and answered by nothing"
+turnBy v.Skip k c line n = stays k []
+-- "answered `bad line N`, N counting all lines from 1, and changes nothing"
+turnBy v.Bad k c line n = stays k (badLine n)
+turnBy v.Pcc k c line n = pccTurn k line
+turnBy v.Pce k c line n = pceTurn k line
+turnBy v.Ero k c line n = stays k (routeLine true (sessionIn k) c line)
+turnBy v.Rro k c line n = stays k (routeLine false (sessionIn k) c line)
+turnBy v.EroSegment k c line n = stays k (segmentAnswer true (sessionIn k) c line)
+turnBy v.RroSegment k c line n = stays k (segmentAnswer false (sessionIn k) c line)
+turnBy v.Begin k c line n = composes k (beginTurn (k .writer) (k .lent) c)
+turnBy v.Add k c line n = composes k (addTurn (k .writer) (k .lent) c line)
+turnBy v.Finish k c line n = composes k (finishTurn (k .writer) (k .lent))
+turnBy v.Lent k c line n = stays k (lentLine (k .lent))
+turnBy v.Report k c line n = boards k (reportTurn (k .board) (k .store) (sessionIn k) c line)
+turnBy v.Remove k c line n = boards k (removeTurn (k .board) (k .store) c)
+turnBy v.Compact k c line n = boards k (compactTurn (k .board) (k .store) c)
+turnBy v.Body k c line n = stays k (bodyLine (k .board) (k .store) c)
+turnBy v.Next k c line n = stays k (nextLine (k .board) (k .store) c)
+turnBy v.Mark k c line n = stays k (markLine (k .board))
+turnBy v.Board k c line n = stays k (boardLine (k .board))
+
+-- What a line does, the n-th of all.
+unfoldable pub turnOf : Console → List ℕ → ℕ → Turned
+turnOf k line n = turnBy (commandOf line .verb) k (commandOf line) line n
+
+-- The console stands as the turn says, and the octets of its answer, and no others, are laid at the start of a buffer, up to `end`.
+pub record Does (t : Turned) (k : Console) (before after : List ℕ) (end : ℕ) : Type 0 where
+  pub console : k ≡ t .console
+  pub told : Behind before after 0 end (t .answer)
