@@ -1,6 +1,6 @@
 -- The octets that body and next name lie in the store.
 use Prim.Native.Nat.{ℕ, zero, suc, _+_, _*_, _≤_, _<_}
-use mathlib.Core.Path.{_≡_, refl, sym, _∙_, ap}
+use mathlib.Core.Path.{_≡_, refl}
 use mathlib.Core.Bool.{Bool, true, false, cond, not}
 use mathlib.Core.List.{List, []}
 use lib.Dec.{eqb, ltb}
@@ -12,7 +12,7 @@ use Rattle.answers.specs.Verdicts.{kept}
 use Rattle.octets.specs.Octets.{part}
 use Rattle.table.specs.declared.board.Board.{Board}
 use Rattle.table.specs.Sizes.{places, room}
-use Rattle.table.specs.Table.{keyAt, versionAt, lengthAt}
+use Rattle.table.specs.Table.{lengthAt}
 use Rattle.table.specs.Search.{placeOf, nextOf}
 use Rattle.table.proofs.Proper.{proper-sound}
 use Rattle.board.specs.declared.answer.Change.{Change}

@@ -1,18 +1,17 @@
 -- Laws of the writer's commands, in the order of specs/Composing.
-use Prim.Native.Nat.{ℕ, zero, suc, _+_, _≤_, _<_, min}
-use mathlib.Core.Path.{_≡_, refl, sym, _∙_, ap}
+use Prim.Native.Nat.{ℕ, zero, suc, _+_, _<_, min}
+use mathlib.Core.Path.{_≡_, refl}
 use mathlib.Core.Bool.{Bool, true, false, cond, not}
-use mathlib.Core.List.{List, [], _∷_, _++_, append-nil}
+use mathlib.Core.List.{List, _++_, append-nil}
 use lib.Dec.{eqb, ltb, leb}
-use lib.ListN.{length, take, drop, set, getD, replicate, length-replicate, getD-replicate, drop-of-length-le}
+use lib.ListN.{length, take, drop, set, replicate, length-replicate, getD-replicate, drop-of-length-le}
 use lib.Seq.{take-at, take-all}
 use native.Mathlib.Omega.{arith}
 use borrow.Author.Tests.{leb-true, leb-false, lt-ltb, le-ltb, ltb-true, ltb-false}
 use Rattle.answers.specs.Verdicts.{kept}
 use Rattle.octets.proofs.Laws.{copied, copied-more}
-use Rattle.subobject.specs.declared.segment.Segment.{Segment}
 use Rattle.writer.specs.declared.state.Writer.{Writer}
-use Rattle.writer.specs.Writing.{beginNumber, beginAnswer, answered, refusedAs, acceptedAs}
+use Rattle.writer.specs.Writing.{beginNumber, beginAnswer, answered}
 use Rattle.words.specs.Words.{wordOf}
 use Rattle.decimal.specs.Decimal.{isNone, structureOf}
 use Rattle.forms.specs.Forms.{space}

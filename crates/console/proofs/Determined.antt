@@ -1,5 +1,5 @@
--- What the reading of lines and the laying out of answers promise determines what they do: of any two answers that fit a contract, equality, and of
--- any two buffers, equality where the contract speaks of them.
+-- What the reading of lines, the laying out of answers and the turn of a line promise determines what they do: of any two answers that fit a
+-- contract, equality, and of any two buffers, equality where the contract speaks of them.
 use Prim.Native.Nat.{ℕ}
 use mathlib.Core.Path.{_≡_, sym, _∙_, ap}
 use mathlib.Core.Bool.{Bool}
@@ -13,6 +13,8 @@ use Rattle.forms.specs.Forms.{space}
 use Rattle.printing.specs.Text.{Behind}
 use Rattle.command.specs.Commands.{commandOf}
 use Rattle.command.specs.declared.Command.{Command}
+use Rattle.standing.specs.Standing.{Console}
+use Rattle.turning.specs.Turns.{Turned, Does}
 
 pub word-determined : (m : ℕ) (line : List ℕ) (i : ℕ) {a b : List ℕ} → a ≡ wordOf m line i → b ≡ wordOf m line i → a ≡ b
 word-determined m line i p q = p ∙ sym q
@@ -35,3 +37,7 @@ parse-determined line p q = p ∙ sym q
 -- The end of a text, and the text up to it.
 pub text-determined : {before x y more : List ℕ} {at e f : ℕ} → Behind before x at e more → Behind before y at f more → (e ≡ f) × (take e x ≡ take f y)
 text-determined p q = (p .ends ∙ sym (q .ends), p .text ∙ sym (q .text))
+
+-- How the console stands after a line, and the text of its answer.
+pub turn-determined : {t : Turned} {k j : Console} {before x y : List ℕ} {e f : ℕ} → Does t k before x e → Does t j before y f → (k ≡ j) × (e ≡ f) × (take e x ≡ take f y)
+turn-determined p q = (p .console ∙ sym (q .console), text-determined (p .told) (q .told) .0, text-determined (p .told) (q .told) .1)

@@ -11,8 +11,8 @@ use borrow.Author.Tests.{eq-eqb, ne-eqb, leb-true, leb-false}
 use Rattle.answers.specs.declared.verdict.Verdict.{Verdict}
 use Rattle.octets.specs.Octets.{over}
 use Rattle.printing.specs.Text.{Behind}
-use Rattle.telling.specs.Lines.{refusalLine, oneLine, doneLine}
-use Rattle.standing.specs.Answers.{answerLine, countLine, plainLine}
+use Rattle.telling.specs.Lines.{refusalLine}
+use Rattle.standing.specs.Answers.{answerLine}
 
 -- ## Answers
 

@@ -11,10 +11,3 @@ pub fn fit(n: usize, s: &[u8]) -> usize
 {
     if n < s.len() { n } else { s.len() }
 }
-
-// At most `most`.
-pub fn least(n: usize, most: usize) -> usize
-    ensures cut { λ r. ⌜ r ≡ min n most ⌝ }
-{
-    if n < most { n } else { most }
-}

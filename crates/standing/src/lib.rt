@@ -7,7 +7,6 @@ mod state;
 pub use answer::counted;
 pub use answer::plain;
 pub use cut::fit;
-pub use cut::least;
 pub use state::State;
 pub use state::start;
 pub use state::with_board;

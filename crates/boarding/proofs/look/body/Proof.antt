@@ -2,9 +2,9 @@ use Rattle.boarding.proofs.Laws.{body-inside}
 use Rattle.boarding.specs.Boarding.{bodyLine}
 use Rattle.standing.proofs.Laws.{told-refused, told-accepted}
 use Rattle.telling.specs.Lines.{octetsLine}
-use Rattle.board.specs.Body.{bodyNumber, bodyOf}
+use Rattle.board.specs.Body.{bodyOf}
 use lib.ListN.{length}
-use mathlib.Core.Path.{_∙_, ap}
+use mathlib.Core.Path.{ap}
 use native.Mathlib.Omega.{arith}
 use borrow.Author.Needs.{needs}
 use Rattle.boarding.proofs.look.body.Statement.{statement}

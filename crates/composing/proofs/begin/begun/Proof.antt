@@ -2,10 +2,9 @@ use Rattle.composing.proofs.Laws.{begin-trial, begin-keeps, kept-old, k
 use Rattle.composing.specs.Composing.{freshBuffer}
 use Rattle.writer.specs.Writing.{beginAnswer, beginBuffer}
 use lib.Seq.{length-take-le, take-at}
-use lib.ListN.{length, take, drop}
+use lib.ListN.{length, drop}
 use Prim.Native.Nat.{ℕ, _≤_}
-use mathlib.Core.List.{List}
-use mathlib.Core.Path.{_≡_, _∙_, ap, sym}
+use mathlib.Core.Path.{_∙_, ap, sym}
 use native.Mathlib.Omega.{arith}
 use borrow.Author.Needs.{needs}
 use Rattle.composing.proofs.begin.begun.Statement.{statement}

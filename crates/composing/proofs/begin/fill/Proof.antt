@@ -2,7 +2,7 @@ use Rattle.composing.proofs.Laws.{filled-more, filled-all}
 use Rattle.composing.specs.Composing.{freshBuffer}
 use Rattle.octets.proofs.Laws.{copied}
 use lib.ListN.{length, length-set}
-use mathlib.Core.Path.{_≡_, refl, sym, _∙_}
+use mathlib.Core.Path.{_≡_, refl, _∙_}
 use Prim.Native.Nat.{_≤_, _-_}
 use borrow.Author.Needs.{needs}
 use native.Mathlib.Omega.{arith}

@@ -2,8 +2,6 @@ use Rattle.composing.specs.Composing.{finishLine}
 use Rattle.standing.proofs.Laws.{told-refused, told-accepted, take-fit}
 use Rattle.telling.specs.Lines.{octetsLine}
 use lib.ListN.{take}
-use mathlib.Core.List.{List}
-use mathlib.Core.Path.{_≡_, _∙_, ap, sym}
 use borrow.Author.Needs.{needs}
 use Rattle.composing.proofs.end.close.Statement.{statement}
 use Rattle.composing.proofs.end.close.Tie as tie

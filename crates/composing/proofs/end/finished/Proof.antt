@@ -1,9 +1,9 @@
 use Rattle.composing.proofs.Laws.{lent-back}
 use Rattle.standing.proofs.Laws.{take-fit}
-use Rattle.writer.specs.Writing.{finishAnswer, finishBuffer}
+use Rattle.writer.specs.Writing.{finishBuffer}
 use Prim.Native.Nat.{ℕ}
 use mathlib.Core.List.{List}
-use mathlib.Core.Path.{_≡_, _∙_, ap, sym}
+use mathlib.Core.Path.{_∙_, ap, sym}
 use borrow.Author.Needs.{needs}
 use Rattle.composing.proofs.end.finished.Statement.{statement}
 use Rattle.composing.proofs.end.finished.Tie as tie

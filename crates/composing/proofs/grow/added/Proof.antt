@@ -2,10 +2,10 @@ use Rattle.composing.proofs.Laws.{lent-back}
 use Rattle.standing.proofs.Laws.{take-fit}
 use Rattle.writer.specs.Writing.{addAnswer, addBuffer}
 use Rattle.subobject.specs.declared.segment.Segment.{Segment}
-use lib.ListN.{length, take}
+use lib.ListN.{take}
 use Prim.Native.Nat.{ℕ}
 use mathlib.Core.List.{List}
-use mathlib.Core.Path.{_≡_, _∙_, ap, sym}
+use mathlib.Core.Path.{_∙_, ap, sym}
 use borrow.Author.Needs.{needs}
 use Rattle.composing.proofs.grow.added.Statement.{statement}
 use Rattle.composing.proofs.grow.added.Tie as tie

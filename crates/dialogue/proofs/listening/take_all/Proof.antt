@@ -1,7 +1,7 @@
 use Rattle.dialogue.proofs.Laws.{heard-all}
 use Rattle.hearing.specs.Hearing.{heardOf, hearAll}
 use lib.Seq.{length-take-le}
-use lib.ListN.{length, take, drop}
+use lib.ListN.{length, drop}
 use mathlib.Core.Path.{_≡_, refl, sym, _∙_}
 use Prim.Native.Nat.{_≤_, _-_}
 use native.Mathlib.Omega.{arith}

@@ -4,8 +4,8 @@ use Rattle.words.specs.Words.{untilMark, wordOf}
 use Rattle.octets.proofs.Laws.{rest-lent}
 use lib.ListN.{length, drop, take, length-take}
 use mathlib.Core.List.{List}
-use mathlib.Core.Path.{_≡_, sym, refl, _∙_, ap}
-use Prim.Native.Nat.{ℕ, _+_, _-_, _≤_}
+use mathlib.Core.Path.{_∙_, ap}
+use Prim.Native.Nat.{ℕ, _≤_}
 use native.Mathlib.Omega.{arith}
 use borrow.Author.Needs.{needs}
 use Rattle.hearing.proofs.onward.take_in.Statement.{statement}

@@ -10,24 +10,23 @@ use Rattle.forms.specs.declared.verb.Verb.the-variants as v
 use Rattle.session.specs.declared.Session.{Session}
 use lib.ListN.{take}
 use mathlib.Core.Bool.{true, false}
-use mathlib.Core.Path.{_≡_, refl, _∙_}
-use Prim.Native.Nat.{ℕ}
+use mathlib.Core.Path.{refl, _∙_}
 use native.Mathlib.Omega.{arith}
 use borrow.Author.Needs.{needs}
 use Rattle.turning.proofs.answer.answered.Statement.{statement}
 use Rattle.turning.proofs.answer.answered.Tie as tie
 
 parse-requires : tie.Need-parse-requires
-parse-requires c κs = search needs
+parse-requires c κs = tt
 
 agree-requires : tie.Need-agree-requires
-agree-requires c κs = search needs
+agree-requires c κs = tt
 
 enum-told : tie.Need-enum-told
 enum-told c = search needs
 
 ended-requires : tie.Need-ended-requires
-ended-requires c κs = search needs
+ended-requires c κs = tt
 
 enum-told-2 : tie.Need-enum-told-2
 enum-told-2 c = search needs
@@ -36,7 +35,7 @@ bad-requires : tie.Need-bad-requires
 bad-requires c κs = search needs
 
 ended-requires-2 : tie.Need-ended-requires-2
-ended-requires-2 c κs = search needs
+ended-requires-2 c κs = tt
 
 enum-told-3 : tie.Need-enum-told-3
 enum-told-3 c = search needs
@@ -45,13 +44,13 @@ heard-requires : tie.Need-heard-requires
 heard-requires c κs = search needs
 
 with-pcc-requires : tie.Need-with-pcc-requires
-with-pcc-requires c κs = search needs
+with-pcc-requires c κs = tt
 
 opened-requires : tie.Need-opened-requires
 opened-requires c κs = omega (arith, c .before .before .before .before .before .before .before .before .before .before .before .before .before .before .before .before .before .before .before .pre .2)
 
 ended-requires-3 : tie.Need-ended-requires-3
-ended-requires-3 c κs = search needs
+ended-requires-3 c κs = tt
 
 enum-told-4 : tie.Need-enum-told-4
 enum-told-4 c = search needs
@@ -60,13 +59,13 @@ heard-requires-2 : tie.Need-heard-requires-2
 heard-requires-2 c κs = search needs
 
 with-pce-requires : tie.Need-with-pce-requires
-with-pce-requires c κs = search needs
+with-pce-requires c κs = tt
 
 opened-requires-2 : tie.Need-opened-requires-2
 opened-requires-2 c κs = omega (arith, c .before .before .before .before .before .before .before .before .before .before .before .before .before .before .before .before .before .before .before .pre .2)
 
 ended-requires-4 : tie.Need-ended-requires-4
-ended-requires-4 c κs = search needs
+ended-requires-4 c κs = tt
 
 enum-told-5 : tie.Need-enum-told-5
 enum-told-5 c = search needs
@@ -75,7 +74,7 @@ judged-requires : tie.Need-judged-requires
 judged-requires c κs = search needs
 
 ended-requires-5 : tie.Need-ended-requires-5
-ended-requires-5 c κs = search needs
+ended-requires-5 c κs = tt
 
 enum-told-6 : tie.Need-enum-told-6
 enum-told-6 c = search needs
@@ -84,7 +83,7 @@ judged-requires-2 : tie.Need-judged-requires-2
 judged-requires-2 c κs = search needs
 
 ended-requires-6 : tie.Need-ended-requires-6
-ended-requires-6 c κs = search needs
+ended-requires-6 c κs = tt
 
 enum-told-7 : tie.Need-enum-told-7
 enum-told-7 c = search needs
@@ -93,7 +92,7 @@ picked-requires : tie.Need-picked-requires
 picked-requires c κs = search needs
 
 ended-requires-7 : tie.Need-ended-requires-7
-ended-requires-7 c κs = search needs
+ended-requires-7 c κs = tt
 
 enum-told-8 : tie.Need-enum-told-8
 enum-told-8 c = search needs
@@ -102,7 +101,7 @@ picked-requires-2 : tie.Need-picked-requires-2
 picked-requires-2 c κs = search needs
 
 ended-requires-8 : tie.Need-ended-requires-8
-ended-requires-8 c κs = search needs
+ended-requires-8 c κs = tt
 
 enum-told-9 : tie.Need-enum-told-9
 enum-told-9 c = search needs
@@ -111,7 +110,7 @@ begun-requires : tie.Need-begun-requires
 begun-requires c κs = let h = begin-size (c .before .before .before .before .before .before .before .before .before .before .before .before .before .before .before .args .line .now) (c .before .before .before .before .before .before .before .before .before .parse .ensures) (c .before .before .enum-told9 .given .1) in (omega (arith, c .before .before .before .before .before .before .before .before .before .before .before .before .before .before .before .pre .1), omega (arith, c .before .before .before .before .before .before .before .before .before .before .before .before .before .before .before .pre .3))
 
 composed-requires : tie.Need-composed-requires
-composed-requires c κs = search needs
+composed-requires c κs = tt
 
 enum-told-10 : tie.Need-enum-told-10
 enum-told-10 c = search needs
@@ -120,7 +119,7 @@ added-requires : tie.Need-added-requires
 added-requires c κs = (omega (arith, c .before .before .before .before .before .before .before .before .before .before .before .before .before .before .before .before .pre .0), add-form (c .before .before .before .before .before .before .before .before .before .before .before .before .before .before .before .before .args .line .now) (c .before .before .before .before .before .before .before .before .before .before .parse .ensures) (c .before .before .before .enum-told10 .given .1), omega (arith, c .before .before .before .before .before .before .before .before .before .before .before .before .before .before .before .before .pre .3))
 
 composed-requires-2 : tie.Need-composed-requires-2
-composed-requires-2 c κs = search needs
+composed-requires-2 c κs = tt
 
 enum-told-11 : tie.Need-enum-told-11
 enum-told-11 c = search needs
@@ -129,7 +128,7 @@ finished-requires : tie.Need-finished-requires
 finished-requires c κs = search needs
 
 composed-requires-3 : tie.Need-composed-requires-3
-composed-requires-3 c κs = search needs
+composed-requires-3 c κs = tt
 
 enum-told-12 : tie.Need-enum-told-12
 enum-told-12 c = search needs
@@ -138,7 +137,7 @@ shown-requires : tie.Need-shown-requires
 shown-requires c κs = search needs
 
 ended-requires-9 : tie.Need-ended-requires-9
-ended-requires-9 c κs = search needs
+ended-requires-9 c κs = tt
 
 enum-told-13 : tie.Need-enum-told-13
 enum-told-13 c = search needs
@@ -147,7 +146,7 @@ reported-requires : tie.Need-reported-requires
 reported-requires c κs = search needs
 
 boarded-requires : tie.Need-boarded-requires
-boarded-requires c κs = search needs
+boarded-requires c κs = tt
 
 enum-told-14 : tie.Need-enum-told-14
 enum-told-14 c = search needs
@@ -156,7 +155,7 @@ removed-requires : tie.Need-removed-requires
 removed-requires c κs = search needs
 
 boarded-requires-2 : tie.Need-boarded-requires-2
-boarded-requires-2 c κs = search needs
+boarded-requires-2 c κs = tt
 
 enum-told-15 : tie.Need-enum-told-15
 enum-told-15 c = search needs
@@ -165,7 +164,7 @@ compacted-requires : tie.Need-compacted-requires
 compacted-requires c κs = search needs
 
 boarded-requires-3 : tie.Need-boarded-requires-3
-boarded-requires-3 c κs = search needs
+boarded-requires-3 c κs = tt
 
 enum-told-16 : tie.Need-enum-told-16
 enum-told-16 c = search needs
@@ -174,7 +173,7 @@ body-requires : tie.Need-body-requires
 body-requires c κs = search needs
 
 ended-requires-10 : tie.Need-ended-requires-10
-ended-requires-10 c κs = search needs
+ended-requires-10 c κs = tt
 
 enum-told-17 : tie.Need-enum-told-17
 enum-told-17 c = search needs
@@ -183,7 +182,7 @@ next-requires : tie.Need-next-requires
 next-requires c κs = search needs
 
 ended-requires-11 : tie.Need-ended-requires-11
-ended-requires-11 c κs = search needs
+ended-requires-11 c κs = tt
 
 enum-told-18 : tie.Need-enum-told-18
 enum-told-18 c = search needs
@@ -192,7 +191,7 @@ mark-requires : tie.Need-mark-requires
 mark-requires c κs = search needs
 
 ended-requires-12 : tie.Need-ended-requires-12
-ended-requires-12 c κs = search needs
+ended-requires-12 c κs = tt
 
 enum-told-19 : tie.Need-enum-told-19
 enum-told-19 c = search needs
@@ -201,7 +200,7 @@ numbers-requires : tie.Need-numbers-requires
 numbers-requires c κs = search needs
 
 ended-requires-13 : tie.Need-ended-requires-13
-ended-requires-13 c κs = search needs
+ended-requires-13 c κs = tt
 
 returns : tie.Need-returns
 returns c = let a = c .before .before .before .before .before .before .before .before .before .before .before .before .before .before .args in
