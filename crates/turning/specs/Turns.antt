@@ -64,22 +64,39 @@ abbrev pub turnBy : Verb → Console → Command → List ℕ → ℕ → Turned
 turnBy v.Skip k c line n = stays k []
 -- "answered `bad line N`, N counting all lines from 1, and changes nothing"
 turnBy v.Bad k c line n = stays k (badLine n)
+-- `pcc OCTETS`
 turnBy v.Pcc k c line n = pccTurn k line
+-- `pce OCTETS`
 turnBy v.Pce k c line n = pceTurn k line
+-- `ero PST OCTETS`: "judges a route under the session"
 turnBy v.Ero k c line n = stays k (routeLine true (sessionIn k) c line)
+-- `rro PST OCTETS`
 turnBy v.Rro k c line n = stays k (routeLine false (sessionIn k) c line)
+-- `ero-segment PST I OCTETS`: "asks for segment I of a route"
 turnBy v.EroSegment k c line n = stays k (segmentAnswer true (sessionIn k) c line)
+-- `rro-segment PST I OCTETS`
 turnBy v.RroSegment k c line n = stays k (segmentAnswer false (sessionIn k) c line)
+-- `begin ero SIZE` · `begin rro SIZE`
 turnBy v.Begin k c line n = composes k (beginTurn (k .writer) (k .lent) c)
+-- `add L V NT BEHAVIOUR SID NAI STRUCTURE`: "adds a segment"
 turnBy v.Add k c line n = composes k (addTurn (k .writer) (k .lent) c line)
+-- `finish`: "finishes the route; the writer stays where it is"
 turnBy v.Finish k c line n = composes k (finishTurn (k .writer) (k .lent))
+-- `lent`: "shows the writer's whole buffer"
 turnBy v.Lent k c line n = stays k (lentLine (k .lent))
+-- `report KEY PST OCTETS`: "reports a path to the board"
 turnBy v.Report k c line n = boards k (reportTurn (k .board) (k .store) (sessionIn k) c line)
+-- `remove KEY`
 turnBy v.Remove k c line n = boards k (removeTurn (k .board) (k .store) c)
+-- `compact C`
 turnBy v.Compact k c line n = boards k (compactTurn (k .board) (k .store) c)
+-- `body KEY`
 turnBy v.Body k c line n = stays k (bodyLine (k .board) (k .store) c)
+-- `next S W`: "what a follower with mark (S, W) is handed"
 turnBy v.Next k c line n = stays k (nextLine (k .board) (k .store) c)
+-- `mark`: "a fresh mark"
 turnBy v.Mark k c line n = stays k (markLine (k .board))
+-- `board`: "the board's numbers"
 turnBy v.Board k c line n = stays k (boardLine (k .board))
 
 -- What a line does, the n-th of all.
