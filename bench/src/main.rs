@@ -94,11 +94,11 @@ impl Bench {
         }
         let ratio = best[0] / best[1];
         self.worst = self.worst.max(ratio);
-        println!("{duty:<34} {:>10.1} {:>10.1} {ratio:>8.2}", best[0], best[1]);
+        println!("{duty:<36} {:>10.1} {:>10.1} {ratio:>8.2}", best[0], best[1]);
     }
 
     fn title(&self, text: &str) {
-        println!("{text:<34} {:>10} {:>10} {:>8}", "library ns", "Rust ns", "ratio");
+        println!("{text:<36} {:>10} {:>10} {:>8}", "library ns", "Rust ns", "ratio");
     }
 
     fn judge(&mut self, duty: &str, route: &[u8]) {
@@ -131,20 +131,26 @@ impl Bench {
         );
     }
 
-    fn write(&mut self, duty: &str, n: usize) {
-        let mut ours = [0u8; 2048];
-        let mut theirs = [0u8; 2048];
+    /// Writing `n` segments that are a SID and nothing else, or have every part.
+    fn write(&mut self, duty: &str, n: usize, whole: bool) {
+        let mut ours = vec![0u8; 8192];
+        let mut theirs = vec![0u8; 8192];
         let mut sid = [0; 16];
         sid.copy_from_slice(&E[12..]);
-        let segment = raw::Segment { behaviour: 1, hassid: 1, sid, ..raw::Segment::ZERO };
-        let other = reference::Segment { behaviour: 1, has_sid: true, sid, ..reference::Segment::default() };
+        let mut segment = raw::Segment { behaviour: 1, hassid: 1, sid, ..raw::Segment::ZERO };
+        let mut other = reference::Segment { behaviour: 1, has_sid: true, sid, ..reference::Segment::default() };
+        if whole {
+            segment = raw::Segment { nt: 6, nai: [7; 40], structured: 1, structure: [40, 24, 16, 48], ..segment };
+            other = reference::Segment { nt: 6, nai: [7; 40], structured: true, structure: [40, 24, 16, 48], ..other };
+        }
         let library = |buffer: &mut [u8]| {
-            let mut written = raw::begin(buffer, raw::Writer { ero: ERO, at: 0 }, ERO);
+            let mut writer = raw::begin(buffer, raw::Writer { ero: ERO, at: 0 }, ERO).writer;
             for _ in 0..n {
-                written = raw::add(buffer, written.writer, black_box(&segment));
+                let written = raw::add(buffer, writer, black_box(&segment));
                 assert_eq!(written.verdict.number, 0);
+                writer = written.writer;
             }
-            raw::finish(buffer, written.writer).writer.at
+            raw::finish(buffer, writer).writer.at
         };
         let reference = |buffer: &mut [u8]| {
             let mut writer = reference::Writer::begin(buffer, reference::Kind::Ero).unwrap();
@@ -261,7 +267,9 @@ fn main() {
     bench.judge("ERO, segments of all forms: 16", &mixed_route(16));
     bench.segment("segment 0 of 1", &plain_route(1), 0);
     bench.segment("segment 15 of 16", &plain_route(16), 15);
-    bench.write("begin, 16 adds, finish", 16);
+    bench.segment("segment 4 of 16, with an NAI", &mixed_route(16), 4);
+    bench.write("begin, 16 adds, finish", 16, false);
+    bench.write("begin, 16 adds of all parts, finish", 16, true);
     bench.board(PLACES, "full board", &random_keys());
     println!("worst ratio {:.2}\n", bench.worst);
 
@@ -270,7 +278,7 @@ fn main() {
         bench.judge(&format!("ERO, segments: {n}"), &plain_route(n));
     }
     for n in [1, 64] {
-        bench.write(&format!("begin, adds, finish: {n}"), n);
+        bench.write(&format!("begin, adds, finish: {n}"), n, false);
     }
     for used in [1, 32, 64, 96] {
         bench.board(used, &format!("places: {used}"), &random_keys());

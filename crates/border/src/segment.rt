@@ -1,6 +1,7 @@
 // A segment. It is handed out whole; on the way in its octets are lent, and what it names beside them crosses as an outline.
 // Octets kept for a part that is absent or shorter are 0 in an answer.
 ghost use mathlib.Core.Path.{_≡_};
+ghost use Prim.Native.Nat.{_<_};
 ghost use Rattle.border.specs.Records.{outlineIn, segmentOut};
 use super::flag;
 use subobject::Outline;
@@ -31,12 +32,13 @@ pub struct OutlineRecord {
 
 pub fn outline_in(o: OutlineRecord) -> Outline
     ensures outline { λ r. ⌜ r ≡ outlineIn o ⌝ }
+    ensures small { λ r. ⌜ r .behaviour < 65536 ⌝ }
 {
     Outline {
         loose: flag::yes(o.loose),
         verify: flag::yes(o.verify),
         nt: o.nt,
-        behaviour: o.behaviour,
+        behaviour: o.behaviour as usize,
         hassid: flag::yes(o.hassid),
         structured: flag::yes(o.structured),
     }

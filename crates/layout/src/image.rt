@@ -14,7 +14,7 @@ use subobject::Head;
 use subobject::Outline;
 
 // The first eight octets.
-fn fixed(out: &mut [u8], h: Head, behaviour: u16)
+fn fixed(out: &mut [u8], h: Head, behaviour: usize)
     requires { ⌜ (Small h) × (8 ≤ length (now out)) ⌝ }
     ensures fixed { λ _. ⌜ now (out .exit) ≡ over (fixedOctets h behaviour) (now (out .entry)) ⌝ }
 {

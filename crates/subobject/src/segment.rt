@@ -1,6 +1,7 @@
 // What one subobject says: L, V, NT, behaviour, SID or none, NAI, structure or none.
 // Octets kept for a part that is absent or shorter are 0.
 ghost use mathlib.Core.Path.{_≡_};
+ghost use Prim.Native.Nat.{_<_};
 ghost use Rattle.subobject.specs.Segments.{outlineOf};
 
 pub struct Segment {
@@ -15,24 +16,25 @@ pub struct Segment {
     pub structure: [u8; 4],
 }
 
-// What a segment names beside its octets.
+// What a segment names beside its octets. The behaviour is a wide number, so that the compiler keeps the parts apart.
 pub struct Outline {
     pub loose: bool,
     pub verify: bool,
     pub nt: u8,
-    pub behaviour: u16,
+    pub behaviour: usize,
     pub hassid: bool,
     pub structured: bool,
 }
 
 pub fn outline_of(g: Segment) -> Outline
     ensures outline { λ r. ⌜ r ≡ outlineOf g ⌝ }
+    ensures small { λ r. ⌜ r .behaviour < 65536 ⌝ }
 {
     Outline {
         loose: g.loose,
         verify: g.verify,
         nt: g.nt,
-        behaviour: g.behaviour,
+        behaviour: g.behaviour as usize,
         hassid: g.hassid,
         structured: g.structured,
     }

@@ -45,9 +45,9 @@ returns c =
     let o = c .before .before .before .before .before .before .before .outline-in .result in (
       c .written-out .ensures
           ∙ ap writtenOut (e .0 ∙ ap (λ (x : Writer). addAnswer b x (g o)) (c .before .before .before .before .before .before .before .before .writer-in .ensures)
-          ∙ ap (λ (x : Outline). addAnswer b (writerIn (c .before .before .before .before .before .before .before .before .before .before .before .args .writer)) (g x)) (c .before .before .before .before .before .before .before .outline-in .ensures)),
+          ∙ ap (λ (x : Outline). addAnswer b (writerIn (c .before .before .before .before .before .before .before .before .before .before .before .args .writer)) (g x)) (c .before .before .before .before .before .before .before .outline-in .ensures .0)),
       e .1 ∙ ap (λ (x : Writer). addBuffer b x (g o)) (c .before .before .before .before .before .before .before .before .writer-in .ensures)
-          ∙ ap (λ (x : Outline). addBuffer b (writerIn (c .before .before .before .before .before .before .before .before .before .before .before .args .writer)) (g x)) (c .before .before .before .before .before .before .before .outline-in .ensures),
+          ∙ ap (λ (x : Outline). addBuffer b (writerIn (c .before .before .before .before .before .before .before .before .before .before .before .args .writer)) (g x)) (c .before .before .before .before .before .before .before .outline-in .ensures .0),
     )
 
 pub strundevi-raw-add-spec : {M : Type 1} → statement M
