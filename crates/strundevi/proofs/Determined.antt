@@ -19,15 +19,14 @@ use Rattle.border.specs.declared.opened.OpenedRecord.{OpenedRecord}
 use Rattle.border.specs.declared.agreement.SessionRecord.{SessionRecord}
 use Rattle.border.specs.declared.segment.OutlineRecord.{OutlineRecord}
 use Rattle.border.specs.Records.{isYes, openedIn, openedOut, sessionIn, sessionOut, outlineIn, verdictOut}
-use Rattle.strundevi.specs.declared.routes.PickedRecord.{PickedRecord}
-use Rattle.strundevi.specs.declared.writing.WriterRecord.{WriterRecord}
-use Rattle.strundevi.specs.declared.writing.WrittenRecord.{WrittenRecord}
+use Rattle.handing.specs.declared.picking.PickedRecord.{PickedRecord}
+use Rattle.handing.specs.declared.writing.WriterRecord.{WriterRecord}
+use Rattle.handing.specs.declared.writing.WrittenRecord.{WrittenRecord}
 use Rattle.strundevi.specs.declared.boards.PartRecord.{PartRecord}
-use Rattle.strundevi.specs.declared.boards.ChangeRecord.{ChangeRecord}
+use Rattle.handing.specs.declared.change.ChangeRecord.{ChangeRecord}
 use Rattle.strundevi.specs.declared.boards.MarkRecord.{MarkRecord}
-use Rattle.strundevi.specs.Picks.{pickedOut}
-use Rattle.strundevi.specs.Writers.{writerIn, writtenOut}
-use Rattle.strundevi.specs.Boards.{partOut, changeOut, freshOut}
+use Rattle.handing.specs.Handing.{writerIn, writtenOut, pickedOut, changeOut}
+use Rattle.strundevi.specs.Boards.{partOut, freshOut}
 
 -- x and y, both the same value of a definition, are equal.
 abbrev One : {A : Type 0} → A → Type 0

@@ -1,3 +1,1 @@
-pub mod Picks
-pub mod Writers
 pub mod Boards

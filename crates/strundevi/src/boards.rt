@@ -8,10 +8,12 @@ ghost use Rattle.board.specs.Compact.{compactAnswer};
 ghost use Rattle.board.specs.Body.{bodyOf};
 ghost use Rattle.board.specs.Next.{nextAnswer};
 ghost use Rattle.border.specs.Records.{sessionIn, verdictOut};
-ghost use Rattle.strundevi.specs.Boards.{partOut, changeOut, freshOut};
-use board::Handed;
+ghost use Rattle.handing.specs.Handing.{changeOut};
+ghost use Rattle.strundevi.specs.Boards.{partOut, freshOut};
 use border::SessionRecord;
 use border::VerdictRecord;
+use handing::ChangeRecord;
+use handing::change_out;
 
 // Where a path's octets lie in the store; a refusal has none.
 #[repr(C)]
@@ -21,70 +23,11 @@ pub struct PartRecord {
     pub length: usize,
 }
 
-// What next hands out: its kind, then what comes with it.
-#[repr(C)]
-pub struct ChangeRecord {
-    pub number: usize,
-    pub kind: usize,
-    pub key: u64,
-    pub version: u64,
-    pub place: usize,
-    pub length: usize,
-}
-
-// kinds of what next hands out
-const REFUSED: usize = 0;
-
-const PATH: usize = 1;
-
-const REMOVED: usize = 2;
-
-const LEVEL: usize = 3;
-
 // A follower's mark.
 #[repr(C)]
 pub struct MarkRecord {
     pub s: u64,
     pub w: u64,
-}
-
-fn change_out(h: Handed) -> ChangeRecord
-    ensures change { λ r. ⌜ r ≡ changeOut h ⌝ }
-{
-    match h {
-        Handed::Refused(v) => ChangeRecord {
-            number: v.number,
-            kind: REFUSED,
-            key: 0,
-            version: 0,
-            place: 0,
-            length: 0,
-        },
-        Handed::Path(c, o) => ChangeRecord {
-            number: 0,
-            kind: PATH,
-            key: c.key,
-            version: c.version,
-            place: o.place,
-            length: o.length,
-        },
-        Handed::Removed(c) => ChangeRecord {
-            number: 0,
-            kind: REMOVED,
-            key: c.key,
-            version: c.version,
-            place: 0,
-            length: 0,
-        },
-        Handed::Level(version) => ChangeRecord {
-            number: 0,
-            kind: LEVEL,
-            key: 0,
-            version: version,
-            place: 0,
-            length: 0,
-        },
-    }
 }
 
 // Makes the record that of the empty board.

@@ -2,28 +2,11 @@
 ghost use mathlib.Core.Path.{_≡_};
 ghost use Rattle.route.specs.Routes.{judgeOf, segmentOf};
 ghost use Rattle.border.specs.Records.{isYes, sessionIn, verdictOut};
-ghost use Rattle.strundevi.specs.Picks.{pickedOut};
-use border::SegmentRecord;
+ghost use Rattle.handing.specs.Handing.{pickedOut};
 use border::SessionRecord;
 use border::VerdictRecord;
-
-// The verdict, with the segment if it is an acceptance, else with a segment of zeros.
-#[repr(C)]
-pub struct PickedRecord {
-    pub verdict: VerdictRecord,
-    pub segment: SegmentRecord,
-}
-
-fn picked_out(p: route::Picked) -> PickedRecord
-    ensures picked { λ r. ⌜ r ≡ pickedOut p ⌝ }
-{
-    let verdict = p.verdict;
-    let segment = p.segment;
-    PickedRecord {
-        verdict: border::verdict_out(verdict),
-        segment: border::segment_out(segment),
-    }
-}
+use handing::PickedRecord;
+use handing::picked_out;
 
 // The verdict on a route under a session and a setup type. An acceptance is laid out by its count alone, which is
 // quicker than to copy it.

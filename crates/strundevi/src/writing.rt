@@ -3,47 +3,12 @@ ghost use mathlib.Core.Path.{_≡_};
 ghost use Rattle.subobject.specs.Segments.{segmentWith};
 ghost use Rattle.writer.specs.Writing.{beginAnswer, beginBuffer, addAnswer, addBuffer, finishAnswer, finishBuffer};
 ghost use Rattle.border.specs.Records.{isYes, outlineIn};
-ghost use Rattle.strundevi.specs.Writers.{writerIn, writtenOut};
+ghost use Rattle.handing.specs.Handing.{writerIn, writtenOut};
 use border::OutlineRecord;
-use border::VerdictRecord;
-use writer::Writer;
-use writer::Written;
-
-// Of which kind the route is, and the present place.
-#[repr(C)]
-pub struct WriterRecord {
-    pub ero: u8,
-    pub at: usize,
-}
-
-#[repr(C)]
-pub struct WrittenRecord {
-    pub verdict: VerdictRecord,
-    pub writer: WriterRecord,
-}
-
-fn writer_in(w: WriterRecord) -> Writer
-    ensures writer { λ r. ⌜ r ≡ writerIn w ⌝ }
-{
-    Writer {
-        ero: border::yes(w.ero),
-        at: w.at,
-    }
-}
-
-fn written_out(w: Written) -> WrittenRecord
-    ensures written { λ r. ⌜ r ≡ writtenOut w ⌝ }
-{
-    let verdict = w.verdict;
-    let state = w.writer;
-    WrittenRecord {
-        verdict: border::verdict_out(verdict),
-        writer: WriterRecord {
-            ero: border::flag_of(state.ero),
-            at: state.at,
-        },
-    }
-}
+use handing::WriterRecord;
+use handing::WrittenRecord;
+use handing::writer_in;
+use handing::written_out;
 
 // Writes the header with length 4.
 #[no_mangle]

@@ -5,15 +5,9 @@ use Rattle.subobject.specs.declared.segment.Segment.{Segment}
 use Rattle.subobject.specs.Segments.{segmentWith}
 use Rattle.writer.specs.declared.state.Writer.{Writer}
 use Rattle.writer.specs.Writing.{addAnswer, addBuffer}
-use Rattle.strundevi.specs.Writers.{writerIn, writtenOut}
+use Rattle.handing.specs.Handing.{writerIn, writtenOut}
 use Rattle.strundevi.proofs.writing.strundevi_raw_add.Statement.{statement}
 use Rattle.strundevi.proofs.writing.strundevi_raw_add.Tie as tie
-use Rattle.strundevi.proofs.writing.strundevi_raw_add.Reads as reads
-use Rattle.strundevi.proofs.writing.strundevi_raw_add.Lts as lts
-use Rattle.border.proofs.outline_in.Reads as outline-in-reads
-use Rattle.strundevi.proofs.writing.writer_in.Reads as writer-in-reads
-use Rattle.strundevi.proofs.writing.written_out.Reads as written-out-reads
-use Rattle.writer.proofs.add_parts.Reads as add-parts-reads
 
 -- src/writing.rt:76:9
 writer-in-requires : tie.Need-writer-in-requires

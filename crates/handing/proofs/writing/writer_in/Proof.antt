@@ -1,6 +1,6 @@
 use borrow.Author.Needs.{needs}
-use Rattle.strundevi.proofs.writing.writer_in.Statement.{statement}
-use Rattle.strundevi.proofs.writing.writer_in.Tie as tie
+use Rattle.handing.proofs.writing.writer_in.Statement.{statement}
+use Rattle.handing.proofs.writing.writer_in.Tie as tie
 
 yes-requires : tie.Need-yes-requires
 yes-requires c κs = search needs

@@ -1,8 +1,8 @@
 use mathlib.Core.Path.{sym, ap}
-use Rattle.strundevi.specs.Boards.{changeOut}
+use Rattle.handing.specs.Handing.{changeOut}
 use borrow.Author.Needs.{needs}
-use Rattle.strundevi.proofs.boards.change_out.Statement.{statement}
-use Rattle.strundevi.proofs.boards.change_out.Tie as tie
+use Rattle.handing.proofs.change.change_out.Statement.{statement}
+use Rattle.handing.proofs.change.change_out.Tie as tie
 
 enum-known-h : tie.Need-enum-known-h
 enum-known-h c = search needs
