@@ -16,6 +16,7 @@ quietly() {
     "$@" > "$out/log" 2>&1 || { cat "$out/log"; exit 1; }
 }
 
+quietly rt check strundevi
 quietly rt staticlib strundevi
 for name in examples/route tests/boundary; do
     cc -std=c99 -pedantic -Wall -Wextra -Werror -O2 -I include "$name.c" "$archive" -o "$out/$(basename "$name")"
