@@ -14,7 +14,7 @@ use Rattle.session.specs.declared.Session.{Session}
 use Rattle.frame.specs.Checks.{Check, firstBroken}
 use Rattle.frame.specs.Frames.{placesOf, frameChecks}
 use Rattle.route.specs.Routes.{brokenAt, subobjectChecks, lastChecks, checksOf, countOf, judgeOf}
-use Rattle.table.specs.declared.board.Board.{Board}
+use Rattle.table.specs.declared.record.Board.{Board}
 use Rattle.table.specs.Sizes.{places, room, versionMost}
 use Rattle.table.specs.Search.{targetOf}
 use Rattle.board.specs.declared.answer.Answer.{Answer}

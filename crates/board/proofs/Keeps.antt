@@ -15,7 +15,7 @@ use Rattle.answers.specs.Verdicts.{kept}
 use Rattle.session.specs.declared.Session.{Session}
 use Rattle.route.specs.Routes.{judgeOf}
 use Rattle.route.proofs.Answer.{accepted-body}
-use Rattle.table.specs.declared.board.Board.{Board}
+use Rattle.table.specs.declared.record.Board.{Board}
 use Rattle.table.specs.Sizes.{places, room, unit, bodyLeast, versionMost}
 use Rattle.table.specs.Table.{boardOf, Sized, keyAt, versionAt, lengthAt, Empty, Used, Removal, changed, removalB}
 use Rattle.table.specs.Search.{KeyPlace, placeOf, LowestEmpty, OldestRemoval, ReportPlace, keeps, takes, drops, targetOf, floorAfter}

@@ -7,7 +7,7 @@ use lib.ListN.{getD}
 use lib.Dec.{eqb, ltb}
 use borrow.Author.Tests.{lt-ltb, le-ltb, le-leb}
 use native.Mathlib.Omega.{arith}
-use Rattle.table.specs.declared.board.Board.{Board}
+use Rattle.table.specs.declared.record.Board.{Board}
 use Rattle.table.specs.Sizes.{places, storeSize}
 use Rattle.table.specs.Table.{lengthAt}
 use Rattle.table.specs.Search.{placeOf}

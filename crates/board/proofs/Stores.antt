@@ -11,7 +11,7 @@ use Rattle.octets.specs.Octets.{part, placed}
 use Rattle.octets.proofs.Laws.{length-placed, getD-before, getD-behind, part-placed-same}
 use Rattle.session.specs.declared.Session.{Session}
 use Rattle.route.specs.Routes.{judgeOf}
-use Rattle.table.specs.declared.board.Board.{Board}
+use Rattle.table.specs.declared.record.Board.{Board}
 use Rattle.table.specs.Sizes.{room}
 use Rattle.table.specs.Table.{Sized}
 use Rattle.table.specs.Search.{targetOf, placeOf, floorAfter}

@@ -8,7 +8,7 @@ use Rattle.answers.specs.declared.verdict.Verdict.{Verdict}
 use Rattle.answers.specs.Numbers.{notABoard, keyOutOfRange, noPath}
 use Rattle.answers.specs.Verdicts.{refusedBy, acceptedWith, kept}
 use Rattle.octets.specs.Octets.{part}
-use Rattle.table.specs.declared.board.Board.{Board}
+use Rattle.table.specs.declared.record.Board.{Board}
 use Rattle.table.specs.Sizes.{room}
 use Rattle.table.specs.Table.{lengthAt}
 use Rattle.table.specs.Search.{placeOf}

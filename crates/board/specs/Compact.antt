@@ -8,7 +8,7 @@ use lib.Dec.{ltb, leb}
 use Rattle.answers.specs.declared.verdict.Verdict.{Verdict}
 use Rattle.answers.specs.Numbers.{notABoard, markAhead}
 use Rattle.answers.specs.Verdicts.{refusedBy, acceptedWith, kept}
-use Rattle.table.specs.declared.board.Board.{Board}
+use Rattle.table.specs.declared.record.Board.{Board}
 use Rattle.table.specs.Sizes.{places}
 use Rattle.table.specs.Table.{boardOf, keyAt, versionAt, removalB}
 use Rattle.board.specs.declared.answer.Answer.{Answer}

@@ -13,7 +13,7 @@ use lib.Dec.{eqb, ltb, leb}
 use Rattle.answers.specs.declared.verdict.Verdict.{Verdict}
 use Rattle.answers.specs.Numbers.{notABoard, markTooOld, markAhead}
 use Rattle.answers.specs.Verdicts.{refusedBy, acceptedWith}
-use Rattle.table.specs.declared.board.Board.{Board}
+use Rattle.table.specs.declared.record.Board.{Board}
 use Rattle.table.specs.Sizes.{places}
 use Rattle.table.specs.Table.{keyAt, versionAt, lengthAt}
 use Rattle.table.specs.Search.{nextOf}

@@ -7,7 +7,7 @@ use lib.Dec.{eqb}
 use Rattle.answers.specs.declared.verdict.Verdict.{Verdict}
 use Rattle.answers.specs.Numbers.{notABoard, keyOutOfRange, noPath, versionsUsedUp}
 use Rattle.answers.specs.Verdicts.{refusedBy, acceptedWith, kept}
-use Rattle.table.specs.declared.board.Board.{Board}
+use Rattle.table.specs.declared.record.Board.{Board}
 use Rattle.table.specs.Sizes.{versionMost}
 use Rattle.table.specs.Table.{changed}
 use Rattle.table.specs.Search.{placeOf}

@@ -10,7 +10,7 @@ use Rattle.answers.specs.Verdicts.{refusedBy, kept}
 use Rattle.octets.specs.Octets.{placed}
 use Rattle.session.specs.declared.Session.{Session}
 use Rattle.route.specs.Routes.{judgeOf}
-use Rattle.table.specs.declared.board.Board.{Board}
+use Rattle.table.specs.declared.record.Board.{Board}
 use Rattle.table.specs.Sizes.{places, room, versionMost, header}
 use Rattle.table.specs.Table.{changed}
 use Rattle.table.specs.Search.{targetOf, floorAfter}

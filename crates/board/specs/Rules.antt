@@ -5,7 +5,7 @@ use mathlib.Core.List.{List}
 use lib.ListN.{getD}
 use lib.Dec.{eqb, ltb, leb}
 use Rattle.answers.specs.declared.verdict.Verdict.{Verdict}
-use Rattle.table.specs.declared.board.Board.{Board}
+use Rattle.table.specs.declared.record.Board.{Board}
 use Rattle.table.specs.Sizes.{places, storeSize, keyLeast, keyMost}
 use Rattle.table.specs.Table.{lengthAt}
 use Rattle.table.specs.Search.{placeOf}

@@ -10,7 +10,7 @@ use borrow.Author.Tests.{eqb-true, ltb-true}
 use Rattle.answers.specs.declared.verdict.Verdict.{Verdict}
 use Rattle.answers.specs.Verdicts.{kept}
 use Rattle.octets.specs.Octets.{part}
-use Rattle.table.specs.declared.board.Board.{Board}
+use Rattle.table.specs.declared.record.Board.{Board}
 use Rattle.table.specs.Sizes.{places, room}
 use Rattle.table.specs.Table.{lengthAt}
 use Rattle.table.specs.Search.{placeOf, nextOf}

@@ -3,7 +3,7 @@ use Prim.Native.Nat.{ℕ, _*_}
 use mathlib.Core.List.{List}
 use Rattle.session.specs.declared.Session.{Session}
 use Rattle.octets.specs.Octets.{part}
-use Rattle.table.specs.declared.board.Board.{Board}
+use Rattle.table.specs.declared.record.Board.{Board}
 use Rattle.table.specs.Sizes.{room}
 use Rattle.board.specs.declared.answer.Handed.{Handed}
 use Rattle.board.specs.declared.answer.Handed.the-variants.{Refused, Path, Removed, Level}

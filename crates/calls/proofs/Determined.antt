@@ -4,7 +4,7 @@ use mathlib.Core.Path.{_≡_, sym, _∙_}
 use mathlib.Core.List.{List}
 use Rattle.answers.specs.declared.verdict.Verdict.{Verdict}
 use Rattle.session.specs.declared.Session.{Session}
-use Rattle.table.specs.declared.board.Board.{Board}
+use Rattle.table.specs.declared.record.Board.{Board}
 use Rattle.board.specs.declared.answer.Answer.{Answer}
 use Rattle.board.specs.declared.answer.Handed.{Handed}
 use Rattle.board.specs.declared.answer.Mark.{Mark}

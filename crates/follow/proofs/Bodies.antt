@@ -9,7 +9,7 @@ use mathlib.Core.Logic.{_⊎_, ⊎-elim}
 use lib.Dec.{eqb, ltb}
 use borrow.Author.Tests.{eq-eqb, ne-eqb, lt-ltb, le-ltb, le-leb}
 use Rattle.answers.specs.Verdicts.{acceptedWith}
-use Rattle.table.specs.declared.board.Board.{Board}
+use Rattle.table.specs.declared.record.Board.{Board}
 use Rattle.table.specs.Sizes.{places, keyLeast, keyMost}
 use Rattle.table.specs.Table.{keyAt, lengthAt, Used}
 use Rattle.table.specs.Search.{placeOf}

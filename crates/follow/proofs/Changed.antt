@@ -7,7 +7,7 @@ use mathlib.Core.Option.{none}
 use mathlib.Core.Logic.{_⊎_, inl, inr, ⊎-elim}
 use lib.ListN.{length}
 use lib.Seq.{getD-set-same, getD-set-other}
-use Rattle.table.specs.declared.board.Board.{Board}
+use Rattle.table.specs.declared.record.Board.{Board}
 use Rattle.table.specs.Sizes.{places, keyLeast}
 use Rattle.table.specs.Table.{keyAt, versionAt, lengthAt, Used, changed}
 use Rattle.table.specs.Proper.{Proper}

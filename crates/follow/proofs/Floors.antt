@@ -9,7 +9,7 @@ use mathlib.Core.Logic.{_⊎_, inl, inr, ⊎-elim}
 use lib.Dec.{eqb, ltb, leb}
 use borrow.Author.Tests.{eq-eqb, ne-eqb, eqb-true, eqb-false, lt-ltb, le-ltb, ltb-true, leb-true, leb-false, not-true}
 use borrow.Author.Count.{below-more}
-use Rattle.table.specs.declared.board.Board.{Board}
+use Rattle.table.specs.declared.record.Board.{Board}
 use Rattle.table.specs.Table.{keyAt, versionAt, lengthAt}
 use Rattle.table.specs.Search.{ReportPlace, keeps, takes, drops, floorAfter}
 use Rattle.table.proofs.Logic.{true≢false, and-true, same?, test-is}

@@ -6,7 +6,7 @@ use mathlib.Core.Option.{Option, none, some}
 use mathlib.Core.Logic.{_⊎_, inl, inr, ⊎-elim}
 use lib.Dec.{eqb}
 use borrow.Author.Tests.{eq-eqb, ne-eqb}
-use Rattle.table.specs.declared.board.Board.{Board}
+use Rattle.table.specs.declared.record.Board.{Board}
 use Rattle.table.proofs.Logic.{same?, from?}
 use Rattle.follow.specs.Story.{Body, Change, put, gone, Story, begun, did, compactedTo, version, keyOf, bodyOf, held, last}
 use Rattle.follow.specs.Follower.{Follower, fresh, makes, levels, Lacks}

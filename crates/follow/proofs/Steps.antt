@@ -10,7 +10,7 @@ use lib.Seq.{getD-set-same, getD-set-other}
 use borrow.Author.Tests.{ne-eqb}
 use Rattle.octets.specs.Octets.{placed}
 use Rattle.octets.proofs.Laws.{length-placed, part-placed-same, part-placed-other}
-use Rattle.table.specs.declared.board.Board.{Board}
+use Rattle.table.specs.declared.record.Board.{Board}
 use Rattle.table.specs.Sizes.{places, room, keyLeast, bodyLeast}
 use Rattle.table.specs.Table.{lengthAt, changed}
 use Rattle.table.specs.Search.{KeyPlace, placeOf, ReportPlace, keeps, takes, drops, targetOf, floorAfter}

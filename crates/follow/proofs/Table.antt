@@ -9,7 +9,7 @@ use mathlib.Core.Logic.{_⊎_, inl, ⊎-elim}
 use lib.ListN.{length}
 use lib.Dec.{eqb}
 use borrow.Author.Tests.{eqb-true}
-use Rattle.table.specs.declared.board.Board.{Board}
+use Rattle.table.specs.declared.record.Board.{Board}
 use Rattle.table.specs.Sizes.{places, storeSize}
 use Rattle.table.specs.Table.{keyAt, versionAt, lengthAt, Used, Sized}
 use Rattle.table.specs.Search.{Wanted, nextOf}

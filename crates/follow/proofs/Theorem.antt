@@ -11,7 +11,7 @@ use lib.Dec.{eqb, ltb}
 use borrow.Author.Tests.{ne-eqb, lt-ltb, le-ltb}
 use Rattle.answers.specs.Numbers.{markTooOld}
 use Rattle.answers.specs.Verdicts.{refusedBy, acceptedWith, kept}
-use Rattle.table.specs.declared.board.Board.{Board}
+use Rattle.table.specs.declared.record.Board.{Board}
 use Rattle.table.specs.Sizes.{places, storeSize}
 use Rattle.table.specs.Table.{emptyBoard, keyAt, versionAt, lengthAt}
 use Rattle.table.specs.Search.{targetOf, nextOf}

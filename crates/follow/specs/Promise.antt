@@ -11,7 +11,7 @@ use mathlib.Core.Logic.{_↔_}
 use lib.ListN.{length}
 use Rattle.answers.specs.Numbers.{noPath, markTooOld}
 use Rattle.answers.specs.Verdicts.{refusedBy, acceptedWith}
-use Rattle.table.specs.declared.board.Board.{Board}
+use Rattle.table.specs.declared.record.Board.{Board}
 use Rattle.table.specs.Sizes.{storeSize, keyLeast, keyMost}
 use Rattle.table.specs.Table.{Sized}
 use Rattle.table.specs.Proper.{Proper}

@@ -7,7 +7,7 @@ use Prim.Native.Nat.{ℕ}
 use mathlib.Core.Bool.{Bool, cond}
 use mathlib.Core.List.{List, [], _∷_}
 use lib.Dec.{eqb}
-use Rattle.table.specs.declared.board.Board.{Board}
+use Rattle.table.specs.declared.record.Board.{Board}
 use Rattle.table.specs.Proper.{Proper}
 use Rattle.board.specs.declared.answer.Answer.{Answer}
 use Rattle.board.specs.Report.{bodyIn, reportAnswer, reportStore}

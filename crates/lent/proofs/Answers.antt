@@ -11,7 +11,7 @@ use borrow.Author.Tests.{eq-eqb, ne-eqb, ltb-true, leb-true, eqb-false, not-true
 use Rattle.answers.specs.declared.verdict.Verdict.{Verdict}
 use Rattle.answers.specs.Numbers.{notABoard}
 use Rattle.answers.specs.Verdicts.{refusedBy, kept}
-use Rattle.table.specs.declared.board.Board.{Board}
+use Rattle.table.specs.declared.record.Board.{Board}
 use Rattle.table.specs.Sizes.{places, storeSize, keyLeast, keyMost, versionMost}
 use Rattle.table.specs.Table.{boardOf}
 use Rattle.table.specs.Search.{placeOf}

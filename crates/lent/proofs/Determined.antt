@@ -3,7 +3,7 @@ use Prim.Native.Nat.{ℕ}
 use mathlib.Core.Path.{_≡_, sym, ap, _∙_}
 use mathlib.Core.List.{List}
 use Rattle.answers.specs.declared.verdict.Verdict.{Verdict}
-use Rattle.table.specs.declared.board.Board.{Board}
+use Rattle.table.specs.declared.record.Board.{Board}
 use Rattle.board.specs.declared.answer.Answer.{Answer}
 use Rattle.board.specs.declared.answer.Handed.{Handed}
 use Rattle.board.specs.Rules.{answerOf}

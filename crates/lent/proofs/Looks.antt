@@ -11,7 +11,7 @@ use Rattle.answers.specs.declared.verdict.Verdict.{Verdict}
 use Rattle.answers.specs.Numbers.{notABoard}
 use Rattle.answers.specs.Verdicts.{refusedBy, kept}
 use Rattle.octets.specs.Octets.{part}
-use Rattle.table.specs.declared.board.Board.{Board}
+use Rattle.table.specs.declared.record.Board.{Board}
 use Rattle.table.specs.Sizes.{places, room, storeSize}
 use Rattle.table.specs.Table.{keyAt, versionAt, lengthAt}
 use Rattle.table.specs.Search.{placeOf, nextOf}

@@ -15,7 +15,7 @@ use Rattle.octets.proofs.Laws.{rest-lent}
 use Rattle.session.specs.declared.Session.{Session}
 use Rattle.route.specs.Routes.{judgeOf}
 use Rattle.route.proofs.Answer.{accepted-body}
-use Rattle.table.specs.declared.board.Board.{Board}
+use Rattle.table.specs.declared.record.Board.{Board}
 use Rattle.table.specs.Sizes.{places, room, storeSize, keyMost, versionMost, header}
 use Rattle.table.specs.Table.{boardOf}
 use Rattle.table.specs.Search.{targetOf, floorAfter}

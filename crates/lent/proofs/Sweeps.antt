@@ -9,7 +9,7 @@ use lib.ListN.{length, getD, set, drop, length-append, length-set, drop-of-lengt
 use lib.Seq.{drop-cons, set-at, getD-at, set-getD}
 use lib.Dec.{eqb, leb}
 use borrow.Author.Tests.{not-true, not-false}
-use Rattle.table.specs.declared.board.Board.{Board}
+use Rattle.table.specs.declared.record.Board.{Board}
 use Rattle.table.specs.Sizes.{places}
 use Rattle.table.specs.Table.{boardOf, keyAt, versionAt, removalB}
 use Rattle.board.specs.Compact.{dropped, row, compacted}

@@ -2,7 +2,7 @@
 use Prim.Native.Nat.{ℕ}
 use mathlib.Core.Path.{_≡_, sym, _∙_}
 use mathlib.Core.List.{List}
-use Rattle.table.specs.declared.board.Board.{Board}
+use Rattle.table.specs.declared.record.Board.{Board}
 use Rattle.table.specs.Search.{placeIn, targetOf, floorAfter, nextOf}
 
 pub place-determined : (keys : List ℕ) (k x y : ℕ) → x ≡ placeIn keys k → y ≡ placeIn keys k → x ≡ y

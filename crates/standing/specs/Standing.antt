@@ -6,7 +6,7 @@ use lib.ListN.{take, replicate}
 use Rattle.answers.specs.Numbers.{openMalformed}
 use Rattle.session.specs.declared.Opened.{Opened}
 use Rattle.session.specs.Sessions.{openRefused}
-use Rattle.table.specs.declared.board.Board.{Board}
+use Rattle.table.specs.declared.record.Board.{Board}
 use Rattle.table.specs.Sizes.{storeSize}
 use Rattle.table.specs.Table.{emptyBoard}
 use Rattle.writer.specs.declared.state.Writer.{Writer}

@@ -3,7 +3,7 @@ use Prim.Native.Nat.{ℕ}
 use mathlib.Core.Path.{_≡_}
 use mathlib.Core.List.{List}
 use Rattle.answers.proofs.Determined.{determined}
-use Rattle.table.specs.declared.board.Board.{Board}
+use Rattle.table.specs.declared.record.Board.{Board}
 use Rattle.table.specs.Table.{emptyBoard}
 use Rattle.session.specs.Sessions.{sessionOf}
 use Rattle.open.specs.Open.{openOf}

@@ -14,7 +14,7 @@ use Rattle.route.specs.Routes.{judgeOf, checksOf, countOf}
 use Rattle.border.specs.declared.verdict.VerdictRecord.{VerdictRecord}
 use Rattle.border.specs.Records.{verdictOut}
 use Rattle.octets.specs.Octets.{part}
-use Rattle.table.specs.declared.board.Board.{Board}
+use Rattle.table.specs.declared.record.Board.{Board}
 use Rattle.table.specs.Sizes.{places, room}
 use Rattle.table.specs.Table.{lengthAt}
 use Rattle.table.specs.Search.{placeOf}

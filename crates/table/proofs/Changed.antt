@@ -6,7 +6,7 @@ use mathlib.Core.List.{List}
 use mathlib.Core.Logic.{_⊎_, inl, inr, ⊎-elim}
 use lib.ListN.{getD, set, length, length-set}
 use lib.Seq.{getD-set-same, getD-set-other}
-use Rattle.table.specs.declared.board.Board.{Board}
+use Rattle.table.specs.declared.record.Board.{Board}
 use Rattle.table.specs.Sizes.{places, room, keyLeast, keyMost, versionMost, unit, bodyLeast}
 use Rattle.table.specs.Table.{Sized, keyAt, versionAt, lengthAt, Empty, Used, Removal, Path, changed}
 use Rattle.table.specs.Proper.{Proper}

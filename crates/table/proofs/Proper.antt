@@ -8,7 +8,7 @@ use mathlib.Core.Logic.{_⊎_, inl, inr, ⊎-elim}
 use lib.ListN.{getD, replicate, length-replicate, getD-replicate}
 use lib.Dec.{eqb, ltb, leb}
 use borrow.Author.Tests.{eqb-true, eqb-false, leb-true, leb-false, ltb-true, ltb-false, eq-eqb, ne-eqb, lt-ltb, le-leb, not-true, not-false}
-use Rattle.table.specs.declared.board.Board.{Board}
+use Rattle.table.specs.declared.record.Board.{Board}
 use Rattle.table.specs.Sizes.{places, room, keyLeast, keyMost, versionMost, unit, bodyLeast}
 use Rattle.table.specs.Table.{emptyBoard, Sized, keyAt, versionAt, lengthAt, Empty, Used, Removal, Path}
 use Rattle.table.specs.Proper.{Proper, allBelow, placeOk, soundB, distinctB, properB}

@@ -9,7 +9,7 @@ use mathlib.Core.Logic.{_⊎_, inl, inr, ⊎-elim}
 use lib.Dec.{eqb, ltb, leb}
 use borrow.Author.Tests.{eq-eqb, ne-eqb, eqb-true, eqb-false, lt-ltb, le-ltb, ltb-true, ltb-false, le-leb, lt-leb, leb-true, leb-false, not-true, not-false}
 use borrow.Author.Count.{below-more}
-use Rattle.table.specs.declared.board.Board.{Board}
+use Rattle.table.specs.declared.record.Board.{Board}
 use Rattle.table.specs.Sizes.{places}
 use Rattle.table.specs.Table.{keyAt, versionAt, lengthAt, Empty, Used, Removal, Path, New, removalB}
 use Rattle.table.specs.Search.{firstWhere, leastWhere, KeyPlace, placeIn, placeOf, LowestEmpty, emptyOf, OldestRemoval, oldestOf, ReportPlace, keeps, takes, drops, targetOf, floorAfter, Wanted, path, removal, NextChange, wantedB, nextOf}

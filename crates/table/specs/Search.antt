@@ -7,7 +7,7 @@ use mathlib.Core.Bool.{Bool, true, false, not, cond, _&&_, _||_}
 use mathlib.Core.List.{List}
 use lib.ListN.{getD}
 use lib.Dec.{eqb, ltb, leb}
-use Rattle.table.specs.declared.board.Board.{Board}
+use Rattle.table.specs.declared.record.Board.{Board}
 use Rattle.table.specs.Sizes.{places}
 use Rattle.table.specs.Table.{keyAt, versionAt, lengthAt, Empty, Used, Removal, Path, New, removalB}
 

@@ -5,7 +5,7 @@ use mathlib.Core.List.{List}
 use lib.ListN.{take}
 use Rattle.session.specs.declared.Opened.{Opened}
 use Rattle.session.specs.declared.Session.{Session}
-use Rattle.table.specs.declared.board.Board.{Board}
+use Rattle.table.specs.declared.record.Board.{Board}
 use Rattle.writer.specs.declared.state.Writer.{Writer}
 use Rattle.printing.specs.Text.{Behind}
 use Rattle.showing.specs.Shown.{openedLine}

@@ -13,7 +13,7 @@ use Rattle.subobject.specs.Layout.{naiLength, expectedLength, kindOf, headOf, h
 use Rattle.subobject.specs.Rules.{rule7, rule8, rule9, rule10, rule11, hasStructure, sumAt}
 use Rattle.frame.specs.Frames.{headed, fitsIn, apart, apartOf, rule4, rule5, rule6Place, rule6, rule14}
 use Rattle.route.specs.Routes.{rule13, brokenBy, brokenAt, rule12, judgeOf}
-use Rattle.table.specs.declared.board.Board.{Board}
+use Rattle.table.specs.declared.record.Board.{Board}
 use Rattle.table.specs.Table.{boardOf, emptyBoard, removalB}
 use Rattle.table.specs.Search.{firstWhere, leastWhere, placeIn, oldestOf, targetOf, floorAfter, wantedB, nextOf}
 use Rattle.table.specs.Proper.{Proper, allBelow, placeOk, soundB, freshB, newB, distinctB, properB}

@@ -4,12 +4,12 @@
 // and 16, finish by 16 and 5; the place in these answers is 0.
 mod place;
 mod refusal;
-mod route;
 mod state;
+mod writing;
 
-pub use route::add;
-pub use route::add_parts;
-pub use route::begin;
-pub use route::finish;
 pub use state::Writer;
 pub use state::Written;
+pub use writing::add;
+pub use writing::add_parts;
+pub use writing::begin;
+pub use writing::finish;

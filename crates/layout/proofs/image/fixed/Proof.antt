@@ -6,106 +6,79 @@ use native.Mathlib.Omega.{arith}
 use borrow.Author.Needs.{needs}
 use Rattle.layout.proofs.image.fixed.Statement.{statement}
 use Rattle.layout.proofs.image.fixed.Tie as tie
-use Rattle.layout.proofs.image.fixed.Reads as reads
-use Rattle.layout.proofs.image.fixed.Lts as lts
 
--- src/lib.rt:20:15
 mul-out : tie.Need-mul-out
 mul-out c = search needs
 
--- src/lib.rt:20:15
 add-out : tie.Need-add-out
 add-out c = search needs
 
--- src/lib.rt:20:14
 cast-out : tie.Need-cast-out
 cast-out c = search needs
 
--- src/lib.rt:20:5
 slice-write-out : tie.Need-slice-write-out
 slice-write-out c = search needs
 
--- src/lib.rt:21:14
 cast-out-2 : tie.Need-cast-out-2
 cast-out-2 c = search needs
 
--- src/lib.rt:21:5
 slice-write-out-2 : tie.Need-slice-write-out-2
 slice-write-out-2 c = simp length-set (omega arith)
 
--- src/lib.rt:22:15
 mul-out-2 : tie.Need-mul-out-2
 mul-out-2 c = search needs
 
--- src/lib.rt:22:14
 cast-out-3 : tie.Need-cast-out-3
 cast-out-3 c = search needs
 
--- src/lib.rt:22:5
 slice-write-out-3 : tie.Need-slice-write-out-3
 slice-write-out-3 c = simp length-set (omega arith)
 
--- src/lib.rt:23:15
 mul-out-3 : tie.Need-mul-out-3
 mul-out-3 c = search needs
 
--- src/lib.rt:23:25
 mul-out-4 : tie.Need-mul-out-4
 mul-out-4 c = search needs
 
--- src/lib.rt:23:15
 add-out-2 : tie.Need-add-out-2
 add-out-2 c = search needs
 
--- src/lib.rt:23:35
 mul-out-5 : tie.Need-mul-out-5
 mul-out-5 c = search needs
 
--- src/lib.rt:23:15
 add-out-3 : tie.Need-add-out-3
 add-out-3 c = search needs
 
--- src/lib.rt:23:15
 add-out-4 : tie.Need-add-out-4
 add-out-4 c = search needs
 
--- src/lib.rt:23:14
 cast-out-4 : tie.Need-cast-out-4
 cast-out-4 c = search needs
 
--- src/lib.rt:23:5
 slice-write-out-4 : tie.Need-slice-write-out-4
 slice-write-out-4 c = simp length-set (omega arith)
 
--- src/lib.rt:24:5
 slice-write-out-5 : tie.Need-slice-write-out-5
 slice-write-out-5 c = simp length-set (omega arith)
 
--- src/lib.rt:25:5
 slice-write-out-6 : tie.Need-slice-write-out-6
 slice-write-out-6 c = simp length-set (omega arith)
 
--- src/lib.rt:26:14
 cast-out-5 : tie.Need-cast-out-5
 cast-out-5 c = search needs
 
--- src/lib.rt:26:5
 slice-write-out-7 : tie.Need-slice-write-out-7
 slice-write-out-7 c = simp length-set (omega arith)
 
--- src/lib.rt:27:14
 cast-out-6 : tie.Need-cast-out-6
 cast-out-6 c = search needs
 
--- src/lib.rt:27:5
 slice-write-out-8 : tie.Need-slice-write-out-8
 slice-write-out-8 c = simp length-set (omega arith)
 
--- src/lib.rt:16:1
 same-length : tie.Need-same-length
 same-length c = simp length-set
 
--- src/lib.rt:16:1
 returns : tie.Need-returns
 unfolding fixedOctets over
 returns c = sets-eq (fixedOctets (c .before .before .before .before .before .before .before .before .args .h) (c .before .before .before .before .before .before .before .before .args .behaviour)) (c .before .before .before .before .before .before .before .before .args .out .now) 0 (omega arith)

@@ -9,37 +9,27 @@ use Rattle.octets.specs.Octets.{placed}
 use Rattle.layout.proofs.Laws.{own, laid-there, laid-absent, room-there}
 use Rattle.layout.proofs.image.lay_sid.Statement.{statement}
 use Rattle.layout.proofs.image.lay_sid.Tie as tie
-use Rattle.layout.proofs.image.lay_sid.Reads as reads
-use Rattle.layout.proofs.image.lay_sid.Lts as lts
-use Rattle.octets.proofs.lay.Reads as lay-reads
-use Rattle.octets.proofs.part16.Reads as part16-reads
 
--- src/image.rt:47:21
 part16-requires : tie.Need-part16-requires
 part16-requires c κs = search needs
 
--- src/image.rt:48:30
 slice-aggregate-lay : tie.Need-slice-aggregate-lay
 slice-aggregate-lay c = search needs
 
--- src/image.rt:48:9
 lay-requires : tie.Need-lay-requires
 lay-requires c κs =
     let e = own (c .before .before .before .before .before .before .args .sid .now) (c .before .before .part16 .result) 16 (c .before .before .before .before .before .before .pre .0) (c .before .before .part16 .ensures) in
     room-there (c .before .before .before .before .before .before .args .there) (c .before .before .part16 .result) (c .before .before .before .before .before .before .args .at) 16 _ (ap length e ∙ c .before .before .before .before .before .before .pre .0) (c .before .before .before .if1 .taken) (c .before .before .before .before .before .before .pre .1)
 
--- src/image.rt:42:1
 same-length : tie.Need-same-length
 same-length c = search needs
 
--- src/image.rt:42:1
 returns : tie.Need-returns
 returns c =
     let e = own (c .before .before .before .before .before .before .before .before .before .args .sid .now) (c .before .before .before .before .before .part16 .result) 16 (c .before .before .before .before .before .before .before .before .before .pre .0) (c .before .before .before .before .before .part16 .ensures) in
     laid-there (c .before .before .before .before .before .before .before .before .before .args .there) (c .before .before .before .before .before .before .before .before .before .args .out .now) (c .before .before .before .before .before .before .before .before .before .args .sid .now) _ (c .before .before .before .before .before .before .before .before .before .args .at) 16 (c .before .before .before .before .before .before .before .before .before .pre .0) (c .before .before .before .before .before .before .if1 .taken)
     (c .before .before .lay .ensures ∙ ap (λ (l : List ℕ). placed (c .before .before .before .before .before .before .before .before .before .args .out .now) (c .before .before .before .before .before .before .before .before .before .args .at) l) e)
 
--- src/image.rt:42:1
 returns-2 : tie.Need-returns-2
 returns-2 c =
     laid-absent (c .before .before .before .args .there) (c .before .before .before .args .out .now) (c .before .before .before .args .sid .now) (c .before .before .before .args .at) 16 (c .if1 .left)

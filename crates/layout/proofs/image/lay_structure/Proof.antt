@@ -2,27 +2,19 @@ use borrow.Author.Needs.{needs}
 use Rattle.layout.proofs.Laws.{laid-there, laid-absent, room-there}
 use Rattle.layout.proofs.image.lay_structure.Statement.{statement}
 use Rattle.layout.proofs.image.lay_structure.Tie as tie
-use Rattle.layout.proofs.image.lay_structure.Reads as reads
-use Rattle.layout.proofs.image.lay_structure.Lts as lts
-use Rattle.octets.proofs.lay.Reads as lay-reads
 
--- src/image.rt:77:30
 slice-aggregate-lay : tie.Need-slice-aggregate-lay
 slice-aggregate-lay c = search needs
 
--- src/image.rt:77:9
 lay-requires : tie.Need-lay-requires
 lay-requires c κs = search room-there
 
--- src/image.rt:72:1
 same-length : tie.Need-same-length
 same-length c = search needs
 
--- src/image.rt:72:1
 returns : tie.Need-returns
 returns c = search laid-there
 
--- src/image.rt:72:1
 returns-2 : tie.Need-returns-2
 returns-2 c = search laid-absent
 

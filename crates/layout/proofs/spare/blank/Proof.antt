@@ -8,9 +8,6 @@ use Rattle.layout.specs.Spare.{zeros}
 use Rattle.layout.proofs.Laws.{zeros-more, zeros-end}
 use Rattle.layout.proofs.spare.blank.Statement.{statement}
 use Rattle.layout.proofs.spare.blank.Tie as tie
-use Rattle.layout.proofs.spare.blank.Reads as reads
-use Rattle.layout.proofs.spare.blank.Lts as lts
-use Rattle.octets.proofs.both.Reads as both-reads
 
 abbrev Inv-loop : tie.InvT-loop
 Inv-loop s clear₀ i₀ clear i = (clear && zeros (drop i s)) ≡ zeros s

@@ -4,37 +4,25 @@ use Rattle.subobject.specs.Segments.{segmentWith}
 use Rattle.layout.proofs.Laws.{tidy-parts, said-no, said-yes}
 use Rattle.layout.proofs.spare.tidy.Statement.{statement}
 use Rattle.layout.proofs.spare.tidy.Tie as tie
-use Rattle.layout.proofs.spare.tidy.Reads as reads
-use Rattle.layout.proofs.spare.tidy.Lts as lts
-use Rattle.layout.proofs.spare.nai_tidy.Reads as nai-tidy-reads
-use Rattle.layout.proofs.spare.unused.Reads as unused-reads
-use Rattle.octets.proofs.wide.Reads as wide-reads
 
--- src/spare.rt:62:9
 unused-requires : tie.Need-unused-requires
 unused-requires c κs = search needs
 
--- src/spare.rt:63:9
 returns : tie.Need-returns
 returns c = rw (tidy-parts (segmentWith (c .before .before .before .before .before .args .o) (c .before .before .before .before .before .args .sid .now) (c .before .before .before .before .before .args .nai .now) (c .before .before .before .before .before .args .bits .now)) (c .before .before .before .before .before .pre), said-no _ _ (c .before .unused .ensures) (c .if1 .taken))
 
--- src/spare.rt:65:9
 unused-requires-2 : tie.Need-unused-requires-2
 unused-requires-2 c κs = search needs
 
--- src/spare.rt:66:9
 returns-2 : tie.Need-returns-2
 returns-2 c = rw (tidy-parts (segmentWith (c .before .before .before .before .before .before .before .args .o) (c .before .before .before .before .before .before .before .args .sid .now) (c .before .before .before .before .before .before .before .args .nai .now) (c .before .before .before .before .before .before .before .args .bits .now)) (c .before .before .before .before .before .before .before .pre), said-yes _ _ (c .before .before .before .unused .ensures) (c .before .before .if1 .left), said-no _ _ (c .before .unused2 .ensures) (c .if2 .taken))
 
--- src/spare.rt:68:19
 wide-requires : tie.Need-wide-requires
 wide-requires c κs = search needs
 
--- src/spare.rt:68:5
 nai-tidy-requires : tie.Need-nai-tidy-requires
 nai-tidy-requires c κs = search needs
 
--- src/spare.rt:58:1
 returns-3 : tie.Need-returns-3
 returns-3 c = rw (tidy-parts (segmentWith (c .before .before .before .before .before .before .before .before .before .args .o) (c .before .before .before .before .before .before .before .before .before .args .sid .now) (c .before .before .before .before .before .before .before .before .before .args .nai .now) (c .before .before .before .before .before .before .before .before .before .args .bits .now)) (c .before .before .before .before .before .before .before .before .before .pre), said-yes _ _ (c .before .before .before .before .before .unused .ensures) (c .before .before .before .before .if1 .left), said-yes _ _ (c .before .before .before .unused2 .ensures) (c .before .before .if2 .left)) (c .nai-tidy .ensures ∙ rw (c .before .wide .ensures .0))
 

@@ -2,31 +2,22 @@ use Rattle.octets.proofs.Laws.{placed-back}
 use borrow.Author.Needs.{needs}
 use Rattle.octets.proofs.put.lay.Statement.{statement}
 use Rattle.octets.proofs.put.lay.Tie as tie
-use Rattle.octets.proofs.put.lay.Reads as reads
-use Rattle.octets.proofs.put.lay.Lts as lts
-use Rattle.octets.proofs.put.copy.Reads as copy-reads
 
--- src/put.rt:24:10
 sub-copy : tie.Need-sub-copy
 sub-copy c = search needs
 
--- src/put.rt:24:10
 part-copy-start : tie.Need-part-copy-start
 part-copy-start c = search needs
 
--- src/put.rt:24:10
 part-copy-end : tie.Need-part-copy-end
 part-copy-end c = search needs
 
--- src/put.rt:24:5
 copy-requires : tie.Need-copy-requires
 copy-requires c κs = search needs
 
--- src/put.rt:20:1
 same-length : tie.Need-same-length
 same-length c = search needs
 
--- src/put.rt:20:1
 returns : tie.Need-returns
 returns c = let a = c .before .before .before .before .before .before .args in placed-back (a .out .now) _ (a .src .now) (a .at) (c .before .before .copy .ensures)
 

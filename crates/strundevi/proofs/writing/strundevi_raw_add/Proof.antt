@@ -9,27 +9,21 @@ use Rattle.handing.specs.Handing.{writerIn, writtenOut}
 use Rattle.strundevi.proofs.writing.strundevi_raw_add.Statement.{statement}
 use Rattle.strundevi.proofs.writing.strundevi_raw_add.Tie as tie
 
--- src/writing.rt:76:9
 writer-in-requires : tie.Need-writer-in-requires
 writer-in-requires c κs = search needs
 
--- src/writing.rt:77:9
 outline-in-requires : tie.Need-outline-in-requires
 outline-in-requires c κs = search needs
 
--- src/writing.rt:74:17
 add-parts-requires : tie.Need-add-parts-requires
 add-parts-requires c κs = search needs
 
--- src/writing.rt:74:5
 written-out-requires : tie.Need-written-out-requires
 written-out-requires c κs = search needs
 
--- src/writing.rt:62:1
 same-length : tie.Need-same-length
 same-length c = search needs
 
--- src/writing.rt:62:1
 returns : tie.Need-returns
 returns c =
     let e = c .before .before .before .add-parts .ensures in

@@ -9,15 +9,6 @@ use Rattle.writer.specs.Writing.{addNumber, noRoom}
 use Rattle.writer.proofs.Laws.{proper, size-subobject}
 use Rattle.writer.proofs.refusal.adding.Statement.{statement}
 use Rattle.writer.proofs.refusal.adding.Tie as tie
-use Rattle.writer.proofs.refusal.adding.Reads as reads
-use Rattle.writer.proofs.refusal.adding.Lts as lts
-use Rattle.subobject.proofs.eight.Reads as eight-reads
-use Rattle.subobject.proofs.eleven.Reads as eleven-reads
-use Rattle.subobject.proofs.nine.Reads as nine-reads
-use Rattle.subobject.proofs.sum_at.Reads as sum-at-reads
-use Rattle.writer.proofs.place.misplaced.Reads as misplaced-reads
-use Rattle.writer.proofs.place.past.Reads as past-reads
-use Rattle.writer.proofs.refusal.misfit.Reads as misfit-reads
 
 head : (c : tie.Start) → c .args .h ≡ headOfSegment (segmentWith (c .args .o) (c .args .sid .now) (c .args .nai .now) (c .args .bits .now))
 unfolding headOfSegment
@@ -26,42 +17,33 @@ head c = c .pre .1
 sized : (c : tie.Start) → length (subobjectOf (segmentWith (c .args .o) (c .args .sid .now) (c .args .nai .now) (c .args .bits .now))) ≡ c .args .h .size
 sized c = sym (ap (λ (h : Head). h .size) (head c) ∙ size-subobject (segmentWith (c .args .o) (c .args .sid .now) (c .args .nai .now) (c .args .bits .now)) (c .pre .0))
 
--- src/refusal.rt:38:8
 eight-requires : tie.Need-eight-requires
 eight-requires c κs = search needs
 
--- src/refusal.rt:39:9
 returns : tie.Need-returns
 unfolding addNumber
 returns c = simp (← head (c .before .before .before .before .before), sym (c .before .eight .ensures) ∙ c .if1 .taken)
 
--- src/refusal.rt:41:8
 nine-requires : tie.Need-nine-requires
 nine-requires c κs = search needs
 
--- src/refusal.rt:42:9
 returns-2 : tie.Need-returns-2
 unfolding addNumber
 returns-2 c = simp (← head (c .before .before .before .before .before .before .before), sym (c .before .before .before .eight .ensures) ∙ c .before .before .if1 .left, sym (c .before .nine .ensures) ∙ c .if2 .taken)
 
--- src/refusal.rt:44:8
 misfit-requires : tie.Need-misfit-requires
 misfit-requires c κs = search needs
 
--- src/refusal.rt:45:9
 returns-3 : tie.Need-returns-3
 unfolding addNumber
 returns-3 c = simp (← head (c .before .before .before .before .before .before .before .before .before), sym (c .before .before .before .before .before .eight .ensures) ∙ c .before .before .before .before .if1 .left, sym (c .before .before .before .nine .ensures) ∙ c .before .before .if2 .left, sym (c .before .misfit .ensures) ∙ c .if3 .taken)
 
--- src/refusal.rt:47:29
 sum-at-requires : tie.Need-sum-at-requires
 sum-at-requires c κs = search needs
 
--- src/refusal.rt:47:8
 eleven-requires : tie.Need-eleven-requires
 eleven-requires c κs = search needs
 
--- src/refusal.rt:48:9
 returns-4 : tie.Need-returns-4
 unfolding addNumber bitsOf
 returns-4 c = simp (
@@ -73,11 +55,9 @@ returns-4 c = simp (
   sym (c .before .eleven .ensures) ∙ c .if4 .taken,
 )
 
--- src/refusal.rt:50:8
 misplaced-requires : tie.Need-misplaced-requires
 misplaced-requires c κs = search needs
 
--- src/refusal.rt:51:9
 returns-5 : tie.Need-returns-5
 unfolding addNumber bitsOf noRoom
 returns-5 c = simp (
@@ -90,18 +70,15 @@ returns-5 c = simp (
   sym (c .before .misplaced .ensures) ∙ c .if5 .taken,
 )
 
--- src/refusal.rt:53:20
 add-past : tie.Need-add-past
 add-past c =
     let p = proper (c .before .before .before .before .before .before .before .before .before .before .before .before .before .before .before .before .args .writer .at) (c .before .before .before .before .before .before .before .before .before .before .before .before .before .before .before .before .args .room) (sym (c .before .before .before .misplaced .ensures) ∙ c .before .before .if5 .left) in
     let s = small-head (segmentWith (c .before .before .before .before .before .before .before .before .before .before .before .before .before .before .before .before .args .o) (c .before .before .before .before .before .before .before .before .before .before .before .before .before .before .before .before .args .sid .now) (c .before .before .before .before .before .before .before .before .before .before .before .before .before .before .before .before .args .nai .now) (c .before .before .before .before .before .before .before .before .before .before .before .before .before .before .before .before .args .bits .now)) (c .before .before .before .before .before .before .before .before .before .before .before .before .before .before .before .before .args .h) (head (c .before .before .before .before .before .before .before .before .before .before .before .before .before .before .before .before)) (sym (c .before .before .before .before .before .before .before .before .before .before .before .before .eight .ensures) ∙ c .before .before .before .before .before .before .before .before .before .before .before .if1 .left) in
     omega arith
 
--- src/refusal.rt:53:8
 past-requires : tie.Need-past-requires
 past-requires c κs = search needs
 
--- src/refusal.rt:54:9
 returns-6 : tie.Need-returns-6
 unfolding addNumber bitsOf noRoom
 returns-6 c = simp (
@@ -116,7 +93,6 @@ returns-6 c = simp (
   sym (c .before .past .ensures) ∙ c .if6 .taken,
 )
 
--- src/refusal.rt:26:1
 returns-7 : tie.Need-returns-7
 unfolding addNumber bitsOf noRoom
 returns-7 c = simp (

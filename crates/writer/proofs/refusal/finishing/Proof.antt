@@ -4,25 +4,18 @@ use Rattle.writer.specs.Writing.{finishNumber}
 use borrow.Author.Needs.{needs}
 use Rattle.writer.proofs.refusal.finishing.Statement.{statement}
 use Rattle.writer.proofs.refusal.finishing.Tie as tie
-use Rattle.writer.proofs.refusal.finishing.Reads as reads
-use Rattle.writer.proofs.refusal.finishing.Lts as lts
-use Rattle.writer.proofs.place.misplaced.Reads as misplaced-reads
 
--- src/refusal.rt:52:8
 misplaced-requires : tie.Need-misplaced-requires
 misplaced-requires c κs = search needs
 
--- src/refusal.rt:53:9
 returns : tie.Need-returns
 unfolding finishNumber
 returns c = simp (sym (c .before .misplaced .ensures) ∙ c .if1 .taken)
 
--- src/refusal.rt:56:9
 returns-2 : tie.Need-returns-2
 unfolding finishNumber
 returns-2 c = simp (sym (c .before .before .before .misplaced .ensures) ∙ c .before .before .if1 .left, eq-eqb _ _ (c .if2 .taken))
 
--- src/refusal.rt:49:1
 returns-3 : tie.Need-returns-3
 unfolding finishNumber
 returns-3 c = simp (sym (c .before .before .before .misplaced .ensures) ∙ c .before .before .if1 .left, ne-eqb _ _ (c .if2 .left))

@@ -5,60 +5,43 @@ use borrow.Author.Tests.{lt-ltb, le-ltb}
 use Rattle.writer.specs.Writing.{beginNumber, beginAnswer, beginBuffer}
 use Rattle.writer.proofs.Laws.{header-stored}
 use borrow.Author.Needs.{needs}
-use Rattle.writer.proofs.route.begin.Statement.{statement}
-use Rattle.writer.proofs.route.begin.Tie as tie
-use Rattle.writer.proofs.route.begin.Reads as reads
-use Rattle.writer.proofs.route.begin.Lts as lts
-use Rattle.octets.proofs.pick.Reads as pick-reads
-use Rattle.writer.proofs.state.accept.Reads as accept-reads
-use Rattle.writer.proofs.state.refuse.Reads as refuse-reads
+use Rattle.writer.proofs.writing.begin.Statement.{statement}
+use Rattle.writer.proofs.writing.begin.Tie as tie
 
--- src/route.rt:25:9
 refuse-requires : tie.Need-refuse-requires
 refuse-requires c κs = search needs
 
--- src/route.rt:25:9
 returns : tie.Need-returns
 unfolding beginNumber beginAnswer beginBuffer
 returns c = (simp (lt-ltb _ _ (c .before .if1 .taken)) (c .refuse .ensures), simp (lt-ltb _ _ (c .before .if1 .taken)))
 
--- src/route.rt:27:14
 pick-requires : tie.Need-pick-requires
 pick-requires c κs = search needs
 
--- src/route.rt:27:14
 cast-buf : tie.Need-cast-buf
 cast-buf c = search needs
 
--- src/route.rt:27:5
 slice-write-buf : tie.Need-slice-write-buf
 slice-write-buf c = search needs
 
--- src/route.rt:28:5
 slice-write-buf-2 : tie.Need-slice-write-buf-2
 slice-write-buf-2 c = simp length-set (omega arith)
 
--- src/route.rt:29:5
 slice-write-buf-3 : tie.Need-slice-write-buf-3
 slice-write-buf-3 c = simp length-set (omega arith)
 
--- src/route.rt:30:14
 cast-buf-2 : tie.Need-cast-buf-2
 cast-buf-2 c = search needs
 
--- src/route.rt:30:5
 slice-write-buf-4 : tie.Need-slice-write-buf-4
 slice-write-buf-4 c = search needs
 
--- src/route.rt:31:5
 accept-requires : tie.Need-accept-requires
 accept-requires c κs = search needs
 
--- src/route.rt:20:1
 same-length : tie.Need-same-length
 same-length c = search needs
 
--- src/route.rt:20:1
 returns-2 : tie.Need-returns-2
 unfolding beginNumber beginAnswer beginBuffer
 returns-2 c = (simp (le-ltb _ _ (c .before .before .if1 .left)) (c .accept .ensures), simp (le-ltb _ _ (c .before .before .if1 .left)) (header-stored (c .before .before .before .before .args .buf .now) (c .before .before .before .before .args .ero) (c .before .pick .result) (c .before .pick .ensures .0) (c .before .before .if1 .left)))

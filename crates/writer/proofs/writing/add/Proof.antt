@@ -2,38 +2,27 @@ use mathlib.Core.Path.{_≡_, _∙_, ap}
 use borrow.Author.Needs.{needs}
 use Rattle.subobject.specs.Segments.{segmentWith}
 use Rattle.writer.specs.Writing.{addAnswer, addBuffer}
-use Rattle.writer.proofs.route.add.Statement.{statement}
-use Rattle.writer.proofs.route.add.Tie as tie
-use Rattle.writer.proofs.route.add.Reads as reads
-use Rattle.writer.proofs.route.add.Lts as lts
-use Rattle.subobject.proofs.outline_of.Reads as outline-of-reads
-use Rattle.writer.proofs.route.add_parts.Reads as add-parts-reads
+use Rattle.writer.proofs.writing.add.Statement.{statement}
+use Rattle.writer.proofs.writing.add.Tie as tie
 
--- src/route.rt:75:28
 outline-of-requires : tie.Need-outline-of-requires
 outline-of-requires c κs = search needs
 
--- src/route.rt:75:60
 slice-aggregate-add-parts : tie.Need-slice-aggregate-add-parts
 slice-aggregate-add-parts c = search needs
 
--- src/route.rt:75:66
 slice-aggregate-add-parts-2 : tie.Need-slice-aggregate-add-parts-2
 slice-aggregate-add-parts-2 c = search needs
 
--- src/route.rt:75:72
 slice-aggregate-add-parts-3 : tie.Need-slice-aggregate-add-parts-3
 slice-aggregate-add-parts-3 c = search needs
 
--- src/route.rt:75:5
 add-parts-requires : tie.Need-add-parts-requires
 add-parts-requires c κs = search needs
 
--- src/route.rt:68:1
 same-length : tie.Need-same-length
 same-length c = search needs
 
--- src/route.rt:68:1
 returns : tie.Need-returns
 returns c =
     let g = c .before .before .before .before .before .before .before .before .before .before .before .before .args .segment in

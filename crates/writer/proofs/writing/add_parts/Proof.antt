@@ -10,15 +10,8 @@ use Rattle.subobject.specs.Segments.{headOfSegment, segmentWith, subobjectOf}
 use Rattle.writer.specs.Writing.{addNumber, addAnswer, addBuffer, acceptedAs}
 use Rattle.writer.specs.declared.state.Writer.{Writer}
 use Rattle.writer.proofs.Laws.{Taken, taken, size-subobject, answered-refused, answered-accepted, buffer-refused, buffer-accepted}
-use Rattle.writer.proofs.route.add_parts.Statement.{statement}
-use Rattle.writer.proofs.route.add_parts.Tie as tie
-use Rattle.writer.proofs.route.add_parts.Reads as reads
-use Rattle.writer.proofs.route.add_parts.Lts as lts
-use Rattle.layout.proofs.write.Reads as write-reads
-use Rattle.subobject.proofs.head_of.Reads as head-of-reads
-use Rattle.writer.proofs.refusal.adding.Reads as adding-reads
-use Rattle.writer.proofs.state.accept.Reads as accept-reads
-use Rattle.writer.proofs.state.refuse.Reads as refuse-reads
+use Rattle.writer.proofs.writing.add_parts.Statement.{statement}
+use Rattle.writer.proofs.writing.add_parts.Tie as tie
 
 free : (c : tie.Else1) → addNumber (length (c .before .before .before .before .before .before .before .args .buf .now)) (c .before .before .before .before .before .before .before .args .writer) (segmentWith (c .before .before .before .before .before .before .before .args .o) (c .before .before .before .before .before .before .before .args .sid .now) (c .before .before .before .before .before .before .before .args .nai .now) (c .before .before .before .before .before .before .before .args .bits .now)) ≡ 0
 free c = sym (c .before .adding .ensures) ∙ c .if1 .left
@@ -33,19 +26,15 @@ head c = c .head-of .ensures .0
 sized : (c : tie.After-head-of) → c .head-of .result .size ≡ length (subobjectOf (segmentWith (c .before .before .before .before .before .args .o) (c .before .before .before .before .before .args .sid .now) (c .before .before .before .before .before .args .nai .now) (c .before .before .before .before .before .args .bits .now)))
 sized c = ap (λ (h : Head). h .size) (head c) ∙ size-subobject (segmentWith (c .before .before .before .before .before .args .o) (c .before .before .before .before .before .args .sid .now) (c .before .before .before .before .before .args .nai .now) (c .before .before .before .before .before .args .bits .now)) (c .before .before .before .before .before .pre)
 
--- src/route.rt:54:9
 head-of-requires : tie.Need-head-of-requires
 head-of-requires c κs = search needs
 
--- src/route.rt:55:9
 adding-requires : tie.Need-adding-requires
 adding-requires c κs = search needs
 
--- src/route.rt:57:9
 refuse-requires : tie.Need-refuse-requires
 refuse-requires c κs = search needs
 
--- src/route.rt:57:9
 returns : tie.Need-returns
 unfolding addAnswer addBuffer
 returns c = (
@@ -53,37 +42,29 @@ returns c = (
   buffer-refused (c .before .before .adding .result) _ _ _ (c .before .before .adding .ensures) (c .before .if1 .taken),
 )
 
--- src/route.rt:60:19
 sub-write : tie.Need-sub-write
 sub-write c = let p = fits c .place in omega arith
 
--- src/route.rt:60:19
 part-write-start : tie.Need-part-write-start
 part-write-start c = let p = fits c .place in search needs
 
--- src/route.rt:60:19
 part-write-end : tie.Need-part-write-end
 part-write-end c = search needs
 
--- src/route.rt:60:5
 write-requires : tie.Need-write-requires
 write-requires c κs =
     let t = fits (c .before) in
     (c .before .before .before .before .before .before .before .before .pre, c .before .before .before .head-of .ensures .0, ap rule8 (head (c .before .before .before)) ∙ t .r8, simp (rest-lent, length-drop) (omega (arith, t .place .inside, t .end .inside)))
 
--- src/route.rt:63:13
 add-t10 : tie.Need-add-t10
 add-t10 c = let t = fits (c .before .before .before .before .before) in omega (arith, sized (c .before .before .before .before .before .before .before), t .end .most)
 
--- src/route.rt:61:5
 accept-requires : tie.Need-accept-requires
 accept-requires c κs = search needs
 
--- src/route.rt:42:1
 same-length : tie.Need-same-length
 same-length c = search needs
 
--- src/route.rt:42:1
 returns-2 : tie.Need-returns-2
 unfolding addAnswer addBuffer
 returns-2 c =
