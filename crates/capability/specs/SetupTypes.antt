@@ -5,7 +5,7 @@ use mathlib.Core.Bool.{Bool, true, false, _||_}
 use lib.ListN.{length, drop}
 use lib.Dec.{eqb, leb}
 use Rattle.octets.specs.Octets.{octetOf, pad4, part}
-use Rattle.items.specs.Tlvs.{Tlvs, tlvsOf}
+use Rattle.tlvs.specs.Tlvs.{Tlvs, tlvsOf}
 
 -- The type of the TLV.
 abbrev pub pathSetup : ℕ

@@ -9,9 +9,9 @@ use native.Mathlib.Omega.{arith}
 use borrow.Author.Tests.{lt-ltb, le-ltb}
 use Rattle.words.specs.Words.{wordOf, sameOf}
 use Rattle.decimal.specs.Decimal.{valueOf}
-use Rattle.forms.specs.Forms.{space, theEro, verbOf, kindsOf, formed}
-use Rattle.forms.specs.declared.verb.Verb.{Verb}
-use Rattle.forms.specs.declared.verb.Verb.the-variants as v
+use Rattle.command_forms.specs.Forms.{space, theEro, verbOf, kindsOf, formed}
+use Rattle.command_forms.specs.declared.verb.Verb.{Verb}
+use Rattle.command_forms.specs.declared.verb.Verb.the-variants as v
 use Rattle.command.specs.Commands.{skipped, longest, bare, commanded, commandOf}
 
 pub skipped-empty : (l : List ℕ) → length l ≡ 0 → true ≡ skipped l

@@ -6,9 +6,9 @@ use lib.Dec.{eqb, ltb}
 use lib.ListN.{length}
 use Rattle.words.specs.Words.{wordOf, sameOf}
 use Rattle.decimal.specs.Decimal.{valueOf}
-use Rattle.forms.specs.Forms.{space, theEro, verbOf, kindsOf, formed}
-use Rattle.forms.specs.declared.verb.Verb.{Verb}
-use Rattle.forms.specs.declared.verb.Verb.the-variants as v
+use Rattle.command_forms.specs.Forms.{space, theEro, verbOf, kindsOf, formed}
+use Rattle.command_forms.specs.declared.verb.Verb.{Verb}
+use Rattle.command_forms.specs.declared.verb.Verb.the-variants as v
 use Rattle.command.specs.declared.Command.{Command}
 
 -- "Empty lines, and lines that begin with `#`, are skipped"

@@ -9,12 +9,12 @@ use Rattle.octets.specs.Octets.{over}
 use Rattle.words.specs.Words.{wordOf}
 use Rattle.decimal.specs.Decimal.{valueOf, structureOf}
 use Rattle.hexadecimal.specs.Hexadecimal.{isOctets, octetsOf}
-use Rattle.forms.specs.Forms.{space}
+use Rattle.command_forms.specs.Forms.{space}
 use Rattle.printing.specs.Text.{Behind}
 use Rattle.command.specs.Commands.{commandOf}
 use Rattle.command.specs.declared.Command.{Command}
-use Rattle.standing.specs.Standing.{Console}
-use Rattle.turning.specs.Turns.{Turned, Does}
+use Rattle.console_state.specs.Standing.{Console}
+use Rattle.console_turn.specs.Turns.{Turned, Does}
 
 pub word-determined : (m : ℕ) (line : List ℕ) (i : ℕ) {a b : List ℕ} → a ≡ wordOf m line i → b ≡ wordOf m line i → a ≡ b
 word-determined m line i p q = p ∙ sym q

@@ -15,23 +15,23 @@ use Rattle.subobject.specs.declared.segment.Segment.{Segment}
 use Rattle.subobject.specs.Layout.{naiLength}
 use Rattle.writer.specs.declared.state.Written.{Written}
 use Rattle.route.specs.declared.picking.Picked.{Picked}
-use Rattle.board.specs.declared.answer.Handed.{Handed}
-use Rattle.board.specs.declared.answer.Handed.the-variants.{Refused, Path, Removed, Level}
-use Rattle.board.specs.Body.{bodyNumber, bodyOf}
-use Rattle.board.specs.Next.{nextAnswer, freshMark}
+use Rattle.board_rules.specs.declared.answer.Handed.{Handed}
+use Rattle.board_rules.specs.declared.answer.Handed.the-variants.{Refused, Path, Removed, Level}
+use Rattle.board_rules.specs.Body.{bodyNumber, bodyOf}
+use Rattle.board_rules.specs.Next.{nextAnswer, freshMark}
 use Rattle.printing.specs.Text.{spell, decimalOf, glyphOf, hexOf, octetsText}
-use Rattle.telling.specs.Lines.{newline, lineOf, acceptance, refusalLine, badLine, doneLine, oneLine, twoLine, octetsLine}
-use Rattle.showing.specs.Shown.{bitOf, limitText, openLine, openedLine, structureText, segmentLine}
-use Rattle.forms.specs.declared.verb.Verb.{Verb}
-use Rattle.forms.specs.declared.verb.Verb.the-variants as v
+use Rattle.console_lines.specs.Lines.{newline, lineOf, acceptance, refusalLine, badLine, doneLine, oneLine, twoLine, octetsLine}
+use Rattle.console_fields.specs.Shown.{bitOf, limitText, openLine, openedLine, structureText, segmentLine}
+use Rattle.command_forms.specs.declared.verb.Verb.{Verb}
+use Rattle.command_forms.specs.declared.verb.Verb.the-variants as v
 use Rattle.command.specs.declared.Command.{Command}
 use Rattle.command.specs.Commands.{commandOf}
-use Rattle.standing.specs.Standing.{Console}
-use Rattle.standing.specs.Answers.{answerLine, countLine, plainLine}
-use Rattle.routing.specs.Routing.{openIn, routeLine, pickedLine, segmentAnswer}
-use Rattle.composing.specs.Composing.{placeLine, finishLine}
-use Rattle.boarding.specs.Boarding.{bodyLine, handedLine, nextLine}
-use Rattle.turning.specs.Turns.{turnBy, turnOf}
+use Rattle.console_state.specs.Standing.{Console}
+use Rattle.console_state.specs.Answers.{answerLine, countLine, plainLine}
+use Rattle.console_routes.specs.Routing.{openIn, routeLine, pickedLine, segmentAnswer}
+use Rattle.console_writer.specs.Composing.{placeLine, finishLine}
+use Rattle.console_board.specs.Boarding.{bodyLine, handedLine, nextLine}
+use Rattle.console_turn.specs.Turns.{turnBy, turnOf}
 
 -- Octets above 31, none of them a newline.
 unfoldable pub clear : List ℕ → Bool

@@ -3,7 +3,7 @@ use mathlib.Core.Path.{_≡_, refl}
 use mathlib.Core.List.{map}
 use Rattle.octets.specs.Octets.{octetOf, be16, part}
 use Rattle.session.specs.Sessions.{sessionOf}
-use Rattle.items.specs.Tlvs.{tlvsIn, tlvsOf}
+use Rattle.tlvs.specs.Tlvs.{tlvsIn, tlvsOf}
 use Rattle.capability.specs.SetupTypes.{listSize, listsSrv6}
 use Rattle.capability.specs.Msd.{knownMsd}
 use Rattle.capability.specs.Srv6.{sizedOf, nOf, xOf, wrongOf, limitOf}

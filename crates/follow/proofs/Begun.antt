@@ -8,16 +8,16 @@ use mathlib.Core.Option.{Option, none, some}
 use mathlib.Core.Logic.{_⊎_, ⊎-elim}
 use lib.Dec.{eqb}
 use borrow.Author.Tests.{eq-eqb, ne-eqb, lt-ltb, le-ltb}
-use Rattle.table.specs.declared.record.Board.{Board}
-use Rattle.table.specs.Sizes.{places}
-use Rattle.table.specs.Table.{keyAt, versionAt, lengthAt, Used}
-use Rattle.table.specs.Search.{placeOf, KeyPlace}
-use Rattle.table.specs.Proper.{Proper}
-use Rattle.table.proofs.Logic.{same?, from?}
-use Rattle.table.proofs.Search.{key-place-is, key-place-found}
-use Rattle.table.proofs.Proper.{proper-sound}
-use Rattle.board.specs.Rules.{hasPath}
-use Rattle.board.specs.Body.{octetsAt}
+use Rattle.board_record.specs.declared.record.Board.{Board}
+use Rattle.board_record.specs.Sizes.{places}
+use Rattle.board_record.specs.Table.{keyAt, versionAt, lengthAt, Used}
+use Rattle.board_record.specs.Search.{placeOf, KeyPlace}
+use Rattle.board_record.specs.Proper.{Proper}
+use Rattle.board_record.proofs.Logic.{same?, from?}
+use Rattle.board_record.proofs.Search.{key-place-is, key-place-found}
+use Rattle.board_record.proofs.Proper.{proper-sound}
+use Rattle.board_rules.specs.Rules.{hasPath}
+use Rattle.board_rules.specs.Body.{octetsAt}
 use Rattle.follow.specs.Story.{begun, held, last}
 
 -- the octets at a place, or none where it is a removal

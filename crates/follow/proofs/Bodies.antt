@@ -9,16 +9,16 @@ use mathlib.Core.Logic.{_⊎_, ⊎-elim}
 use lib.Dec.{eqb, ltb}
 use borrow.Author.Tests.{eq-eqb, ne-eqb, lt-ltb, le-ltb, le-leb}
 use Rattle.answers.specs.Verdicts.{acceptedWith}
-use Rattle.table.specs.declared.record.Board.{Board}
-use Rattle.table.specs.Sizes.{places, keyLeast, keyMost}
-use Rattle.table.specs.Table.{keyAt, lengthAt, Used}
-use Rattle.table.specs.Search.{placeOf}
-use Rattle.table.proofs.Logic.{from?}
-use Rattle.table.proofs.Proper.{proper-sound}
-use Rattle.table.proofs.Search.{key-place-is, key-place-found}
-use Rattle.board.specs.Rules.{inRange, hasPath}
-use Rattle.board.specs.Body.{bodyRules, bodyNumber, octetsAt}
-use Rattle.board.specs.Body as bodies
+use Rattle.board_record.specs.declared.record.Board.{Board}
+use Rattle.board_record.specs.Sizes.{places, keyLeast, keyMost}
+use Rattle.board_record.specs.Table.{keyAt, lengthAt, Used}
+use Rattle.board_record.specs.Search.{placeOf}
+use Rattle.board_record.proofs.Logic.{from?}
+use Rattle.board_record.proofs.Proper.{proper-sound}
+use Rattle.board_record.proofs.Search.{key-place-is, key-place-found}
+use Rattle.board_rules.specs.Rules.{inRange, hasPath}
+use Rattle.board_rules.specs.Body.{bodyRules, bodyNumber, octetsAt}
+use Rattle.board_rules.specs.Body as bodies
 use Rattle.follow.specs.Story.{Body, Story, held, last}
 use Rattle.follow.specs.Run.{World, start, run}
 use Rattle.follow.specs.Promise.{BodyGiven, BodiesAreThoseHeld}

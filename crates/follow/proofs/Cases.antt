@@ -5,7 +5,7 @@ use mathlib.Core.Path.{_≡_, refl, sym}
 use mathlib.Core.Bool.{Bool, true, false, cond, _||_}
 use mathlib.Core.Option.{Option, none, some}
 use mathlib.Core.Logic.{_⊎_, inl, inr}
-use Rattle.table.proofs.Logic.{true≢false}
+use Rattle.board_record.proofs.Logic.{true≢false}
 use Rattle.follow.specs.Story.{Body}
 use Rattle.follow.specs.Floor.{isSome}
 

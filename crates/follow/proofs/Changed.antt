@@ -7,12 +7,12 @@ use mathlib.Core.Option.{none}
 use mathlib.Core.Logic.{_⊎_, inl, inr, ⊎-elim}
 use lib.ListN.{length}
 use lib.Seq.{getD-set-same, getD-set-other}
-use Rattle.table.specs.declared.record.Board.{Board}
-use Rattle.table.specs.Sizes.{places, keyLeast}
-use Rattle.table.specs.Table.{keyAt, versionAt, lengthAt, Used, changed}
-use Rattle.table.specs.Proper.{Proper}
-use Rattle.table.proofs.Logic.{same?}
-use Rattle.table.proofs.Changed.{changed-sized}
+use Rattle.board_record.specs.declared.record.Board.{Board}
+use Rattle.board_record.specs.Sizes.{places, keyLeast}
+use Rattle.board_record.specs.Table.{keyAt, versionAt, lengthAt, Used, changed}
+use Rattle.board_record.specs.Proper.{Proper}
+use Rattle.board_record.proofs.Logic.{same?}
+use Rattle.board_record.proofs.Changed.{changed-sized}
 use Rattle.follow.specs.Story.{Change, Story, did, keyOf, bodyOf, held, last}
 use Rattle.follow.proofs.Begun.{octets, octets-mark}
 use Rattle.follow.proofs.Keeps.{last-same, last-other, held-same, held-other}

@@ -8,14 +8,14 @@ use mathlib.Core.Option.{none}
 use mathlib.Core.Logic.{_⊎_, inl, inr, ⊎-elim}
 use lib.Dec.{leb}
 use borrow.Author.Tests.{leb-true}
-use Rattle.table.specs.declared.record.Board.{Board}
-use Rattle.table.specs.Sizes.{places}
-use Rattle.table.specs.Table.{keyAt, versionAt, lengthAt, Used, Removal, removalB}
-use Rattle.table.proofs.Logic.{and-true}
-use Rattle.table.proofs.Search.{removal-is}
-use Rattle.board.specs.Body.{octetsAt}
-use Rattle.board.proofs.Keeps.{length-row, compacted-key, compacted-version, compacted-proper}
-use Rattle.board.specs.Compact.{dropped, compacted}
+use Rattle.board_record.specs.declared.record.Board.{Board}
+use Rattle.board_record.specs.Sizes.{places}
+use Rattle.board_record.specs.Table.{keyAt, versionAt, lengthAt, Used, Removal, removalB}
+use Rattle.board_record.proofs.Logic.{and-true}
+use Rattle.board_record.proofs.Search.{removal-is}
+use Rattle.board_rules.specs.Body.{octetsAt}
+use Rattle.board_rules.proofs.Keeps.{length-row, compacted-key, compacted-version, compacted-proper}
+use Rattle.board_rules.specs.Compact.{dropped, compacted}
 use Rattle.follow.specs.Story.{Story, compactedTo, held, last}
 use Rattle.follow.proofs.Begun.{octets, octets-mark}
 use Rattle.follow.proofs.Table.{Stands}

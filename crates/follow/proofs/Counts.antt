@@ -6,12 +6,12 @@ use mathlib.Core.Bool.{Bool, true, false, not, cond}
 use mathlib.Core.Logic.{_⊎_, inl, inr}
 use lib.Dec.{eqb}
 use borrow.Author.Tests.{eq-eqb, ne-eqb, eqb-false}
-use Rattle.table.specs.declared.record.Board.{Board}
-use Rattle.table.specs.Sizes.{places}
-use Rattle.table.specs.Table.{keyAt}
-use Rattle.table.specs.Proper.{Proper}
-use Rattle.table.proofs.Logic.{same?}
-use Rattle.table.proofs.Proper.{proper-sound}
+use Rattle.board_record.specs.declared.record.Board.{Board}
+use Rattle.board_record.specs.Sizes.{places}
+use Rattle.board_record.specs.Table.{keyAt}
+use Rattle.board_record.specs.Proper.{Proper}
+use Rattle.board_record.proofs.Logic.{same?}
+use Rattle.board_record.proofs.Proper.{proper-sound}
 use Rattle.follow.specs.Floor.{countBelow, keyEnd}
 
 pub count-same : (t u : ℕ → Bool) (n : ℕ) → ((j : ℕ) → j < n → u j ≡ t j) → countBelow u n ≡ countBelow t n

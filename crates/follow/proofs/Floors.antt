@@ -9,12 +9,12 @@ use mathlib.Core.Logic.{_⊎_, inl, inr, ⊎-elim}
 use lib.Dec.{eqb, ltb, leb}
 use borrow.Author.Tests.{eq-eqb, ne-eqb, eqb-true, eqb-false, lt-ltb, le-ltb, ltb-true, leb-true, leb-false, not-true}
 use borrow.Author.Count.{below-more}
-use Rattle.table.specs.declared.record.Board.{Board}
-use Rattle.table.specs.Table.{keyAt, versionAt, lengthAt}
-use Rattle.table.specs.Search.{ReportPlace, keeps, takes, drops, floorAfter}
-use Rattle.table.proofs.Logic.{true≢false, and-true, same?, test-is}
-use Rattle.table.proofs.Proper.{proper-sound}
-use Rattle.table.proofs.Search.{floor-keeps, floor-takes, floor-drops}
+use Rattle.board_record.specs.declared.record.Board.{Board}
+use Rattle.board_record.specs.Table.{keyAt, versionAt, lengthAt}
+use Rattle.board_record.specs.Search.{ReportPlace, keeps, takes, drops, floorAfter}
+use Rattle.board_record.proofs.Logic.{true≢false, and-true, same?, test-is}
+use Rattle.board_record.proofs.Proper.{proper-sound}
+use Rattle.board_record.proofs.Search.{floor-keeps, floor-takes, floor-drops}
 use Rattle.follow.specs.Story.{Body, Story, held, last}
 use Rattle.follow.specs.Floor.{countBelow, leastValue, isSome, standing, keyEnd, floorPut}
 use Rattle.follow.proofs.Cases.{none-of, or-cases, not-true-is-false}

@@ -6,8 +6,8 @@ use mathlib.Core.Option.{Option, none, some}
 use mathlib.Core.Logic.{_⊎_, inl, inr, ⊎-elim}
 use lib.Dec.{eqb}
 use borrow.Author.Tests.{eq-eqb, ne-eqb}
-use Rattle.table.specs.declared.record.Board.{Board}
-use Rattle.table.proofs.Logic.{same?, from?}
+use Rattle.board_record.specs.declared.record.Board.{Board}
+use Rattle.board_record.proofs.Logic.{same?, from?}
 use Rattle.follow.specs.Story.{Body, Change, put, gone, Story, begun, did, compactedTo, version, keyOf, bodyOf, held, last}
 use Rattle.follow.specs.Follower.{Follower, fresh, makes, levels, Lacks}
 use Rattle.follow.proofs.Cases.{some≢none, cond-yes, cond-no}

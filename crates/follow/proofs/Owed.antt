@@ -4,7 +4,7 @@ use native.Mathlib.Omega.{arith}
 use mathlib.Core.Path.{_≡_, refl, sym, ap, _∙_}
 use mathlib.Core.Logic.{_⊎_, ⊎-elim}
 use Rattle.answers.specs.Numbers.{markTooOld}
-use Rattle.table.proofs.Logic.{from?}
+use Rattle.board_record.proofs.Logic.{from?}
 use Rattle.follow.specs.Story.{Change, put, gone, Story, version, keyOf, bodyOf, held, last}
 use Rattle.follow.specs.Floor.{floorOf}
 use Rattle.follow.specs.Follower.{Follower, Lacks, Oldest}

@@ -10,16 +10,16 @@ use lib.Seq.{getD-set-same, getD-set-other}
 use borrow.Author.Tests.{ne-eqb}
 use Rattle.octets.specs.Octets.{placed}
 use Rattle.octets.proofs.Laws.{length-placed, part-placed-same, part-placed-other}
-use Rattle.table.specs.declared.record.Board.{Board}
-use Rattle.table.specs.Sizes.{places, room, keyLeast, bodyLeast}
-use Rattle.table.specs.Table.{lengthAt, changed}
-use Rattle.table.specs.Search.{KeyPlace, placeOf, ReportPlace, keeps, takes, drops, targetOf, floorAfter}
-use Rattle.table.specs.Proper.{Proper}
-use Rattle.table.proofs.Logic.{from?}
-use Rattle.table.proofs.Proper.{proper-sound}
-use Rattle.table.proofs.Search.{report-place-is, floor-keeps, floor-takes, floor-drops}
-use Rattle.board.specs.Body.{octetsAt}
-use Rattle.board.specs.Remove.{removed}
+use Rattle.board_record.specs.declared.record.Board.{Board}
+use Rattle.board_record.specs.Sizes.{places, room, keyLeast, bodyLeast}
+use Rattle.board_record.specs.Table.{lengthAt, changed}
+use Rattle.board_record.specs.Search.{KeyPlace, placeOf, ReportPlace, keeps, takes, drops, targetOf, floorAfter}
+use Rattle.board_record.specs.Proper.{Proper}
+use Rattle.board_record.proofs.Logic.{from?}
+use Rattle.board_record.proofs.Proper.{proper-sound}
+use Rattle.board_record.proofs.Search.{report-place-is, floor-keeps, floor-takes, floor-drops}
+use Rattle.board_rules.specs.Body.{octetsAt}
+use Rattle.board_rules.specs.Remove.{removed}
 use Rattle.follow.specs.Story.{put, gone, Story, did}
 use Rattle.follow.proofs.Begun.{octets}
 use Rattle.follow.proofs.Table.{Stands}

@@ -9,16 +9,16 @@ use mathlib.Core.Logic.{_⊎_, inl, ⊎-elim}
 use lib.ListN.{length}
 use lib.Dec.{eqb}
 use borrow.Author.Tests.{eqb-true}
-use Rattle.table.specs.declared.record.Board.{Board}
-use Rattle.table.specs.Sizes.{places, storeSize}
-use Rattle.table.specs.Table.{keyAt, versionAt, lengthAt, Used, Sized}
-use Rattle.table.specs.Search.{Wanted, nextOf}
-use Rattle.table.specs.Search.Wanted.{path, removal}
-use Rattle.table.specs.Proper.{Proper}
-use Rattle.table.proofs.Logic.{same?}
-use Rattle.table.proofs.Search.{wanted-used}
-use Rattle.table.proofs.Search as searches
-use Rattle.board.specs.Body.{octetsAt}
+use Rattle.board_record.specs.declared.record.Board.{Board}
+use Rattle.board_record.specs.Sizes.{places, storeSize}
+use Rattle.board_record.specs.Table.{keyAt, versionAt, lengthAt, Used, Sized}
+use Rattle.board_record.specs.Search.{Wanted, nextOf}
+use Rattle.board_record.specs.Search.Wanted.{path, removal}
+use Rattle.board_record.specs.Proper.{Proper}
+use Rattle.board_record.proofs.Logic.{same?}
+use Rattle.board_record.proofs.Search.{wanted-used}
+use Rattle.board_record.proofs.Search as searches
+use Rattle.board_rules.specs.Body.{octetsAt}
 use Rattle.follow.specs.Story.{Story, begun, version, held, last}
 use Rattle.follow.specs.Follower.{Lacks, Oldest}
 use Rattle.follow.proofs.Cases.{some≢none}

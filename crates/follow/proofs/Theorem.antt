@@ -11,22 +11,22 @@ use lib.Dec.{eqb, ltb}
 use borrow.Author.Tests.{ne-eqb, lt-ltb, le-ltb}
 use Rattle.answers.specs.Numbers.{markTooOld}
 use Rattle.answers.specs.Verdicts.{refusedBy, acceptedWith, kept}
-use Rattle.table.specs.declared.record.Board.{Board}
-use Rattle.table.specs.Sizes.{places, storeSize}
-use Rattle.table.specs.Table.{emptyBoard, keyAt, versionAt, lengthAt}
-use Rattle.table.specs.Search.{targetOf, nextOf}
-use Rattle.table.proofs.Logic.{from?}
-use Rattle.table.proofs.Proper.{empty-sized, empty-proper}
-use Rattle.table.proofs.Search.{report-place-is}
-use Rattle.board.specs.Rules.{isBoard}
-use Rattle.board.proofs.Verdicts.{whole-board, report-passed, remove-passed, compact-passed}
-use Rattle.board.proofs.Keeps.{reported-proper, removed-proper}
-use Rattle.board.specs.Body.{octetsAt}
-use Rattle.board.specs.Report.{bodyIn, reportVerdict, reportWith, storeWith, reported, reportAnswer, reportStore}
-use Rattle.board.specs.Remove.{removeVerdict, removeAnswer, removed}
-use Rattle.board.specs.Compact.{compactVerdict, compactAnswer, compacted}
-use Rattle.board.specs.declared.answer.Handed.the-variants.{Path, Removed}
-use Rattle.board.specs.Next.{nextRules, nextVerdict, changeAt, handedAt, nextAnswer}
+use Rattle.board_record.specs.declared.record.Board.{Board}
+use Rattle.board_record.specs.Sizes.{places, storeSize}
+use Rattle.board_record.specs.Table.{emptyBoard, keyAt, versionAt, lengthAt}
+use Rattle.board_record.specs.Search.{targetOf, nextOf}
+use Rattle.board_record.proofs.Logic.{from?}
+use Rattle.board_record.proofs.Proper.{empty-sized, empty-proper}
+use Rattle.board_record.proofs.Search.{report-place-is}
+use Rattle.board_rules.specs.Rules.{isBoard}
+use Rattle.board_rules.proofs.Verdicts.{whole-board, report-passed, remove-passed, compact-passed}
+use Rattle.board_rules.proofs.Keeps.{reported-proper, removed-proper}
+use Rattle.board_rules.specs.Body.{octetsAt}
+use Rattle.board_rules.specs.Report.{bodyIn, reportVerdict, reportWith, storeWith, reported, reportAnswer, reportStore}
+use Rattle.board_rules.specs.Remove.{removeVerdict, removeAnswer, removed}
+use Rattle.board_rules.specs.Compact.{compactVerdict, compactAnswer, compacted}
+use Rattle.board_rules.specs.declared.answer.Handed.the-variants.{Path, Removed}
+use Rattle.board_rules.specs.Next.{nextRules, nextVerdict, changeAt, handedAt, nextAnswer}
 use Rattle.session.specs.declared.Session.{Session}
 use Rattle.route.specs.Routes.{judgeOf}
 use Rattle.route.proofs.Answer.{accepted-body}

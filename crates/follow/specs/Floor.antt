@@ -6,7 +6,7 @@ use Prim.Native.Nat.{ℕ, zero, suc, max}
 use mathlib.Core.Bool.{Bool, true, false, not, cond, _&&_, _||_}
 use mathlib.Core.Option.{Option, none, some}
 use lib.Dec.{eqb, ltb, leb}
-use Rattle.table.specs.Sizes.{places, keyMost}
+use Rattle.board_record.specs.Sizes.{places, keyMost}
 use Rattle.follow.specs.Story.{Body, put, gone, Story, begun, did, compactedTo, held, last}
 
 -- how many of the numbers below n pass

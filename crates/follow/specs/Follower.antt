@@ -4,8 +4,8 @@ use mathlib.Core.Path.{_≡_}
 use mathlib.Core.Bool.{cond}
 use mathlib.Core.Option.{Option, none, some}
 use lib.Dec.{eqb}
-use Rattle.table.specs.declared.record.Board.{Board}
-use Rattle.board.specs.Next.{freshMark}
+use Rattle.board_record.specs.declared.record.Board.{Board}
+use Rattle.board_rules.specs.Next.{freshMark}
 use Rattle.follow.specs.Story.{Body, Change, put, gone, Story, held, last}
 
 pub record Follower : Type 0 where

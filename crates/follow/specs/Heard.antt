@@ -3,9 +3,9 @@ use Prim.Native.Nat.{ℕ, _*_}
 use mathlib.Core.Bool.{Bool, cond}
 use mathlib.Core.List.{List}
 use Rattle.octets.specs.Octets.{part}
-use Rattle.table.specs.Sizes.{room}
-use Rattle.board.specs.declared.answer.Handed.{Handed}
-use Rattle.board.specs.declared.answer.Handed.the-variants.{Refused, Path, Removed, Level}
+use Rattle.board_record.specs.Sizes.{room}
+use Rattle.board_rules.specs.declared.answer.Handed.{Handed}
+use Rattle.board_rules.specs.declared.answer.Handed.the-variants.{Refused, Path, Removed, Level}
 use Rattle.follow.specs.Story.{Change, put, gone}
 use Rattle.follow.specs.Follower.{Follower, makes, levels}
 

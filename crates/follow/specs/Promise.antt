@@ -11,11 +11,11 @@ use mathlib.Core.Logic.{_↔_}
 use lib.ListN.{length}
 use Rattle.answers.specs.Numbers.{noPath, markTooOld}
 use Rattle.answers.specs.Verdicts.{refusedBy, acceptedWith}
-use Rattle.table.specs.declared.record.Board.{Board}
-use Rattle.table.specs.Sizes.{storeSize, keyLeast, keyMost}
-use Rattle.table.specs.Table.{Sized}
-use Rattle.table.specs.Proper.{Proper}
-use Rattle.board.specs.Body.{bodyNumber, bodyOf as bodyHanded}
+use Rattle.board_record.specs.declared.record.Board.{Board}
+use Rattle.board_record.specs.Sizes.{storeSize, keyLeast, keyMost}
+use Rattle.board_record.specs.Table.{Sized}
+use Rattle.board_record.specs.Proper.{Proper}
+use Rattle.board_rules.specs.Body.{bodyNumber, bodyOf as bodyHanded}
 use Rattle.follow.specs.Story.{Body, Change, Story, keyOf, bodyOf, version, held}
 use Rattle.follow.specs.Floor.{floorOf}
 use Rattle.follow.specs.Follower.{Follower, Lacks, Oldest}

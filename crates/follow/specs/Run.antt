@@ -7,13 +7,13 @@ use Prim.Native.Nat.{ℕ}
 use mathlib.Core.Bool.{Bool, cond}
 use mathlib.Core.List.{List, [], _∷_}
 use lib.Dec.{eqb}
-use Rattle.table.specs.declared.record.Board.{Board}
-use Rattle.table.specs.Proper.{Proper}
-use Rattle.board.specs.declared.answer.Answer.{Answer}
-use Rattle.board.specs.Report.{bodyIn, reportAnswer, reportStore}
-use Rattle.board.specs.Remove.{removeAnswer}
-use Rattle.board.specs.Compact.{compactAnswer}
-use Rattle.board.specs.Next.{nextAnswer}
+use Rattle.board_record.specs.declared.record.Board.{Board}
+use Rattle.board_record.specs.Proper.{Proper}
+use Rattle.board_rules.specs.declared.answer.Answer.{Answer}
+use Rattle.board_rules.specs.Report.{bodyIn, reportAnswer, reportStore}
+use Rattle.board_rules.specs.Remove.{removeAnswer}
+use Rattle.board_rules.specs.Compact.{compactAnswer}
+use Rattle.board_rules.specs.Next.{nextAnswer}
 use Rattle.session.specs.declared.Session.{Session}
 use Rattle.follow.specs.Story.{put, gone, Story, begun, did, compactedTo}
 use Rattle.follow.specs.Follower.{Follower, fresh}

@@ -8,13 +8,13 @@ use mathlib.Core.Bool.{cond}
 use mathlib.Core.List.{List}
 use mathlib.Core.Option.{Option, none, some}
 use lib.Dec.{eqb, ltb}
-use Rattle.table.specs.declared.record.Board.{Board}
-use Rattle.table.specs.Sizes.{places}
-use Rattle.table.specs.Table.{versionAt}
-use Rattle.table.specs.Search.{placeOf}
-use Rattle.table.specs.Proper.{Proper}
-use Rattle.board.specs.Rules.{hasPath}
-use Rattle.board.specs.Body.{octetsAt}
+use Rattle.board_record.specs.declared.record.Board.{Board}
+use Rattle.board_record.specs.Sizes.{places}
+use Rattle.board_record.specs.Table.{versionAt}
+use Rattle.board_record.specs.Search.{placeOf}
+use Rattle.board_record.specs.Proper.{Proper}
+use Rattle.board_rules.specs.Rules.{hasPath}
+use Rattle.board_rules.specs.Body.{octetsAt}
 
 -- ---- the calls
 

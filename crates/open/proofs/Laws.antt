@@ -14,10 +14,10 @@ use Rattle.octets.proofs.Laws.{length-part, rest-lent}
 use Rattle.answers.specs.Numbers.{openMalformed}
 use Rattle.session.specs.declared.Opened.{Opened}
 use Rattle.session.specs.Sessions.{openRefused}
-use Rattle.items.specs.Tlvs.{Tlvs, end, tlv, tlvsIn, tlvsOf, wholeOf, firstOf}
-use Rattle.items.specs.Places.{itemAt}
-use Rattle.items.specs.declared.Item.the-variants.{Whole, Broken}
-use Rattle.items.proofs.Laws.{drop-part, items-end, items-turn}
+use Rattle.tlvs.specs.Tlvs.{Tlvs, end, tlv, tlvsIn, tlvsOf, wholeOf, firstOf}
+use Rattle.tlvs.specs.Places.{itemAt}
+use Rattle.tlvs.specs.declared.Item.the-variants.{Whole, Broken}
+use Rattle.tlvs.proofs.Laws.{drop-part, items-end, items-turn}
 use Rattle.capability.specs.SetupTypes.{pathSetup, listSize, holdsList, subsOf, listsSrv6}
 use Rattle.capability.specs.Srv6.{srv6Capability, announcedOf}
 use Rattle.open.specs.declared.walk.Place.{Place}

@@ -9,7 +9,7 @@ ghost use lib.ListN.{length};
 ghost use Rattle.octets.specs.Octets.{part};
 ghost use Rattle.open.specs.Walk.{keepOf, sightOf, walkOf, Bounds};
 use capability::PATH_SETUP;
-use items::Item;
+use tlvs::Item;
 
 // The start of a value that was not found: none starts here.
 pub const NOWHERE: usize = 0;
@@ -52,7 +52,7 @@ pub fn walk(s: &[u8], start: usize, end: usize, inner: bool, want: usize) -> Fou
         len: 0,
     };
     while at < end {
-        match items::item_at(s, at, end, inner) {
+        match tlvs::item_at(s, at, end, inner) {
             Item::Broken => {
                 return Found::Cut;
             }

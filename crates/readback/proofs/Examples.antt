@@ -9,7 +9,7 @@ use Rattle.subobject.specs.declared.segment.Segment.{Segment}
 use Rattle.subobject.specs.Layout.{naiLength, expectedLength}
 use Rattle.subobject.specs.Rules.{rule8, rule9, rule11, hasStructure, sumAt}
 use Rattle.subobject.specs.Segments.{headOfSegment, fixedOctets, subobjectOf, bitsOf}
-use Rattle.layout.specs.Spare.{tidyOf}
+use Rattle.writer_layout.specs.Spare.{tidyOf}
 use Rattle.writer.specs.declared.state.Writer.{Writer}
 use Rattle.writer.specs.Writing.{headerOf, passes, badPlace, unfit, noRoom, beginNumber, beginAnswer, beginBuffer, addNumber, addAnswer, addBuffer, finishNumber, finishAnswer, finishBuffer}
 use Rattle.readback.specs.Runs.{Run, addsRun, writeRun, objectIn}

@@ -10,7 +10,7 @@ use native.Mathlib.Omega.{arith}
 use borrow.Author.Tests.{eqb-true, eq-eqb}
 use Rattle.octets.specs.Octets.{octetOf, part, over, partOf}
 use Rattle.octets.proofs.Laws.{length-part, length-over, getD-part}
-use Rattle.layout.specs.Spare.{zeros}
+use Rattle.writer_layout.specs.Spare.{zeros}
 use Rattle.readback.specs.Ignored.{Octets}
 use Rattle.readback.proofs.Stands.{and-true, drop-zeros}
 

@@ -22,8 +22,8 @@ use Rattle.frame.proofs.Checks.{None, none-first, none-append}
 use Rattle.frame.proofs.Laws.{headed-last}
 use Rattle.route.specs.declared.picking.Picked.{Picked}
 use Rattle.route.specs.Routes.{rule12, rule13, rule15, wholeChecks, order, brokenBy, brokenAt, checksAt, subobjectChecks, lastChecks, checksOf, countOf, judgeOf, pickOf, segmentOf}
-use Rattle.layout.specs.Held.{Held}
-use Rattle.layout.proofs.Laws.{nai-most, length-subobject}
+use Rattle.writer_layout.specs.Held.{Held}
+use Rattle.writer_layout.proofs.Laws.{nai-most, length-subobject}
 use Rattle.writer.specs.declared.state.Writer.{Writer}
 use Rattle.writer.specs.Writing.{headerOf, unfit}
 use Rattle.writer.proofs.Laws.{size-subobject}

@@ -23,8 +23,8 @@ use Rattle.frame.proofs.Checks.{None, none-first, none-append, none-split}
 use Rattle.frame.proofs.Laws.{fits-true, headed-sized}
 use Rattle.route.specs.Routes.{order, brokenBy, brokenAt, checksAt, subobjectChecks, lastChecks, checksOf, countOf, judgeOf, pickOf, segmentOf, rule15}
 use Rattle.route.proofs.Answer.{accepted-none, accepted-count, accepted-frame}
-use Rattle.layout.specs.Held.{Held}
-use Rattle.layout.specs.Spare.{zeros}
+use Rattle.writer_layout.specs.Held.{Held}
+use Rattle.writer_layout.specs.Spare.{zeros}
 use Rattle.writer.proofs.Laws.{not-not}
 use Rattle.writer.specs.declared.state.Writer.{Writer}
 use Rattle.writer.specs.Writing.{headerOf, beginNumber, addNumber, finishNumber, unfit, noRoom, badPlace, passes}

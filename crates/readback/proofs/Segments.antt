@@ -15,9 +15,9 @@ use Rattle.subobject.specs.declared.segment.Segment.{Segment}
 use Rattle.subobject.specs.Layout.{srv6, naiLength, sidLength, structureThere, structureLength, expectedLength, kindOf, headOf, headAt}
 use Rattle.subobject.specs.Rules.{rule8, rule9, rule11, flagF, hasStructure, sumAt, bitsAt}
 use Rattle.subobject.specs.Segments.{segmentBy, segmentAt, headOfSegment, fixedOctets, structureOctets, subobjectOf, bitsOf, bit}
-use Rattle.layout.specs.Held.{Held}
-use Rattle.layout.specs.Spare.{zeros, tidyOf}
-use Rattle.layout.proofs.Laws.{nt-known, nai-most, length-subobject, part-there, length-there, length-structure, four}
+use Rattle.writer_layout.specs.Held.{Held}
+use Rattle.writer_layout.specs.Spare.{zeros, tidyOf}
+use Rattle.writer_layout.proofs.Laws.{nt-known, nai-most, length-subobject, part-there, length-there, length-structure, four}
 use Rattle.writer.specs.Writing.{unfit}
 use Rattle.writer.proofs.Laws.{or-false, not-not}
 use Rattle.readback.proofs.Images.{Fit}

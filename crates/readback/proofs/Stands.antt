@@ -10,7 +10,7 @@ use native.Mathlib.Nat.{add-assoc, add-zero}
 use native.Mathlib.Omega.{arith}
 use borrow.Author.Tests.{eqb-true}
 use Rattle.octets.specs.Octets.{octetOf, be16, part, over, partOf}
-use Rattle.layout.specs.Spare.{zeros}
+use Rattle.writer_layout.specs.Spare.{zeros}
 
 -- x stands in s at a place.
 pub record Stands (s : List ℕ) (at : ℕ) (x : List ℕ) : Type 0 where

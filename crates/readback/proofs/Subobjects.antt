@@ -17,9 +17,9 @@ use Rattle.subobject.specs.Layout.{naiLength, sidLength, structureThere, struct
 use Rattle.subobject.specs.Rules.{rule7, rule8, rule9, rule11, flagF, hasStructure, sumAt, bitsAt}
 use Rattle.subobject.specs.Segments.{segmentBy, segmentAt, headOfSegment, fixedOctets, structureOctets, subobjectOf, bitsOf, bit}
 use Rattle.frame.specs.Frames.{kindAt}
-use Rattle.layout.specs.Held.{Held}
-use Rattle.layout.specs.Spare.{zeros, tidyOf}
-use Rattle.layout.proofs.Laws.{nai-most}
+use Rattle.writer_layout.specs.Held.{Held}
+use Rattle.writer_layout.specs.Spare.{zeros, tidyOf}
+use Rattle.writer_layout.proofs.Laws.{nai-most}
 use Rattle.writer.specs.Writing.{unfit}
 use Rattle.writer.proofs.Laws.{or-false, not-not, size-subobject}
 use Rattle.readback.specs.Ignored.{Octets, ignoredAt}

@@ -9,7 +9,7 @@ use Rattle.session.specs.declared.Session.{Session}
 use Rattle.subobject.specs.declared.segment.Segment.{Segment}
 use Rattle.subobject.specs.Segments.{noSegment}
 use Rattle.route.specs.Routes.{judgeOf, segmentOf}
-use Rattle.layout.specs.Spare.{zeros}
+use Rattle.writer_layout.specs.Spare.{zeros}
 use Rattle.writer.specs.declared.state.Writer.{Writer}
 use Rattle.readback.specs.Runs.{writeRun, Accepted, objectIn, AllHeld, openSession, srv6Setup}
 use Rattle.readback.specs.Ignored.{Octets, ignoredOf, segmentsRead}

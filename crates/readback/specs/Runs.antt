@@ -10,7 +10,7 @@ use Rattle.session.specs.declared.Limit.the-variants.{Free}
 use Rattle.session.specs.declared.Session.{Session}
 use Rattle.subobject.specs.declared.segment.Segment.{Segment}
 use Rattle.subobject.specs.Segments.{subobjectOf}
-use Rattle.layout.specs.Held.{Held}
+use Rattle.writer_layout.specs.Held.{Held}
 use Rattle.writer.specs.declared.state.Writer.{Writer}
 use Rattle.writer.specs.declared.state.Written.{Written}
 use Rattle.writer.specs.Writing.{headerLength, headerOf, beginAnswer, beginBuffer, addAnswer, addBuffer, finishAnswer, finishBuffer}

@@ -3,29 +3,29 @@ use Prim.Native.Nat.{ℕ}
 use mathlib.Core.Path.{_≡_}
 use mathlib.Core.List.{List}
 use Rattle.answers.proofs.Determined.{determined}
-use Rattle.table.specs.declared.record.Board.{Board}
-use Rattle.table.specs.Table.{emptyBoard}
+use Rattle.board_record.specs.declared.record.Board.{Board}
+use Rattle.board_record.specs.Table.{emptyBoard}
 use Rattle.session.specs.Sessions.{sessionOf}
 use Rattle.open.specs.Open.{openOf}
 use Rattle.route.specs.Routes.{judgeOf, segmentOf}
 use Rattle.subobject.specs.Segments.{segmentWith}
 use Rattle.writer.specs.Writing.{beginAnswer, beginBuffer, addAnswer, addBuffer, finishAnswer, finishBuffer}
-use Rattle.board.specs.Report.{reportAnswer, reportStore}
-use Rattle.board.specs.Remove.{removeAnswer}
-use Rattle.board.specs.Compact.{compactAnswer}
-use Rattle.board.specs.Next.{nextAnswer}
-use Rattle.border.specs.declared.verdict.VerdictRecord.{VerdictRecord}
-use Rattle.border.specs.declared.opened.OpenedRecord.{OpenedRecord}
-use Rattle.border.specs.declared.agreement.SessionRecord.{SessionRecord}
-use Rattle.border.specs.declared.segment.OutlineRecord.{OutlineRecord}
-use Rattle.border.specs.Records.{isYes, openedIn, openedOut, sessionIn, sessionOut, outlineIn, verdictOut}
-use Rattle.handing.specs.declared.picking.PickedRecord.{PickedRecord}
-use Rattle.handing.specs.declared.writing.WriterRecord.{WriterRecord}
-use Rattle.handing.specs.declared.writing.WrittenRecord.{WrittenRecord}
+use Rattle.board_rules.specs.Report.{reportAnswer, reportStore}
+use Rattle.board_rules.specs.Remove.{removeAnswer}
+use Rattle.board_rules.specs.Compact.{compactAnswer}
+use Rattle.board_rules.specs.Next.{nextAnswer}
+use Rattle.border_records.specs.declared.verdict.VerdictRecord.{VerdictRecord}
+use Rattle.border_records.specs.declared.opened.OpenedRecord.{OpenedRecord}
+use Rattle.border_records.specs.declared.agreement.SessionRecord.{SessionRecord}
+use Rattle.border_records.specs.declared.segment.OutlineRecord.{OutlineRecord}
+use Rattle.border_records.specs.Records.{isYes, openedIn, openedOut, sessionIn, sessionOut, outlineIn, verdictOut}
+use Rattle.border_answers.specs.declared.picking.PickedRecord.{PickedRecord}
+use Rattle.border_answers.specs.declared.writing.WriterRecord.{WriterRecord}
+use Rattle.border_answers.specs.declared.writing.WrittenRecord.{WrittenRecord}
 use Rattle.strundevi.specs.declared.boards.PartRecord.{PartRecord}
-use Rattle.handing.specs.declared.change.ChangeRecord.{ChangeRecord}
+use Rattle.border_answers.specs.declared.change.ChangeRecord.{ChangeRecord}
 use Rattle.strundevi.specs.declared.boards.MarkRecord.{MarkRecord}
-use Rattle.handing.specs.Handing.{writerIn, writtenOut, pickedOut, changeOut}
+use Rattle.border_answers.specs.Handing.{writerIn, writtenOut, pickedOut, changeOut}
 use Rattle.strundevi.specs.Boards.{partOut, freshOut}
 
 -- x and y, both the same value of a definition, are equal.

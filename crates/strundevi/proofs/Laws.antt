@@ -11,16 +11,16 @@ use Rattle.answers.specs.Verdicts.{refusedBy, acceptedWith, kept}
 use Rattle.session.specs.declared.Session.{Session}
 use Rattle.frame.specs.Checks.{Check, firstBroken}
 use Rattle.route.specs.Routes.{judgeOf, checksOf, countOf}
-use Rattle.border.specs.declared.verdict.VerdictRecord.{VerdictRecord}
-use Rattle.border.specs.Records.{verdictOut}
+use Rattle.border_records.specs.declared.verdict.VerdictRecord.{VerdictRecord}
+use Rattle.border_records.specs.Records.{verdictOut}
 use Rattle.octets.specs.Octets.{part}
-use Rattle.table.specs.declared.record.Board.{Board}
-use Rattle.table.specs.Sizes.{places, room}
-use Rattle.table.specs.Table.{lengthAt}
-use Rattle.table.specs.Search.{placeOf}
-use Rattle.board.specs.Rules.{lengthIn}
-use Rattle.board.specs.Body.{bodyNumber, bodyOf}
-use Rattle.lent.proofs.Looks.{body-none, body-here, body-is}
+use Rattle.board_record.specs.declared.record.Board.{Board}
+use Rattle.board_record.specs.Sizes.{places, room}
+use Rattle.board_record.specs.Table.{lengthAt}
+use Rattle.board_record.specs.Search.{placeOf}
+use Rattle.board_rules.specs.Rules.{lengthIn}
+use Rattle.board_rules.specs.Body.{bodyNumber, bodyOf}
+use Rattle.board_calls.proofs.Looks.{body-none, body-here, body-is}
 use Rattle.strundevi.specs.declared.boards.PartRecord.{PartRecord}
 use Rattle.strundevi.specs.Boards.{partOut}
 

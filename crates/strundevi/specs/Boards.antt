@@ -2,11 +2,11 @@
 use Prim.Native.Nat.{ℕ, _*_}
 use mathlib.Core.List.{List}
 use Rattle.answers.specs.Verdicts.{kept}
-use Rattle.table.specs.declared.record.Board.{Board}
-use Rattle.table.specs.Sizes.{room}
-use Rattle.table.specs.Table.{lengthAt}
-use Rattle.table.specs.Search.{placeOf}
-use Rattle.board.specs.Body.{bodyNumber}
+use Rattle.board_record.specs.declared.record.Board.{Board}
+use Rattle.board_record.specs.Sizes.{room}
+use Rattle.board_record.specs.Table.{lengthAt}
+use Rattle.board_record.specs.Search.{placeOf}
+use Rattle.board_rules.specs.Body.{bodyNumber}
 use Rattle.strundevi.specs.declared.boards.PartRecord.{PartRecord}
 use Rattle.strundevi.specs.declared.boards.MarkRecord.{MarkRecord}
 

@@ -1,19 +1,19 @@
 // The board's calls, on a record whose parts are lent one by one. A refusal writes nothing.
 ghost use mathlib.Core.Path.{_≡_};
-ghost use Rattle.table.specs.Table.{boardOf, emptyBoard};
+ghost use Rattle.board_record.specs.Table.{boardOf, emptyBoard};
 ghost use Rattle.octets.specs.Octets.{part};
-ghost use Rattle.board.specs.Report.{reportAnswer, reportStore};
-ghost use Rattle.board.specs.Remove.{removeAnswer};
-ghost use Rattle.board.specs.Compact.{compactAnswer};
-ghost use Rattle.board.specs.Body.{bodyOf};
-ghost use Rattle.board.specs.Next.{nextAnswer};
-ghost use Rattle.border.specs.Records.{sessionIn, verdictOut};
-ghost use Rattle.handing.specs.Handing.{changeOut};
+ghost use Rattle.board_rules.specs.Report.{reportAnswer, reportStore};
+ghost use Rattle.board_rules.specs.Remove.{removeAnswer};
+ghost use Rattle.board_rules.specs.Compact.{compactAnswer};
+ghost use Rattle.board_rules.specs.Body.{bodyOf};
+ghost use Rattle.board_rules.specs.Next.{nextAnswer};
+ghost use Rattle.border_records.specs.Records.{sessionIn, verdictOut};
+ghost use Rattle.border_answers.specs.Handing.{changeOut};
 ghost use Rattle.strundevi.specs.Boards.{partOut, freshOut};
-use border::SessionRecord;
-use border::VerdictRecord;
-use handing::ChangeRecord;
-use handing::change_out;
+use border_answers::ChangeRecord;
+use border_answers::change_out;
+use border_records::SessionRecord;
+use border_records::VerdictRecord;
 
 // Where a path's octets lie in the store; a refusal has none.
 #[repr(C)]
@@ -66,7 +66,7 @@ pub extern "C" fn strundevi_raw_report(
     ensures board { λ _. ⌜ boardOf (now (keys .exit)) (now (versions .exit)) (now (lengths .exit)) (now (version .exit)) (now (floor .exit)) ≡ reportAnswer (boardOf (now (keys .entry)) (now (versions .entry)) (now (lengths .entry)) (now (version .entry)) (now (floor .entry))) (now (store .entry)) key (now (ero .entry)) (sessionIn session) pst .board ⌝ }
     ensures octets { λ _. ⌜ now (store .exit) ≡ reportStore (boardOf (now (keys .entry)) (now (versions .entry)) (now (lengths .entry)) (now (version .entry)) (now (floor .entry))) (now (store .entry)) key (now (ero .entry)) (sessionIn session) pst ⌝ }
 {
-    border::verdict_out(lent::report(
+    border_records::verdict_out(board_calls::report(
         keys,
         versions,
         lengths,
@@ -75,7 +75,7 @@ pub extern "C" fn strundevi_raw_report(
         store,
         key,
         ero,
-        border::session_in(session),
+        border_records::session_in(session),
         pst,
     ))
 }
@@ -94,7 +94,15 @@ pub extern "C" fn strundevi_raw_remove(
     ensures verdict { λ r. ⌜ r ≡ verdictOut (removeAnswer (boardOf (now (keys .entry)) (now (versions .entry)) (now (lengths .entry)) (now (version .entry)) floor) (now (store .entry)) key .verdict) ⌝ }
     ensures board { λ _. ⌜ boardOf (now (keys .entry)) (now (versions .exit)) (now (lengths .exit)) (now (version .exit)) floor ≡ removeAnswer (boardOf (now (keys .entry)) (now (versions .entry)) (now (lengths .entry)) (now (version .entry)) floor) (now (store .entry)) key .board ⌝ }
 {
-    border::verdict_out(lent::remove(keys, versions, lengths, version, floor, store, key))
+    border_records::verdict_out(board_calls::remove(
+        keys,
+        versions,
+        lengths,
+        version,
+        floor,
+        store,
+        key,
+    ))
 }
 
 // Drops the marks with version at most c.
@@ -111,7 +119,15 @@ pub extern "C" fn strundevi_raw_compact(
     ensures verdict { λ r. ⌜ r ≡ verdictOut (compactAnswer (boardOf (now (keys .entry)) (now (versions .entry)) (now (lengths .entry)) version (now (floor .entry))) (now (store .entry)) c .verdict) ⌝ }
     ensures board { λ _. ⌜ boardOf (now (keys .exit)) (now (versions .exit)) (now (lengths .entry)) version (now (floor .exit)) ≡ compactAnswer (boardOf (now (keys .entry)) (now (versions .entry)) (now (lengths .entry)) version (now (floor .entry))) (now (store .entry)) c .board ⌝ }
 {
-    border::verdict_out(lent::compact(keys, versions, lengths, version, floor, store, c))
+    border_records::verdict_out(board_calls::compact(
+        keys,
+        versions,
+        lengths,
+        version,
+        floor,
+        store,
+        c,
+    ))
 }
 
 // Where the octets of a key's path lie.
@@ -128,7 +144,7 @@ pub extern "C" fn strundevi_raw_body<'a>(
     ensures part { λ r. ⌜ r ≡ partOut (boardOf (now (keys .entry)) (now (versions .entry)) (now (lengths .entry)) version floor) (now (store .entry)) key ⌝ }
     ensures octets { λ r. ⌜ part (now (store .entry)) (r .start) (r .length) ≡ bodyOf (boardOf (now (keys .entry)) (now (versions .entry)) (now (lengths .entry)) version floor) (now (store .entry)) key ⌝ }
 {
-    let verdict = lent::body_number(keys, versions, lengths, version, floor, store, key);
+    let verdict = board_calls::body_number(keys, versions, lengths, version, floor, store, key);
     if verdict.number != 0 {
         return PartRecord {
             number: verdict.number,
@@ -136,11 +152,11 @@ pub extern "C" fn strundevi_raw_body<'a>(
             length: 0,
         };
     }
-    let at = places::place_of(keys, key);
+    let at = board_search::place_of(keys, key);
     PartRecord {
         number: 0,
-        start: table::ROOM * at,
-        length: board::length_at(lengths, at),
+        start: board_record::ROOM * at,
+        length: board_rules::length_at(lengths, at),
     }
 }
 
@@ -158,7 +174,7 @@ pub extern "C" fn strundevi_raw_next<'a>(
 ) -> ChangeRecord
     ensures next { λ r. ⌜ r ≡ changeOut (nextAnswer (boardOf (now (keys .entry)) (now (versions .entry)) (now (lengths .entry)) version floor) (now (store .entry)) s w) ⌝ }
 {
-    change_out(lent::next(keys, versions, lengths, version, floor, store, s, w))
+    change_out(board_calls::next(keys, versions, lengths, version, floor, store, s, w))
 }
 
 // The mark of a follower that begins, and holds nothing, on a board of this version.

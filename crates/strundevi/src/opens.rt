@@ -2,16 +2,16 @@
 ghost use mathlib.Core.Path.{_≡_};
 ghost use Rattle.session.specs.Sessions.{sessionOf};
 ghost use Rattle.open.specs.Open.{openOf};
-ghost use Rattle.border.specs.Records.{openedIn, openedOut, sessionOut};
-use border::OpenedRecord;
-use border::SessionRecord;
+ghost use Rattle.border_records.specs.Records.{openedIn, openedOut, sessionOut};
+use border_records::OpenedRecord;
+use border_records::SessionRecord;
 
 // What an OPEN object says, or 1, 2 or 3.
 #[no_mangle]
 pub extern "C" fn strundevi_raw_read_open(octets: &[u8]) -> OpenedRecord
     ensures opened { λ r. ⌜ r ≡ openedOut (openOf (now (octets .entry))) ⌝ }
 {
-    border::opened_out(open::read_open(octets))
+    border_records::opened_out(open::read_open(octets))
 }
 
 // The session of the PCC's and the PCE's answers.
@@ -19,5 +19,8 @@ pub extern "C" fn strundevi_raw_read_open(octets: &[u8]) -> OpenedRecord
 pub extern "C" fn strundevi_raw_agree(pcc: OpenedRecord, pce: OpenedRecord) -> SessionRecord
     ensures session { λ r. ⌜ r ≡ sessionOut (sessionOf (openedIn pcc) (openedIn pce)) ⌝ }
 {
-    border::session_out(session::agree(border::opened_in(pcc), border::opened_in(pce)))
+    border_records::session_out(session::agree(
+        border_records::opened_in(pcc),
+        border_records::opened_in(pce),
+    ))
 }

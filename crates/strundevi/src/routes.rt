@@ -1,12 +1,12 @@
 // Judging a route, and asking for its segments. `ero` is a flag: an ERO, else an RRO.
 ghost use mathlib.Core.Path.{_≡_};
 ghost use Rattle.route.specs.Routes.{judgeOf, segmentOf};
-ghost use Rattle.border.specs.Records.{isYes, sessionIn, verdictOut};
-ghost use Rattle.handing.specs.Handing.{pickedOut};
-use border::SessionRecord;
-use border::VerdictRecord;
-use handing::PickedRecord;
-use handing::picked_out;
+ghost use Rattle.border_records.specs.Records.{isYes, sessionIn, verdictOut};
+ghost use Rattle.border_answers.specs.Handing.{pickedOut};
+use border_answers::PickedRecord;
+use border_answers::picked_out;
+use border_records::SessionRecord;
+use border_records::VerdictRecord;
 
 // The verdict on a route under a session and a setup type. An acceptance is laid out by its count alone, which is
 // quicker than to copy it.
@@ -19,9 +19,14 @@ pub extern "C" fn strundevi_raw_judge(
 ) -> VerdictRecord
     ensures judged { λ r. ⌜ r ≡ verdictOut (judgeOf (now (octets .entry)) (isYes ero) (sessionIn session) pst) ⌝ }
 {
-    let v = route::judge(octets, border::yes(ero), border::session_in(session), pst);
+    let v = route::judge(
+        octets,
+        border_records::yes(ero),
+        border_records::session_in(session),
+        pst,
+    );
     if v.count == 0 {
-        return border::verdict_out(v);
+        return border_records::verdict_out(v);
     }
     VerdictRecord {
         number: 0,
@@ -43,8 +48,8 @@ pub extern "C" fn strundevi_raw_segment_at(
 {
     picked_out(route::segment(
         octets,
-        border::yes(ero),
-        border::session_in(session),
+        border_records::yes(ero),
+        border_records::session_in(session),
         pst,
         i,
     ))

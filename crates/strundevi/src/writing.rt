@@ -2,13 +2,13 @@
 ghost use mathlib.Core.Path.{_≡_};
 ghost use Rattle.subobject.specs.Segments.{segmentWith};
 ghost use Rattle.writer.specs.Writing.{beginAnswer, beginBuffer, addAnswer, addBuffer, finishAnswer, finishBuffer};
-ghost use Rattle.border.specs.Records.{isYes, outlineIn};
-ghost use Rattle.handing.specs.Handing.{writerIn, writtenOut};
-use border::OutlineRecord;
-use handing::WriterRecord;
-use handing::WrittenRecord;
-use handing::writer_in;
-use handing::written_out;
+ghost use Rattle.border_records.specs.Records.{isYes, outlineIn};
+ghost use Rattle.border_answers.specs.Handing.{writerIn, writtenOut};
+use border_answers::WriterRecord;
+use border_answers::WrittenRecord;
+use border_answers::writer_in;
+use border_answers::written_out;
+use border_records::OutlineRecord;
 
 // Writes the header with length 4.
 #[no_mangle]
@@ -20,7 +20,7 @@ pub extern "C" fn strundevi_raw_begin(
     ensures answer { λ r. ⌜ r ≡ writtenOut (beginAnswer (now (buffer .entry)) (writerIn writer) (isYes ero)) ⌝ }
     ensures octets { λ _. ⌜ now (buffer .exit) ≡ beginBuffer (now (buffer .entry)) (writerIn writer) (isYes ero) ⌝ }
 {
-    written_out(writer::begin(buffer, writer_in(writer), border::yes(ero)))
+    written_out(writer::begin(buffer, writer_in(writer), border_records::yes(ero)))
 }
 
 // Writes a segment from the present place on. The segment's octets are lent.
@@ -39,7 +39,7 @@ pub extern "C" fn strundevi_raw_add(
     written_out(writer::add_parts(
         buffer,
         writer_in(writer),
-        border::outline_in(outline),
+        border_records::outline_in(outline),
         sid,
         nai,
         structure,

@@ -17,7 +17,7 @@ fn answer(line: &[u8]) {
         return;
     }
     let mut out = [0u8; 128];
-    let end = telling::whole(&mut out, checking::check(&octets[..n]));
+    let end = console_lines::whole(&mut out, checker_verdict::check(&octets[..n]));
     io::write_all(libc::STDOUT_FILENO, &out[..end]);
 }
 

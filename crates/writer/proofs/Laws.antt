@@ -15,8 +15,8 @@ use Rattle.subobject.specs.Layout.{expectedLength}
 use Rattle.subobject.specs.Rules.{rule8, rule9, rule11}
 use Rattle.subobject.specs.Segments.{headOfSegment, subobjectOf, bitsOf}
 use Rattle.frame.specs.Frames.{classOf}
-use Rattle.layout.specs.Held.{Held}
-use Rattle.layout.proofs.Laws.{length-subobject}
+use Rattle.writer_layout.specs.Held.{Held}
+use Rattle.writer_layout.proofs.Laws.{length-subobject}
 use Rattle.writer.specs.declared.state.Writer.{Writer}
 use Rattle.writer.specs.declared.state.Written.{Written}
 use Rattle.writer.specs.Writing.{headerLength, headerOf, passes, badPlace, refusedAs, acceptedAs, answered, unfit, noRoom, addNumber, finishNumber}

@@ -11,7 +11,7 @@ use Rattle.subobject.specs.declared.segment.Segment.{Segment}
 use Rattle.subobject.specs.Rules.{rule8, rule9, rule11}
 use Rattle.subobject.specs.Segments.{headOfSegment, subobjectOf, bitsOf}
 use Rattle.frame.specs.Frames.{classOf}
-use Rattle.layout.specs.Spare.{tidyOf}
+use Rattle.writer_layout.specs.Spare.{tidyOf}
 use Rattle.writer.specs.declared.state.Writer.{Writer}
 use Rattle.writer.specs.declared.state.Written.{Written}
 

@@ -1,7 +1,7 @@
 // What adding and finishing refuse, as a number; 0 where they do not.
 ghost use mathlib.Core.Path.{_≡_};
 ghost use Rattle.subobject.specs.Segments.{headOfOutline, segmentWith};
-ghost use Rattle.layout.specs.Held.{Held};
+ghost use Rattle.writer_layout.specs.Held.{Held};
 ghost use Rattle.writer.specs.Writing.{unfit, addNumber, finishNumber};
 use super::place;
 use super::state::Writer;
@@ -17,7 +17,7 @@ fn misfit(ero: bool, o: Outline, sid: &[u8], nai: &[u8], bits: &[u8]) -> bool
         octets::both(o.structured, !o.hassid),
         octets::either(
             octets::both(!ero, octets::either(o.loose, o.verify)),
-            !layout::tidy(o, sid, nai, bits),
+            !writer_layout::tidy(o, sid, nai, bits),
         ),
     )
 }

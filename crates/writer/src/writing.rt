@@ -2,7 +2,7 @@
 // and a length of 2 octets that counts the 4 octets of the header.
 ghost use mathlib.Core.Path.{_≡_};
 ghost use Rattle.subobject.specs.Segments.{segmentWith};
-ghost use Rattle.layout.specs.Held.{Held};
+ghost use Rattle.writer_layout.specs.Held.{Held};
 ghost use Rattle.writer.specs.Writing.{beginAnswer, beginBuffer, addAnswer, addBuffer, finishAnswer, finishBuffer};
 use super::place;
 use super::refusal;
@@ -57,7 +57,7 @@ pub fn add_parts(
         return state::refuse(number, writer);
     }
     let at = writer.at;
-    layout::write(&mut buf[at..], h, o, sid, nai, bits);
+    writer_layout::write(&mut buf[at..], h, o, sid, nai, bits);
     state::accept(Writer {
         ero: writer.ero,
         at: at + h.size,

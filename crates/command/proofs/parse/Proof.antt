@@ -3,7 +3,7 @@ use Prim.Native.Nat.{ℕ}
 use mathlib.Core.List.{List}
 use Rattle.decimal.specs.Decimal.{valueOf}
 use Rattle.words.specs.Words.{sameOf}
-use Rattle.forms.specs.Forms.{verbOf, theEro}
+use Rattle.command_forms.specs.Forms.{verbOf, theEro}
 use Rattle.command.proofs.Laws.{read-skipped, read-long, read-out-of-form, read-in-form}
 use borrow.Author.Tests.{not-true, not-false}
 use mathlib.Core.Path.{_≡_, refl, sym, _∙_, ap}

@@ -2,9 +2,9 @@ use Rattle.open.proofs.Laws
 use Rattle.open.specs.Walk.{Sight, torn, nowhere, valueAt, missingOf, keepOf, Inside, Listed, sightOf, insideOf, onward, walkOf}
 use Rattle.open.specs.declared.walk.Place.{Place}
 use Rattle.capability.specs.SetupTypes.{pathSetup, listSize, holdsList}
-use Rattle.items.specs.declared.Item.the-variants.{Whole}
-use Rattle.items.specs.Places.{Within}
-use Rattle.items.specs.Tlvs.{Tlvs, tlv, wholeOf}
+use Rattle.tlvs.specs.declared.Item.the-variants.{Whole}
+use Rattle.tlvs.specs.Places.{Within}
+use Rattle.tlvs.specs.Tlvs.{Tlvs, tlv, wholeOf}
 use Rattle.octets.proofs.Laws.{length-part}
 use Rattle.octets.specs.Octets.{part}
 use lib.Dec.{eqb}
@@ -23,7 +23,7 @@ use Rattle.open.proofs.walk.walk.Reads as walk
 use Rattle.open.proofs.walk.walk.Kinds as walk-kinds
 use Rattle.open.proofs.walk.+walk.Lts-walk as walk-lts
 use Rattle.capability.proofs.list_size.Reads as list-size-reads
-use Rattle.items.proofs.item_at.Reads as item-at-reads
+use Rattle.tlvs.proofs.item_at.Reads as item-at-reads
 use Rattle.octets.proofs.both.Reads as both-reads
 use Rattle.open.proofs.walk.keep.Reads as keep-reads
 use Rattle.open.proofs.walk.+walk.{statement}

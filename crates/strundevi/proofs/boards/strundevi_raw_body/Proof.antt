@@ -1,6 +1,6 @@
 use native.Mathlib.Omega.{arith}
-use Rattle.table.specs.Table.{boardOf}
-use Rattle.lent.proofs.Looks.{body-here}
+use Rattle.board_record.specs.Table.{boardOf}
+use Rattle.board_calls.proofs.Looks.{body-here}
 use Rattle.strundevi.proofs.Laws.{part-none, part-here}
 use borrow.Author.Needs.{needs}
 use Rattle.strundevi.proofs.boards.strundevi_raw_body.Statement.{statement}

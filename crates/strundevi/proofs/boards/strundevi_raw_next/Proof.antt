@@ -1,5 +1,5 @@
 use mathlib.Core.Path.{ap, _∙_}
-use Rattle.handing.specs.Handing.{changeOut}
+use Rattle.border_answers.specs.Handing.{changeOut}
 use borrow.Author.Needs.{needs}
 use Rattle.strundevi.proofs.boards.strundevi_raw_next.Statement.{statement}
 use Rattle.strundevi.proofs.boards.strundevi_raw_next.Tie as tie

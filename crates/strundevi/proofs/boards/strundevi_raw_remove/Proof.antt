@@ -1,6 +1,6 @@
 use mathlib.Core.Path.{ap, _∙_}
-use Rattle.board.specs.declared.answer.Answer.{Answer}
-use Rattle.border.specs.Records.{verdictOut}
+use Rattle.board_rules.specs.declared.answer.Answer.{Answer}
+use Rattle.border_records.specs.Records.{verdictOut}
 use borrow.Author.Needs.{needs}
 use Rattle.strundevi.proofs.boards.strundevi_raw_remove.Statement.{statement}
 use Rattle.strundevi.proofs.boards.strundevi_raw_remove.Tie as tie

@@ -5,7 +5,7 @@ use Rattle.subobject.specs.declared.segment.Segment.{Segment}
 use Rattle.subobject.specs.Segments.{segmentWith}
 use Rattle.writer.specs.declared.state.Writer.{Writer}
 use Rattle.writer.specs.Writing.{addAnswer, addBuffer}
-use Rattle.handing.specs.Handing.{writerIn, writtenOut}
+use Rattle.border_answers.specs.Handing.{writerIn, writtenOut}
 use Rattle.strundevi.proofs.writing.strundevi_raw_add.Statement.{statement}
 use Rattle.strundevi.proofs.writing.strundevi_raw_add.Tie as tie
 

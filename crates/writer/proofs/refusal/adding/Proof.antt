@@ -4,7 +4,7 @@ use native.Mathlib.Omega.{arith}
 use borrow.Author.Needs.{needs}
 use Rattle.subobject.specs.declared.head.Head.{Head}
 use Rattle.subobject.specs.Segments.{headOfSegment, segmentWith, subobjectOf, bitsOf}
-use Rattle.layout.proofs.Laws.{small-head}
+use Rattle.writer_layout.proofs.Laws.{small-head}
 use Rattle.writer.specs.Writing.{addNumber, noRoom}
 use Rattle.writer.proofs.Laws.{proper, size-subobject}
 use Rattle.writer.proofs.refusal.adding.Statement.{statement}

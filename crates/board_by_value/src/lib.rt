@@ -1,0 +1,171 @@
+// The board's calls with the record by value (document 01, "The board"): report, remove and compact hand it back, changed
+// or after a refusal as it was; body hands back a part of the lent store; next hands out a change. Each lends the record's
+// arrays to the call of crate lent.
+ghost use mathlib.Core.Path.{_≡_};
+ghost use Rattle.board_rules.specs.Report.{reportAnswer, reportStore};
+ghost use Rattle.board_rules.specs.Remove.{removeAnswer};
+ghost use Rattle.board_rules.specs.Compact.{compactAnswer};
+ghost use Rattle.board_rules.specs.Body.{bodyNumber, bodyOf};
+ghost use Rattle.board_rules.specs.Next.{nextAnswer, freshMark};
+use answers::Verdict;
+use board_record::Board;
+use board_rules::Answer;
+use board_rules::Handed;
+use board_rules::Mark;
+use session::Session;
+
+// Report (key, ERO, session, PST).
+pub fn report(
+    b: Board,
+    store: &mut [u8],
+    key: u64,
+    ero: &[u8],
+    session: Session,
+    pst: u64,
+) -> Answer
+    ensures answer { λ r. ⌜ r ≡ reportAnswer b (now (store .entry)) key (now (ero .entry)) session pst ⌝ }
+    ensures octets { λ r. ⌜ now (store .exit) ≡ reportStore b (now (store .entry)) key (now (ero .entry)) session pst ⌝ }
+{
+    let mut keys = b.keys;
+    let mut versions = b.versions;
+    let mut lengths = b.lengths;
+    let mut version = b.version;
+    let mut floor = b.floor;
+    let verdict = board_calls::report(
+        &mut keys,
+        &mut versions,
+        &mut lengths,
+        &mut version,
+        &mut floor,
+        store,
+        key,
+        ero,
+        session,
+        pst,
+    );
+    let stored = Board {
+        keys: keys,
+        versions: versions,
+        lengths: lengths,
+        version: version,
+        floor: floor,
+    };
+    Answer {
+        verdict: verdict,
+        board: stored,
+    }
+}
+
+// Remove (key).
+pub fn remove(b: Board, store: &[u8], key: u64) -> Answer
+    ensures answer { λ r. ⌜ r ≡ removeAnswer b (now (store .entry)) key ⌝ }
+{
+    let keys = b.keys;
+    let mut versions = b.versions;
+    let mut lengths = b.lengths;
+    let mut version = b.version;
+    let verdict = board_calls::remove(
+        &keys,
+        &mut versions,
+        &mut lengths,
+        &mut version,
+        b.floor,
+        store,
+        key,
+    );
+    let marked = Board {
+        keys: keys,
+        versions: versions,
+        lengths: lengths,
+        version: version,
+        floor: b.floor,
+    };
+    Answer {
+        verdict: verdict,
+        board: marked,
+    }
+}
+
+// Compact (c).
+pub fn compact(b: Board, store: &[u8], c: u64) -> Answer
+    ensures answer { λ r. ⌜ r ≡ compactAnswer b (now (store .entry)) c ⌝ }
+{
+    let mut keys = b.keys;
+    let mut versions = b.versions;
+    let lengths = b.lengths;
+    let mut floor = b.floor;
+    let verdict = board_calls::compact(
+        &mut keys,
+        &mut versions,
+        &lengths,
+        b.version,
+        &mut floor,
+        store,
+        c,
+    );
+    let swept = Board {
+        keys: keys,
+        versions: versions,
+        lengths: lengths,
+        version: b.version,
+        floor: floor,
+    };
+    Answer {
+        verdict: verdict,
+        board: swept,
+    }
+}
+
+// The number of Body (key).
+pub fn body_number(b: Board, store: &[u8], key: u64) -> Verdict
+    ensures number { λ r. ⌜ r ≡ bodyNumber b (now (store .entry)) key ⌝ }
+{
+    board_calls::body_number(
+        &b.keys,
+        &b.versions,
+        &b.lengths,
+        b.version,
+        b.floor,
+        store,
+        key,
+    )
+}
+
+// Body (key): the path's octets, a part of the store; empty on refusal.
+pub fn body<'a>(b: Board, store: &'a [u8], key: u64) -> &'a [u8]
+    ensures body { λ r. ⌜ now r ≡ bodyOf b (now (store .entry)) key ⌝ }
+{
+    board_calls::body(
+        &b.keys,
+        &b.versions,
+        &b.lengths,
+        b.version,
+        b.floor,
+        store,
+        key,
+    )
+}
+
+// Next (mark s, w).
+pub fn next(b: Board, store: &[u8], s: u64, w: u64) -> Handed
+    ensures next { λ r. ⌜ r ≡ nextAnswer b (now (store .entry)) s w ⌝ }
+{
+    board_calls::next(
+        &b.keys,
+        &b.versions,
+        &b.lengths,
+        b.version,
+        b.floor,
+        store,
+        s,
+        w,
+    )
+}
+
+// A fresh mark is the board's version for s and 0 for w, with the follower empty. It has no number: it reads the version
+// only, and next answers 17 to a mark of a record that is no board.
+pub fn fresh_mark(b: Board) -> Mark
+    ensures fresh { λ r. ⌜ r ≡ freshMark b ⌝ }
+{
+    Mark { s: b.version, w: 0 }
+}

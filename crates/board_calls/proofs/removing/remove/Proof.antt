@@ -1,0 +1,63 @@
+use native.Mathlib.Omega.{arith}
+use Rattle.board_record.specs.Table.{boardOf}
+use Rattle.board_calls.proofs.Answers.{remove-not-board, remove-verdict, remove-refused, remove-accepted, remove-place, version-room}
+use borrow.Author.Needs.{needs}
+use Rattle.board_calls.proofs.removing.remove.Statement.{statement}
+use Rattle.board_calls.proofs.removing.remove.Tie as tie
+
+is-board-requires : tie.Need-is-board-requires
+is-board-requires c κs = search needs
+
+refused-requires : tie.Need-refused-requires
+refused-requires c κs = search needs
+
+returns : tie.Need-returns
+returns c = remove-not-board (boardOf (c .before .before .before .before .before .before .before .args .keys .now) (c .before .before .before .before .before .before .before .args .versions .now) (c .before .before .before .before .before .before .before .args .lengths .now) (c .before .before .before .before .before .before .before .args .version .now) (c .before .before .before .before .before .before .before .args .floor)) (c .before .before .before .before .before .before .before .args .store .now) (c .before .before .before .before .before .before .before .args .key) _ _ (c .before .before .is-board .ensures) (c .before .if1 .taken) (c .refused .ensures)
+
+place-of-requires : tie.Need-place-of-requires
+place-of-requires c κs = search needs
+
+length-at-requires : tie.Need-length-at-requires
+length-at-requires c κs = search needs
+
+remove-rules-requires : tie.Need-remove-rules-requires
+remove-rules-requires c κs = search needs
+
+returns-2 : tie.Need-returns-2
+returns-2 c = remove-refused (boardOf (c .before .before .before .before .before .before .before .before .before .before .before .before .args .keys .now) (c .before .before .before .before .before .before .before .before .before .before .before .before .args .versions .now) (c .before .before .before .before .before .before .before .before .before .before .before .before .args .lengths .now) (c .before .before .before .before .before .before .before .before .before .before .before .before .args .version .now) (c .before .before .before .before .before .before .before .before .before .before .before .before .args .floor)) (c .before .before .before .before .before .before .before .before .before .before .before .before .args .store .now) (c .before .before .before .before .before .before .before .before .before .before .before .before .args .key) _ (remove-verdict (boardOf (c .before .before .before .before .before .before .before .before .before .before .before .before .args .keys .now) (c .before .before .before .before .before .before .before .before .before .before .before .before .args .versions .now) (c .before .before .before .before .before .before .before .before .before .before .before .before .args .lengths .now) (c .before .before .before .before .before .before .before .before .before .before .before .before .args .version .now) (c .before .before .before .before .before .before .before .before .before .before .before .before .args .floor)) (c .before .before .before .before .before .before .before .before .before .before .before .before .args .store .now) (c .before .before .before .before .before .before .before .before .before .before .before .before .args .key) _ _ _ _ (c .before .before .before .before .before .before .before .is-board .ensures) (c .before .before .before .before .before .before .if1 .left) (c .before .before .before .before .before .place-of .ensures) (c .before .before .before .length-at .ensures) (c .before .before .remove-rules .ensures)) (c .if2 .taken)
+
+add-next : tie.Need-add-next
+add-next c = let h = version-room (boardOf (c .before .before .before .before .before .before .before .before .before .before .before .before .args .keys .now) (c .before .before .before .before .before .before .before .before .before .before .before .before .args .versions .now) (c .before .before .before .before .before .before .before .before .before .before .before .before .args .lengths .now) (c .before .before .before .before .before .before .before .before .before .before .before .before .args .version .now) (c .before .before .before .before .before .before .before .before .before .before .before .before .args .floor)) _ _ (c .before .before .before .before .before .before .before .is-board .ensures) (c .before .before .before .before .before .before .if1 .left) in omega arith
+
+mul-versions : tie.Need-mul-versions
+mul-versions c = let h = remove-place (c .before .before .before .before .before .before .before .before .before .before .before .before .args .key) (c .before .before .before .before .before .place-of .result) (c .before .before .before .length-at .result) (c .before .before .before .before .before .before .before .before .before .before .before .before .args .version .now) _ (c .before .before .remove-rules .ensures) (c .if2 .left) in omega arith
+
+element-write-versions : tie.Need-element-write-versions
+element-write-versions c = let h = remove-place (c .before .before .before .before .before .before .before .before .before .before .before .before .args .key) (c .before .before .before .before .before .place-of .result) (c .before .before .before .length-at .result) (c .before .before .before .before .before .before .before .before .before .before .before .before .args .version .now) _ (c .before .before .remove-rules .ensures) (c .if2 .left) in omega arith
+
+mul-lengths : tie.Need-mul-lengths
+mul-lengths c = let h = remove-place (c .before .before .before .before .before .before .before .before .before .before .before .before .args .key) (c .before .before .before .before .before .place-of .result) (c .before .before .before .length-at .result) (c .before .before .before .before .before .before .before .before .before .before .before .before .args .version .now) _ (c .before .before .remove-rules .ensures) (c .if2 .left) in omega arith
+
+element-write-lengths : tie.Need-element-write-lengths
+element-write-lengths c = let h = remove-place (c .before .before .before .before .before .before .before .before .before .before .before .before .args .key) (c .before .before .before .before .before .place-of .result) (c .before .before .before .length-at .result) (c .before .before .before .before .before .before .before .before .before .before .before .before .args .version .now) _ (c .before .before .remove-rules .ensures) (c .if2 .left) in omega arith
+
+returns-3 : tie.Need-returns-3
+returns-3 c = remove-accepted (boardOf (c .before .before .before .before .before .before .before .before .before .before .before .before .args .keys .now) (c .before .before .before .before .before .before .before .before .before .before .before .before .args .versions .now) (c .before .before .before .before .before .before .before .before .before .before .before .before .args .lengths .now) (c .before .before .before .before .before .before .before .before .before .before .before .before .args .version .now) (c .before .before .before .before .before .before .before .before .before .before .before .before .args .floor)) (c .before .before .before .before .before .before .before .before .before .before .before .before .args .store .now) (c .before .before .before .before .before .before .before .before .before .before .before .before .args .key) _ _ (remove-verdict (boardOf (c .before .before .before .before .before .before .before .before .before .before .before .before .args .keys .now) (c .before .before .before .before .before .before .before .before .before .before .before .before .args .versions .now) (c .before .before .before .before .before .before .before .before .before .before .before .before .args .lengths .now) (c .before .before .before .before .before .before .before .before .before .before .before .before .args .version .now) (c .before .before .before .before .before .before .before .before .before .before .before .before .args .floor)) (c .before .before .before .before .before .before .before .before .before .before .before .before .args .store .now) (c .before .before .before .before .before .before .before .before .before .before .before .before .args .key) _ _ _ _ (c .before .before .before .before .before .before .before .is-board .ensures) (c .before .before .before .before .before .before .if1 .left) (c .before .before .before .before .before .place-of .ensures) (c .before .before .before .length-at .ensures) (c .before .before .remove-rules .ensures)) (c .if2 .left) (c .before .before .before .before .before .place-of .ensures) (remove-place (c .before .before .before .before .before .before .before .before .before .before .before .before .args .key) (c .before .before .before .before .before .place-of .result) (c .before .before .before .length-at .result) (c .before .before .before .before .before .before .before .before .before .before .before .before .args .version .now) _ (c .before .before .remove-rules .ensures) (c .if2 .left))
+
+pub remove-spec : {M : Type 1} → statement M
+remove-spec =
+    tie.close
+    (tie.spec
+    is-board-requires
+    refused-requires
+    returns
+    place-of-requires
+    length-at-requires
+    remove-rules-requires
+    returns-2
+    add-next
+    mul-versions
+    element-write-versions
+    mul-lengths
+    element-write-lengths
+    returns-3)

@@ -1,0 +1,198 @@
+-- The laws of the chains, and of the pass over the places. Assumes nothing.
+use Prim.Native.Nat.{ℕ, zero, suc, _+_, _-_, _<_, _≤_}
+use native.Mathlib.Numerals.{add-one}
+use native.Mathlib.Nat.{add-sub-cancel}
+use native.Mathlib.Omega.{arith}
+use mathlib.Core.Path.{_≡_, refl, sym, ap, _∙_, subst}
+use mathlib.Core.Bool.{Bool, true, false, not, _&&_, _||_}
+use mathlib.Core.List.{List}
+use mathlib.Core.Logic.{_⊎_, inl, inr, ⊎-elim}
+use lib.ListN.{getD, set, length, length-set, replicate, length-replicate, getD-replicate, List·getD-eq-default}
+use lib.Dec.{eqb, leb, ltb}
+use borrow.Author.Tests.{le-leb, eq-eqb, ne-eqb, not-true, not-false}
+use Rattle.board_record.specs.Sizes.{versionMost}
+use Rattle.board_record.specs.Table.{boardOf}
+use Rattle.board_record.specs.Proper.{allBelow, placeOk, soundB, freshB, newB, distinctB, properB}
+use Rattle.board_record.proofs.Logic.{and-false, or-true, same?, from?, at-set}
+use Rattle.board_record.proofs.All.{all-none, all-more, all-fails, all-of}
+use Rattle.board_record.proofs.Proper.{sound}
+use Rattle.board_proper.specs.Chain.{slotOf, Node, Heads, Links, Walking}
+
+-- ---- the walk of one chain
+pub walk-starts : (xs hs : List ℕ) (i k : ℕ) → Heads xs hs i → (k ≡ 0 → ⊥) → Walking xs i k (getD hs (slotOf k) 0)
+walk-starts xs hs i k h u =
+    record {
+      used = u;
+      low = h .low (slotOf k);
+      node = h .node (slotOf k);
+      past = λ j l m e. let q : j < getD hs (slotOf k) 0 = rw e at (h .all j l (λ z. u (sym e ∙ z))) in omega arith;
+    }
+
+pub walk-on : (xs ns : List ℕ) (i k p : ℕ) → Links xs ns i → Walking xs i k p → (p ≡ 0 → ⊥) → (getD xs (p - 1) 0 ≡ k → ⊥) → Walking xs i k (getD ns (p - 1) 0)
+walk-on xs ns i k p n w z d =
+    let o : Node xs (slotOf k) (p - 1) = w .node (omega arith) in
+    let b : getD ns (p - 1) 0 ≤ p - 1 = n .low (p - 1) in
+    let g : p ≤ i = w .low in
+    record {
+      used = w .used;
+      low = omega arith;
+      node = λ q. rw (o .slotted) at (n .node (p - 1) (omega arith) (o .used) q);
+      past = λ j l m e.
+          ⊎-elim (λ t. d (ap (λ (y : ℕ). getD xs y 0) (sym t) ∙ e))
+          (λ t. ⊎-elim (λ s. w .past j l s e)
+          (λ s. let q : j < getD ns (p - 1) 0 = n .all (p - 1) j (omega arith) (omega (arith, t, s)) (o .used) (λ y. w .used (sym e ∙ y)) (ap slotOf e ∙ sym (o .slotted)) in omega arith)
+          (from? p j))
+          (same? j (p - 1));
+    }
+
+pub walk-hit : (xs : List ℕ) (i k p : ℕ) → Walking xs i k p → (p ≡ 0 → ⊥) → getD xs (p - 1) 0 ≡ k → false ≡ freshB xs i k
+unfolding freshB
+walk-hit xs i k p w z e = let g : p ≤ i = w .low in sym (all-fails (λ j. not (eqb (getD xs j 0) k)) i (p - 1) (omega arith) (rw (eq-eqb (getD xs (p - 1) 0) k e)))
+
+pub walk-ends : (xs : List ℕ) (i k p : ℕ) → Walking xs i k p → p ≡ 0 → true ≡ freshB xs i k
+unfolding freshB
+walk-ends xs i k p w z = sym (all-of (λ j. not (eqb (getD xs j 0) k)) i (λ j l. rw (ne-eqb (getD xs j 0) k (w .past j l (omega arith)))))
+
+-- ---- one place more
+pub chain-heads : (xs hs : List ℕ) (i : ℕ) → Heads xs hs i → (getD xs i 0 ≡ 0 → ⊥) → slotOf (getD xs i 0) < 512 → Heads xs (set hs (slotOf (getD xs i 0)) (i + 1)) (i + 1)
+chain-heads xs hs i h u b =
+    let s = slotOf (getD xs i 0) in
+    let r : s < length hs = omega (arith, h .size) in
+    record {
+      size = length-set hs s (i + 1) ∙ h .size;
+      low = λ g. at-set (λ y. y ≤ i + 1) hs s g (i + 1) r (λ e. omega arith) (λ d. omega (arith, h .low g));
+      node = λ g. at-set (λ y. 0 < y → Node xs g (y - 1)) hs s g (i + 1) r (λ e q. rw (add-sub-cancel i 1) (record { slotted = sym e; used = u })) (λ d. h .node g);
+      all = λ j l v. at-set (λ y. j < y) hs s (slotOf (getD xs j 0)) (i + 1) r (λ e. omega arith)
+          (λ d. h .all j (⊎-elim (λ e. absurd (d (ap (λ (y : ℕ). slotOf (getD xs y 0)) e))) (λ e. omega (arith, e)) (same? j i)) v);
+    }
+
+pub chain-links : (xs hs ns : List ℕ) (i : ℕ) → Heads xs hs i → Links xs ns i → i < 128 → (getD xs i 0 ≡ 0 → ⊥) → Links xs (set ns i (getD hs (slotOf (getD xs i 0)) 0)) (i + 1)
+chain-links xs hs ns i h n l u =
+    let s = slotOf (getD xs i 0) in
+    let a = getD hs s 0 in
+    let r : i < length ns = omega (arith, n .size) in
+    record {
+      size = length-set ns i a ∙ n .size;
+      low = λ x. at-set (λ y. y ≤ x) ns i x a r (λ e. omega (arith, h .low s)) (λ d. n .low x);
+      node = λ x m v. at-set (λ y. 0 < y → Node xs (slotOf (getD xs x 0)) (y - 1)) ns i x a r
+          (λ e q. subst (λ (y : ℕ). Node xs (slotOf (getD xs y 0)) (a - 1)) (sym e) (h .node s q)) (λ d. n .node x (omega (arith, d)) v);
+      all = λ x j m o v w e. at-set (λ y. j < y) ns i x a r
+          (λ q. rw (e ∙ ap (λ (y : ℕ). slotOf (getD xs y 0)) q) at (h .all j (omega arith) w)) (λ d. n .all x j (omega (arith, d)) o v w e);
+    }
+
+pub skip-heads : (xs hs : List ℕ) (i : ℕ) → Heads xs hs i → getD xs i 0 ≡ 0 → Heads xs hs (i + 1)
+skip-heads xs hs i h z =
+    record {
+      size = h .size;
+      low = λ g. omega (arith, h .low g);
+      node = h .node;
+      all = λ j l v. h .all j (⊎-elim (λ e. absurd (v (ap (λ (y : ℕ). getD xs y 0) e ∙ z))) (λ e. omega (arith, e)) (same? j i)) v;
+    }
+
+pub skip-links : (xs ns : List ℕ) (i : ℕ) → Links xs ns i → getD xs i 0 ≡ 0 → Links xs ns (i + 1)
+skip-links xs ns i n z =
+    record {
+      size = n .size;
+      low = n .low;
+      node = λ x m v. n .node x (below x m v) v;
+      all = λ x j m o v w e. n .all x j (below x m v) o v w e;
+    }
+  where
+    below : (x : ℕ) → x < i + 1 → (getD xs x 0 ≡ 0 → ⊥) → x < i
+    below x m v = ⊎-elim (λ t. absurd (v (ap (λ (y : ℕ). getD xs y 0) t ∙ z))) (λ t. omega (arith, t)) (same? x i)
+
+zeros : (n j : ℕ) → getD {A = ℕ} (replicate n 0) j 0 ≡ 0
+zeros n j = ⊎-elim (λ l. List·getD-eq-default (replicate n 0) 0 (omega (arith, length-replicate {A = ℕ} n 0))) (λ l. getD-replicate n j 0 0 l) (from? n j)
+
+pub no-heads : (xs : List ℕ) → Heads xs (replicate 512 0) 0
+no-heads xs =
+    record { size = length-replicate {A = ℕ} 512 0; low = λ g. omega (arith, zeros 512 g); node = λ g q. absurd (omega (arith, zeros 512 g)); all = λ j l v. absurd (omega arith) }
+
+pub no-links : (xs : List ℕ) → Links xs (replicate 128 0) 0
+no-links xs =
+    record { size = length-replicate {A = ℕ} 128 0; low = λ x. omega (arith, zeros 128 x); node = λ x m v q. absurd (omega arith); all = λ x j m o v w e. absurd (omega arith) }
+
+-- ---- the numbers so far
+pub new-zero : (xs : List ℕ) (i : ℕ) → getD xs i 0 ≡ 0 → newB xs i ≡ true
+unfolding newB
+new-zero xs i e = rw (eq-eqb (getD xs i 0) 0 e)
+
+pub new-fresh : (xs : List ℕ) (i : ℕ) (r : Bool) → r ≡ freshB xs i (getD xs i 0) → not r ≡ false → newB xs i ≡ true
+unfolding newB
+new-fresh xs i r e n = rw (← e, not-false r n) (or-true (eqb (getD xs i 0) 0))
+
+pub not-distinct : (xs : List ℕ) (i : ℕ) (r : Bool) → i < 128 → (getD xs i 0 ≡ 0 → ⊥) → r ≡ freshB xs i (getD xs i 0) → not r ≡ true → false ≡ distinctB xs
+unfolding distinctB newB
+not-distinct xs i r l u e n = sym (all-fails (newB xs) 128 i l (rw (newB, ne-eqb (getD xs i 0) 0 u, ← e, not-true r n)))
+
+pub is-distinct : (xs : List ℕ) (i : ℕ) → i ≤ 128 → 128 ≤ i → allBelow (newB xs) i ≡ true → true ≡ distinctB xs
+unfolding distinctB
+is-distinct xs i h l e = let q : i ≡ 128 = omega arith in sym (rw q at e)
+
+-- ---- the loop over the numbers
+pub record Chained (xs hs ns : List ℕ) (i : ℕ) : Type 0 where
+  pub heads : Heads xs hs i
+  pub links : Links xs ns i
+  pub fine : allBelow (newB xs) i ≡ true
+
+pub chained-none : (xs : List ℕ) → Chained xs (replicate 512 0) (replicate 128 0) 0
+chained-none xs = record { heads = no-heads xs; links = no-links xs; fine = all-none (newB xs) }
+
+pub chained-skip : (xs hs ns : List ℕ) (i : ℕ) → Chained xs hs ns i → getD xs i 0 ≡ 0 → Chained xs hs ns (i + 1)
+chained-skip xs hs ns i c e =
+    record { heads = skip-heads xs hs i (c .heads) e; links = skip-links xs ns i (c .links) e; fine = all-more (newB xs) i (c .fine) (new-zero xs i e) }
+
+pub chained-more : (xs hs ns : List ℕ) (i k h : ℕ) (r : Bool) → Chained xs hs ns i → i < 128 → (getD xs i 0 ≡ 0 → ⊥) → k ≡ getD xs i 0 → h ≡ slotOf k → h < 512 → r ≡ freshB xs i (getD xs i 0) → not r ≡ false
+    → Chained xs (set hs h (i + 1)) (set ns i (getD hs h 0)) (i + 1)
+chained-more xs hs ns i k h r c l u g o b f n =
+    let e : h ≡ slotOf (getD xs i 0) = rw g at o in
+    rw e
+    (record {
+      heads = chain-heads xs hs i (c .heads) u (rw e at b);
+      links = chain-links xs hs ns i (c .heads) (c .links) l u;
+      fine = all-more (newB xs) i (c .fine) (new-fresh xs i r f n);
+    })
+
+pub chained-walk : (xs hs ns : List ℕ) (i k h p : ℕ) → Chained xs hs ns i → (getD xs i 0 ≡ 0 → ⊥) → k ≡ getD xs i 0 → h ≡ slotOf k → p ≡ getD hs h 0 → Walking xs i (getD xs i 0) p
+chained-walk xs hs ns i k h p c u g e q = rw (q, e, g) (walk-starts xs hs i (getD xs i 0) (c .heads) u)
+
+-- ---- what one place says of its version
+pub empty-version : (k v l top floor : ℕ) (r : Bool) → r ≡ placeOk k v l top floor → not r ≡ false → k ≡ 0 → v ≡ 0
+empty-version k v l top floor r e n z = sound k v l top floor (sym e ∙ not-false r n) .none z .0
+
+pub used-version : (k v l top floor : ℕ) (r : Bool) → r ≡ placeOk k v l top floor → not r ≡ false → (k ≡ 0 → ⊥) → v ≡ 0 → ⊥
+used-version k v l top floor r e n u z = omega (arith, sound k v l top floor (sym e ∙ not-false r n) .low u)
+
+-- ---- the pass
+module _ (ks vs ls : List ℕ) (top floor : ℕ) where
+  pub places-more : (i : ℕ) (r : Bool) → r ≡ placeOk (getD ks i 0) (getD vs i 0) (getD ls i 0) top floor → not r ≡ false
+      → allBelow (soundB (boardOf ks vs ls top floor)) i ≡ true
+      → allBelow (soundB (boardOf ks vs ls top floor)) (i + 1) ≡ true
+  unfolding soundB
+  places-more i r e n h = all-more (soundB (boardOf ks vs ls top floor)) i h (sym e ∙ not-false r n)
+
+  -- it stops at a place that is not sound, at a key and at a version that came before
+  pub pass-place : (i : ℕ) (r : Bool) → i < 128 → r ≡ placeOk (getD ks i 0) (getD vs i 0) (getD ls i 0) top floor → not r ≡ true → false ≡ properB (boardOf ks vs ls top floor)
+  unfolding properB soundB
+  pass-place i r l e n =
+      rw (all-fails (soundB (boardOf ks vs ls top floor)) 128 i l (sym e ∙ not-true r n), and-false (leb floor top && leb top versionMost))
+
+  pub pass-key : (i : ℕ) (r : Bool) → i < 128 → (getD ks i 0 ≡ 0 → ⊥) → r ≡ freshB ks i (getD ks i 0) → not r ≡ true → false ≡ properB (boardOf ks vs ls top floor)
+  unfolding properB
+  pass-key i r l u e n =
+      rw (← not-distinct ks i r l u e n, and-false (leb floor top && leb top versionMost && allBelow (soundB (boardOf ks vs ls top floor)) 128))
+
+  pub pass-version : (i : ℕ) (r : Bool) → i < 128 → (getD vs i 0 ≡ 0 → ⊥) → r ≡ freshB vs i (getD vs i 0) → not r ≡ true → false ≡ properB (boardOf ks vs ls top floor)
+  unfolding properB
+  pass-version i r l u e n =
+      rw (← not-distinct vs i r l u e n, and-false (leb floor top && leb top versionMost && allBelow (soundB (boardOf ks vs ls top floor)) 128 && distinctB ks))
+
+  -- it ends
+  pub pass-all : (i : ℕ) {hs ns gs ms : List ℕ} → floor ≤ top → top ≤ versionMost → i ≤ 128 → 128 ≤ i → Chained ks hs ns i → Chained vs gs ms i
+      → allBelow (soundB (boardOf ks vs ls top floor)) i ≡ true
+      → true ≡ properB (boardOf ks vs ls top floor)
+  unfolding properB
+  pass-all i f t h l a b e =
+      let q : i ≡ 128 = omega arith in
+      let p : allBelow (soundB (boardOf ks vs ls top floor)) 128 ≡ true = rw q at e in
+      rw (le-leb floor top f, le-leb top versionMost t, p, ← is-distinct ks i h l (a .fine), ← is-distinct vs i h l (b .fine))

@@ -1,0 +1,154 @@
+-- 17 is answered exactly if the store is shorter than 49,152 octets or the record isn't proper, by every call, before any other number. Assumes
+-- nothing.
+use Prim.Native.Nat.{ℕ, _+_, _<_, _≤_, max}
+use native.Mathlib.Omega.{arith}
+use mathlib.Core.Path.{_≡_, refl, sym, ap, _∙_}
+use mathlib.Core.Bool.{Bool, true, false, not, cond, _&&_}
+use mathlib.Core.List.{List, [], _∷_, _++_}
+use lib.ListN.{length}
+use lib.Dec.{eqb, ltb, leb}
+use Rattle.answers.specs.declared.verdict.Verdict.{Verdict}
+use Rattle.answers.specs.Numbers.{notABoard}
+use Rattle.answers.specs.Verdicts.{refusedBy, acceptedWith}
+use Rattle.session.specs.declared.Session.{Session}
+use Rattle.frame.specs.Checks.{Check, firstBroken}
+use Rattle.frame.specs.Frames.{placesOf, frameChecks}
+use Rattle.route.specs.Routes.{brokenAt, subobjectChecks, lastChecks, checksOf, countOf, judgeOf}
+use Rattle.board_record.specs.declared.record.Board.{Board}
+use Rattle.board_record.specs.Sizes.{places, room, versionMost}
+use Rattle.board_record.specs.Search.{targetOf}
+use Rattle.board_rules.specs.declared.answer.Answer.{Answer}
+use Rattle.board_rules.specs.declared.answer.Handed.{Handed}
+use Rattle.board_rules.specs.declared.answer.Handed.the-variants.{Refused, Path, Removed, Level}
+use Rattle.board_rules.specs.Rules.{isBoard, inRange, hasPath}
+use Rattle.board_rules.specs.Report.{bodyIn, reportRules, reportVerdict, reportWith, reportAnswer}
+use Rattle.board_rules.specs.Remove.{removeRules, removeVerdict, removeAnswer}
+use Rattle.board_rules.specs.Compact.{compactRules, compactVerdict, compactAnswer}
+use Rattle.board_rules.specs.Body.{bodyRules, bodyNumber}
+use Rattle.board_rules.specs.Next.{nextRules, nextVerdict, nextAnswer}
+use Rattle.board_rules.proofs.Verdicts.{Whole, board-whole, whole-board}
+
+-- no board: the store is short or the record not proper
+abbrev pub NoBoard : Board → ℕ → Type 0
+NoBoard b n = Whole b n → ⊥
+
+no-board : (b : Board) (n : ℕ) → NoBoard b n → isBoard b n ≡ false
+no-board b n f = go (isBoard b n) refl
+  where
+    go : (x : Bool) → isBoard b n ≡ x → isBoard b n ≡ false
+    go true e = absurd (f (board-whole b n e))
+    go false e = e
+
+-- a rule of another number does not answer 17
+other : (t : Bool) (n : ℕ) (x : Verdict) → (n ≡ notABoard → ⊥) → (x .number ≡ notABoard → ⊥) → cond t (refusedBy n 0) x .number ≡ notABoard → ⊥
+other true n x f g e = f e
+other false n x f g e = g e
+
+-- ---- the numbers of the route checks are below 15
+abbrev Low : List Check → Type 0
+Low [] = Unit {0}
+Low (c ∷ cs) = (c .number < 15) × Low cs
+
+low-append : (xs ys : List Check) → Low xs → Low ys → Low (xs ++ ys)
+low-append [] ys p q = q
+low-append (x ∷ xs) ys p q = (p .0, low-append xs ys (p .1) q)
+
+low-first : (cs : List Check) (after : Verdict) → Low cs → after .number < 15 → firstBroken cs after .number < 15
+low-first [] after p h = h
+low-first (c ∷ cs) after p h = go (c .broken) (low-first cs after (p .1) h)
+  where
+    go : (x : Bool) → firstBroken cs after .number < 15 → cond x (refusedBy (c .number) (c .place)) (firstBroken cs after) .number < 15
+    go true q = p .0
+    go false q = q
+
+low-subobjects : (broken : ℕ → ℕ → Bool) (ps : List ℕ) → Low (subobjectChecks broken ps)
+low-subobjects broken [] = tt
+low-subobjects broken (p ∷ ps) = (omega arith, (omega arith, (omega arith, (omega arith, (omega arith, low-subobjects broken ps)))))
+
+low-all : (s : List ℕ) (ero : Bool) (session : Session) (pst : ℕ) → Low (checksOf s ero session pst)
+low-all s ero session pst =
+    let rest = low-append (subobjectChecks (brokenAt ero (session .n) s) (placesOf s)) (lastChecks ero (session .limit) (countOf s) (placesOf s)) (low-subobjects (brokenAt ero (session .n) s) (placesOf s)) (omega arith, tt) in
+    (omega arith, (omega arith, (omega arith, (omega arith, (omega arith, rest)))))
+
+pub route-low : (s : List ℕ) (ero : Bool) (session : Session) (pst : ℕ) → judgeOf s ero session pst .number < 15
+unfolding judgeOf
+route-low s ero session pst = low-first (checksOf s ero session pst) (acceptedWith (countOf s)) (low-all s ero session pst) (omega arith)
+
+-- ---- report
+module _ (b : Board) (store : List ℕ) (k : ℕ) (ero : List ℕ) (session : Session) (pst : ℕ) where
+  pub report-17-then : NoBoard b (length store) → reportAnswer b store k ero session pst .verdict ≡ refusedBy notABoard 0
+  unfolding reportAnswer reportWith reportVerdict reportRules
+  report-17-then f = rw (no-board b (length store) f)
+
+  pub report-17-only : reportAnswer b store k ero session pst .verdict .number ≡ notABoard → NoBoard b (length store)
+  unfolding reportAnswer reportWith reportVerdict reportRules
+  report-17-only e w = rest (judgeOf ero true session pst) (route-low ero true session pst) (rw (whole-board b (length store) w) at e)
+    where
+      rest : (route : Verdict) → route .number < 15
+          → cond (not (inRange k)) (refusedBy 18 0)
+          (cond (not (eqb (route .number) 0)) route
+          (cond (ltb room (length (bodyIn ero))) (refusedBy 19 0)
+          (cond (eqb (b .version) versionMost) (refusedBy 20 0) (cond (leb places (targetOf b k)) (refusedBy 21 0) route))))
+          .number ≡ notABoard
+          → ⊥
+      rest route l =
+          other (not (inRange k)) 18 _ (λ z. omega arith)
+          (λ z. check (not (eqb (route .number) 0)) z)
+        where
+          check : (t : Bool)
+              → cond t route
+              (cond (ltb room (length (bodyIn ero))) (refusedBy 19 0)
+              (cond (eqb (b .version) versionMost) (refusedBy 20 0) (cond (leb places (targetOf b k)) (refusedBy 21 0) route)))
+              .number ≡ notABoard
+              → ⊥
+          check true z = omega arith
+          check false z =
+              other (ltb room (length (bodyIn ero))) 19 _ (λ y. omega arith)
+              (other (eqb (b .version) versionMost) 20 _ (λ y. omega arith) (other (leb places (targetOf b k)) 21 route (λ y. omega arith) (λ y. omega arith))) z
+
+-- ---- remove
+module _ (b : Board) (store : List ℕ) (k : ℕ) where
+  pub remove-17-then : NoBoard b (length store) → removeAnswer b store k .verdict ≡ refusedBy notABoard 0
+  unfolding removeAnswer removeVerdict removeRules
+  remove-17-then f = rw (no-board b (length store) f)
+
+  pub remove-17-only : removeAnswer b store k .verdict .number ≡ notABoard → NoBoard b (length store)
+  unfolding removeAnswer removeVerdict removeRules
+  remove-17-only e w =
+      other (not (inRange k)) 18 _ (λ y. omega arith)
+      (other (not (hasPath b k)) 22 _ (λ y. omega arith) (other (eqb (b .version) versionMost) 20 (acceptedWith 0) (λ y. omega arith) (λ y. omega arith)))
+      (rw (whole-board b (length store) w) at e)
+
+  -- ---- body
+  pub body-17-then : NoBoard b (length store) → bodyNumber b store k ≡ refusedBy notABoard 0
+  unfolding bodyNumber bodyRules
+  body-17-then f = rw (no-board b (length store) f)
+
+  pub body-17-only : bodyNumber b store k .number ≡ notABoard → NoBoard b (length store)
+  unfolding bodyNumber bodyRules
+  body-17-only e w =
+      other (not (inRange k)) 18 _ (λ y. omega arith) (other (not (hasPath b k)) 22 (acceptedWith 0) (λ y. omega arith) (λ y. omega arith))
+      (rw (whole-board b (length store) w) at e)
+
+-- ---- compact
+module _ (b : Board) (store : List ℕ) (m : ℕ) where
+  pub compact-17-then : NoBoard b (length store) → compactAnswer b store m .verdict ≡ refusedBy notABoard 0
+  unfolding compactAnswer compactVerdict compactRules
+  compact-17-then f = rw (no-board b (length store) f)
+
+  pub compact-17-only : compactAnswer b store m .verdict .number ≡ notABoard → NoBoard b (length store)
+  unfolding compactAnswer compactVerdict compactRules
+  compact-17-only e w = other (ltb (b .version) m) 24 (acceptedWith 0) (λ y. omega arith) (λ y. omega arith) (rw (whole-board b (length store) w) at e)
+
+-- ---- next
+module _ (b : Board) (store : List ℕ) (s w : ℕ) where
+  pub next-17-then : NoBoard b (length store) → nextAnswer b store s w ≡ Refused (refusedBy notABoard 0)
+  unfolding nextAnswer nextVerdict nextRules
+  next-17-then f = rw (no-board b (length store) f)
+
+  pub next-17-only : nextVerdict b store s w .number ≡ notABoard → NoBoard b (length store)
+  unfolding nextVerdict nextRules
+  next-17-only e h =
+      other (ltb (b .version) s) 24 _ (λ y. omega arith)
+      (other (ltb (b .version) w) 24 _ (λ y. omega arith) (other (ltb (max s w) (b .floor)) 23 (acceptedWith 0) (λ y. omega arith) (λ y. omega arith)))
+      (rw (whole-board b (length store) h) at e)

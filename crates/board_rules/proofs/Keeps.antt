@@ -1,0 +1,274 @@
+-- Every call hands a proper record back if it got one; version and floor never fall, and the version rises by exactly 1 with each accepted report or
+-- removal and with nothing else. Assumes nothing.
+use Prim.Native.Nat.{ℕ, zero, suc, _+_, _*_, _<_, _≤_, _%_, max}
+use native.Mathlib.Omega.{arith}
+use mathlib.Core.Path.{_≡_, refl, sym, ap, _∙_, subst}
+use mathlib.Core.Bool.{Bool, true, false, not, cond, _&&_}
+use mathlib.Core.List.{List, [], _∷_, _++_}
+use mathlib.Core.Logic.{_⊎_, inl, inr, ⊎-elim}
+use lib.ListN.{length, getD, length-append, List·getD-append}
+use lib.Seq.{getD-append-add}
+use lib.Dec.{eqb, ltb, leb}
+use borrow.Author.Tests.{eq-eqb, ne-eqb, eqb-true, eqb-false, le-leb, leb-true, leb-false}
+use Rattle.answers.specs.declared.verdict.Verdict.{Verdict}
+use Rattle.answers.specs.Verdicts.{kept}
+use Rattle.session.specs.declared.Session.{Session}
+use Rattle.route.specs.Routes.{judgeOf}
+use Rattle.route.proofs.Answer.{accepted-body}
+use Rattle.board_record.specs.declared.record.Board.{Board}
+use Rattle.board_record.specs.Sizes.{places, room, unit, bodyLeast, versionMost}
+use Rattle.board_record.specs.Table.{boardOf, Sized, keyAt, versionAt, lengthAt, Empty, Used, Removal, changed, removalB}
+use Rattle.board_record.specs.Search.{KeyPlace, placeOf, LowestEmpty, OldestRemoval, ReportPlace, keeps, takes, drops, targetOf, floorAfter}
+use Rattle.board_record.specs.Proper.{Proper}
+use Rattle.board_record.proofs.Logic.{true≢false, and-true, same?}
+use Rattle.board_record.proofs.Search.{removal-is, is-removal, report-place-is, floor-keeps, floor-takes, floor-drops}
+use Rattle.board_record.proofs.Proper.{Sound, proper-sound, sound-proper}
+use Rattle.board_record.proofs.Changed.{Storable, Fitting, changed-sized, changed-proper}
+use Rattle.board_rules.specs.declared.answer.Answer.{Answer}
+use Rattle.board_rules.specs.Report.{bodyIn, reportVerdict, reported, reportWith, reportAnswer}
+use Rattle.board_rules.specs.Remove.{removeVerdict, removed, removeAnswer}
+use Rattle.board_rules.specs.Compact.{compactVerdict, dropped, row, compacted, compactAnswer}
+use Rattle.board_rules.proofs.Verdicts.{kept-old, kept-new, ReportPassed, report-passed, RemovePassed, remove-passed, CompactPassed, compact-passed}
+
+-- ---- report
+pub record Body (ero : List ℕ) : Type 0 where
+  pub least : bodyLeast ≤ length (bodyIn ero)
+  pub four : length (bodyIn ero) % unit ≡ 0
+
+-- where a report goes, and the floor after it, fit the board
+report-fits : (b : Board) → Proper b → (k n i : ℕ) → 1 ≤ k → k ≤ 1048574 → Storable n → (b .version ≡ versionMost → ⊥) → i < places → ReportPlace b k i → Fitting b i k n (floorAfter b k i)
+report-fits b p k n i low high size left here (keeps x) =
+    let e = floor-keeps b k i (x .key) in
+    record {
+      here = here;
+      low = low;
+      high = high;
+      size = size;
+      top = omega (arith, p .version-in, left);
+      floor = omega (arith, e, p .floor-in);
+      only = λ j l d q. d (p .keys-distinct j i l here (λ z. omega (arith, sym q ∙ z)) (q ∙ sym (x .key)));
+      marks = λ j l d r. omega (arith, e, p .removal-above j l r);
+    }
+report-fits b p k n i low high size left here (takes new x) =
+    let e = floor-takes b k i (x .empty) in
+    record {
+      here = here;
+      low = low;
+      high = high;
+      size = size;
+      top = omega (arith, p .version-in, left);
+      floor = omega (arith, e, p .floor-in);
+      only = λ j l d. new j l;
+      marks = λ j l d r. omega (arith, e, p .removal-above j l r);
+    }
+report-fits b p k n i low high size left here (drops new used x) =
+    let e = floor-drops b k i (x .removal .used) (new i here) in
+    record {
+      here = here;
+      low = low;
+      high = high;
+      size = size;
+      top = omega (arith, p .version-in, left);
+      floor = omega (arith, e, p .version-most i here (x .removal .used));
+      only = λ j l d. new j l;
+      marks = λ j l d r.
+          let apart : versionAt b j ≡ versionAt b i → ⊥ = λ z. d (p .versions-distinct j i l here (r .used) z) in
+          omega (arith, e, x .oldest j l r, apart);
+    }
+
+pub reported-proper : (b : Board) (store : List ℕ) (k : ℕ) (ero : List ℕ) (route : Verdict) → Sized b → Body ero → reportVerdict b store k ero route .number ≡ 0 → Proper (reported b k ero)
+unfolding reported
+reported-proper b store k ero route s y z =
+    let g = report-passed b store k ero route z in
+    let p = g .whole .proper in
+    let size : Storable (length (bodyIn ero)) = record { most = g .size; four = y .four; least = λ d. y .least } in
+    changed-proper b (targetOf b k) k (length (bodyIn ero)) (floorAfter b k (targetOf b k)) s p
+    (report-fits b p k (length (bodyIn ero)) (targetOf b k) (g .key-least) (g .key-most) size (g .versions-left) (g .place) (report-place-is b k (g .place)))
+
+-- a test on whether a verdict is an acceptance
+taken? : (v : Verdict) → (v .number ≡ 0) ⊎ (v .number ≡ 0 → ⊥)
+taken? v = same? (v .number) 0
+
+pub report-proper : (b : Board) (store : List ℕ) (k : ℕ) (ero : List ℕ) (session : Session) (pst : ℕ) → Sized b → Proper b → Proper (reportAnswer b store k ero session pst .board)
+unfolding reportAnswer reportWith
+report-proper b store k ero session pst s p = ⊎-elim yes no (taken? (reportVerdict b store k ero (judgeOf ero true session pst)))
+  where
+    yes : reportVerdict b store k ero (judgeOf ero true session pst) .number ≡ 0 → Proper (kept (reportVerdict b store k ero (judgeOf ero true session pst) .number) b (reported b k ero))
+    yes z =
+        let g = report-passed b store k ero (judgeOf ero true session pst) z in
+        let h = accepted-body ero true session pst (g .route-taken) in
+        rw (kept-new (reportVerdict b store k ero (judgeOf ero true session pst) .number) b (reported b k ero) z)
+        (reported-proper b store k ero (judgeOf ero true session pst) s (record { least = h .0; four = h .1 }) z)
+
+    no : (reportVerdict b store k ero (judgeOf ero true session pst) .number ≡ 0 → ⊥) → Proper (kept (reportVerdict b store k ero (judgeOf ero true session pst) .number) b (reported b k ero))
+    no d = rw (kept-old (reportVerdict b store k ero (judgeOf ero true session pst) .number) b (reported b k ero) d) p
+
+-- ---- remove
+pub removed-proper : (b : Board) (store : List ℕ) (k : ℕ) → Sized b → removeVerdict b store k .number ≡ 0 → Proper (removed b k)
+unfolding removed
+removed-proper b store k s z =
+    let g = remove-passed b store k z in
+    let p = g .whole .proper in
+    changed-proper b (placeOf b k) k 0 (b .floor) s p
+    (record {
+      here = g .place .here;
+      low = g .key-least;
+      high = g .key-most;
+      size = record { most = omega arith; four = refl; least = λ d. absurd (d refl) };
+      top = omega (arith, p .version-in, g .versions-left);
+      floor = p .floor-in;
+      only = λ j l d q. d (p .keys-distinct j (placeOf b k) l (g .place .here) (λ e. omega (arith, g .key-least, sym q ∙ e)) (q ∙ sym (g .place .key)));
+      marks = λ j l d r. p .removal-above j l r;
+    })
+
+pub remove-proper : (b : Board) (store : List ℕ) (k : ℕ) → Sized b → Proper b → Proper (removeAnswer b store k .board)
+unfolding removeAnswer
+remove-proper b store k s p =
+    ⊎-elim (λ z. rw (kept-new (removeVerdict b store k .number) b (removed b k) z) (removed-proper b store k s z))
+    (λ d. rw (kept-old (removeVerdict b store k .number) b (removed b k) d) p) (taken? (removeVerdict b store k))
+
+-- ---- compact
+pub length-row : (f : ℕ → ℕ) (n : ℕ) → length (row f n) ≡ n
+unfolding row
+length-row f zero = refl
+length-row f (suc n) = length-append (row f n) (f n ∷ []) ∙ omega (arith, length-row f n)
+
+pub row-at : (f : ℕ → ℕ) (n i : ℕ) → i < n → getD (row f n) i 0 ≡ f i
+unfolding row
+row-at f zero i l = absurd (omega arith)
+row-at f (suc n) i l = go (row-at f n i) (same? i n)
+  where
+    go : (i < n → getD (row f n) i 0 ≡ f i) → (i ≡ n) ⊎ (i ≡ n → ⊥) → getD (row f n ++ (f n ∷ [])) i 0 ≡ f i
+    go p (inl e) =
+        let q : i ≡ length (row f n) + 0 = omega (arith, length-row f n) in
+        ap (λ (m : ℕ). getD (row f n ++ (f n ∷ [])) m 0) q ∙ getD-append-add (row f n) (f n ∷ []) 0 0 ∙ ap f (sym e)
+    go p (inr d) = List·getD-append (row f n) (f n ∷ []) 0 i (omega (arith, d, length-row f n)) ∙ p (omega (arith, d))
+
+module _ (b : Board) (m : ℕ) where
+  pub compacted-key : (i : ℕ) → i < places → keyAt (compacted b m) i ≡ cond (dropped b m i) 0 (keyAt b i)
+  unfolding compacted
+  compacted-key i l = row-at (λ j. cond (dropped b m j) 0 (keyAt b j)) 128 i l
+
+  pub compacted-version : (i : ℕ) → i < places → versionAt (compacted b m) i ≡ cond (dropped b m i) 0 (versionAt b i)
+  unfolding compacted
+  compacted-version i l = row-at (λ j. cond (dropped b m j) 0 (versionAt b j)) 128 i l
+
+  dropped-is : (i : ℕ) → dropped b m i ≡ true → Removal b i × (versionAt b i ≤ m)
+  unfolding dropped
+  dropped-is i e = let p = and-true (removalB b i) (leb (versionAt b i) m) e in (removal-is b i (p .0), leb-true (versionAt b i) m (p .1))
+
+  kept-above : (i : ℕ) → dropped b m i ≡ false → Removal b i → m < versionAt b i
+  unfolding dropped
+  kept-above i e r = leb-false (versionAt b i) m (rw (is-removal b i r) at e)
+
+  -- a place of the compacted board is empty, or as it was
+  data Left (i : ℕ) : Type 0 where
+    gone : keyAt (compacted b m) i ≡ 0 → versionAt (compacted b m) i ≡ 0 → lengthAt (compacted b m) i ≡ 0 → Left i
+    same : dropped b m i ≡ false → keyAt (compacted b m) i ≡ keyAt b i → versionAt (compacted b m) i ≡ versionAt b i → Left i
+
+  left : (i : ℕ) → i < places → Left i
+  unfolding compacted
+  left i l = go (dropped b m i) refl
+    where
+      go : (x : Bool) → dropped b m i ≡ x → Left i
+      go true e = gone (compacted-key i l ∙ rw e) (compacted-version i l ∙ rw e) (dropped-is i e .0 .bare)
+      go false e = same e (compacted-key i l ∙ rw e) (compacted-version i l ∙ rw e)
+
+  pub compacted-proper : Proper b → m ≤ b .version → Proper (compacted b m)
+  unfolding compacted
+  compacted-proper p h =
+      sound-proper (compacted b m) (omega (arith, p .floor-in)) (p .version-in) (λ i l. at i l (left i l))
+      (λ i j l k u e. keys i j l k u e (left i l) (left j k))
+      (λ i j l k u e. versions i j l k u e (left i l) (left j k))
+    where
+      at : (i : ℕ) → i < places → Left i → Sound (keyAt (compacted b m) i) (versionAt (compacted b m) i) (lengthAt (compacted b m) i) (b .version) (max (b .floor) m)
+      at i l (gone e f g) =
+          record { none = λ y. (f, g); key = omega arith; low = λ y. absurd (y e); high = omega arith; mark = λ y w. absurd (y e); least = λ y. absurd (y g); most = omega arith; four = omega arith }
+      at i l (same d e f) =
+          let o = proper-sound b p i l in
+          rw (e, f)
+          (record {
+            none = o .none;
+            key = o .key;
+            low = o .low;
+            high = o .high;
+            mark = λ y w. let r : Removal b i = record { used = y; bare = w } in omega (arith, kept-above i d r, o .mark y w);
+            least = o .least;
+            most = o .most;
+            four = o .four;
+          })
+
+      keys : (i j : ℕ) → i < places → j < places → Used (compacted b m) i → keyAt (compacted b m) i ≡ keyAt (compacted b m) j → Left i → Left j → i ≡ j
+      keys i j l k u e (gone x y z) q = absurd (u x)
+      keys i j l k u e (same d x y) (gone x′ y′ z′) = absurd (u (e ∙ x′))
+      keys i j l k u e (same d x y) (same d′ x′ y′) = p .keys-distinct i j l k (λ z. u (x ∙ z)) (sym x ∙ e ∙ x′)
+
+      versions : (i j : ℕ) → i < places → j < places → Used (compacted b m) i → versionAt (compacted b m) i ≡ versionAt (compacted b m) j → Left i → Left j → i ≡ j
+      versions i j l k u e (gone x y z) q = absurd (u x)
+      versions i j l k u e (same d x y) (gone x′ y′ z′) = absurd (omega (arith, p .version-least i l (λ z. u (x ∙ z)), sym y ∙ e ∙ y′))
+      versions i j l k u e (same d x y) (same d′ x′ y′) = p .versions-distinct i j l k (λ z. u (x ∙ z)) (sym y ∙ e ∙ y′)
+
+pub compact-proper : (b : Board) (store : List ℕ) (m : ℕ) → Proper b → Proper (compactAnswer b store m .board)
+unfolding compactAnswer
+compact-proper b store m p =
+    ⊎-elim (λ z. rw (kept-new (compactVerdict b store m .number) b (compacted b m) z) (compacted-proper b m p (compact-passed b store m z .reached)))
+    (λ d. rw (kept-old (compactVerdict b store m .number) b (compacted b m) d) p) (taken? (compactVerdict b store m))
+
+-- ---- version and floor
+module _ (b : Board) (store : List ℕ) (k : ℕ) (ero : List ℕ) (session : Session) (pst : ℕ) where
+  pub report-raises : reportAnswer b store k ero session pst .verdict .number ≡ 0 → reportAnswer b store k ero session pst .board .version ≡ b .version + 1
+  unfolding reportAnswer reportWith reported
+  report-raises z = ap (λ (x : Board). x .version) (kept-new (reportVerdict b store k ero (judgeOf ero true session pst) .number) b (reported b k ero) z)
+
+  pub report-refused-keeps : (reportAnswer b store k ero session pst .verdict .number ≡ 0 → ⊥) → reportAnswer b store k ero session pst .board ≡ b
+  unfolding reportAnswer reportWith
+  report-refused-keeps d = kept-old (reportVerdict b store k ero (judgeOf ero true session pst) .number) b (reported b k ero) d
+
+  reported-floor : reportVerdict b store k ero (judgeOf ero true session pst) .number ≡ 0 → b .floor ≤ reported b k ero .floor
+  unfolding reported
+  reported-floor z =
+      let g = report-passed b store k ero (judgeOf ero true session pst) z in
+      rises (targetOf b k) (g .whole .proper) (report-place-is b k (g .place))
+    where
+      rises : (i : ℕ) → Proper b → ReportPlace b k i → b .floor ≤ floorAfter b k i
+      rises i p (keeps x) = omega (arith, floor-keeps b k i (x .key))
+      rises i p (takes n x) = omega (arith, floor-takes b k i (x .empty))
+      rises i p (drops n u x) = omega (arith, floor-drops b k i (x .removal .used) (n i (x .here)), p .removal-above i (x .here) (x .removal))
+
+  pub report-floor : b .floor ≤ reportAnswer b store k ero session pst .board .floor
+  unfolding reportAnswer reportWith
+  report-floor =
+      ⊎-elim (λ z. rw (kept-new (reportVerdict b store k ero (judgeOf ero true session pst) .number) b (reported b k ero) z) (reported-floor z))
+      (λ d. rw (kept-old (reportVerdict b store k ero (judgeOf ero true session pst) .number) b (reported b k ero) d) (omega arith))
+      (taken? (reportVerdict b store k ero (judgeOf ero true session pst)))
+
+module _ (b : Board) (store : List ℕ) (k : ℕ) where
+  pub remove-raises : removeAnswer b store k .verdict .number ≡ 0 → removeAnswer b store k .board .version ≡ b .version + 1
+  unfolding removeAnswer removed
+  remove-raises z = ap (λ (x : Board). x .version) (kept-new (removeVerdict b store k .number) b (removed b k) z)
+
+  pub remove-refused-keeps : (removeAnswer b store k .verdict .number ≡ 0 → ⊥) → removeAnswer b store k .board ≡ b
+  unfolding removeAnswer
+  remove-refused-keeps d = kept-old (removeVerdict b store k .number) b (removed b k) d
+
+  pub remove-floor : removeAnswer b store k .board .floor ≡ b .floor
+  unfolding removeAnswer removed
+  remove-floor =
+      ⊎-elim (λ z. ap (λ (x : Board). x .floor) (kept-new (removeVerdict b store k .number) b (removed b k) z))
+      (λ d. ap (λ (x : Board). x .floor) (kept-old (removeVerdict b store k .number) b (removed b k) d)) (taken? (removeVerdict b store k))
+
+module _ (b : Board) (store : List ℕ) (m : ℕ) where
+  pub compact-keeps-version : compactAnswer b store m .board .version ≡ b .version
+  unfolding compactAnswer compacted
+  compact-keeps-version =
+      ⊎-elim (λ z. ap (λ (x : Board). x .version) (kept-new (compactVerdict b store m .number) b (compacted b m) z))
+      (λ d. ap (λ (x : Board). x .version) (kept-old (compactVerdict b store m .number) b (compacted b m) d)) (taken? (compactVerdict b store m))
+
+  pub compact-refused-keeps : (compactAnswer b store m .verdict .number ≡ 0 → ⊥) → compactAnswer b store m .board ≡ b
+  unfolding compactAnswer
+  compact-refused-keeps d = kept-old (compactVerdict b store m .number) b (compacted b m) d
+
+  -- "the floor becomes c if that is higher"
+  pub compact-floor : compactAnswer b store m .verdict .number ≡ 0 → compactAnswer b store m .board .floor ≡ max (b .floor) m
+  unfolding compactAnswer compacted
+  compact-floor z = ap (λ (x : Board). x .floor) (kept-new (compactVerdict b store m .number) b (compacted b m) z)

@@ -1,0 +1,34 @@
+-- Laws of the rules that several calls share. Assumes nothing.
+use Prim.Native.Nat.{ℕ, _<_, _≤_, max}
+use mathlib.Core.Path.{_≡_, refl, sym, ap, _∙_}
+use mathlib.Core.Bool.{Bool, true, false, not, cond, _&&_}
+use mathlib.Core.List.{List}
+use lib.ListN.{getD}
+use lib.Dec.{eqb, ltb}
+use borrow.Author.Tests.{lt-ltb, le-ltb, le-leb}
+use native.Mathlib.Omega.{arith}
+use Rattle.board_record.specs.declared.record.Board.{Board}
+use Rattle.board_record.specs.Sizes.{places, storeSize}
+use Rattle.board_record.specs.Table.{lengthAt}
+use Rattle.board_record.specs.Search.{placeOf}
+use Rattle.board_record.specs.Proper.{properB}
+use Rattle.board_rules.specs.Rules.{isBoard, lengthIn, hasPath}
+
+pub board-long : (b : Board) (n : ℕ) (r : Bool) → storeSize ≤ n → r ≡ properB b → r ≡ isBoard b n
+unfolding isBoard
+board-long b n r l e = rw (le-leb 49152 n l) e
+
+-- the test for a path, on the numbers that the code has
+pub path-test : (b : Board) (k at n : ℕ) → at ≡ placeOf b k → n ≡ lengthIn (b .lengths) at → (ltb at places && not (eqb n 0)) ≡ hasPath b k
+unfolding hasPath lengthIn
+path-test b k at n e f = rw (f, ← e) (go (ltb at places))
+  where
+    go : (x : Bool) → x && not (eqb (cond x (getD (b .lengths) at 0) 0) 0) ≡ x && not (eqb (getD (b .lengths) at 0) 0)
+    go true = refl
+    go false = refl
+
+pub larger-below : (s w m f : ℕ) → m ≡ max s w → m < f → ltb (max s w) f ≡ true
+larger-below s w m f e l = rw (← e) (lt-ltb m f l)
+
+pub larger-from : (s w m f : ℕ) → m ≡ max s w → f ≤ m → ltb (max s w) f ≡ false
+larger-from s w m f e l = rw (← e) (le-ltb m f l)

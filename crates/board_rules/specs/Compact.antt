@@ -1,0 +1,43 @@
+-- Compact (document 01, "The board": "Compact (c): 17, 24 if c is above the version. Drops the marks with version at most c; the floor becomes c if
+-- that is higher.").
+use Prim.Native.Nat.{ℕ, zero, suc, max}
+use mathlib.Core.Bool.{Bool, not, cond, _&&_}
+use mathlib.Core.List.{List, [], _∷_, _++_}
+use lib.ListN.{length}
+use lib.Dec.{ltb, leb}
+use Rattle.answers.specs.declared.verdict.Verdict.{Verdict}
+use Rattle.answers.specs.Numbers.{notABoard, markAhead}
+use Rattle.answers.specs.Verdicts.{refusedBy, acceptedWith, kept}
+use Rattle.board_record.specs.declared.record.Board.{Board}
+use Rattle.board_record.specs.Sizes.{places}
+use Rattle.board_record.specs.Table.{boardOf, keyAt, versionAt, removalB}
+use Rattle.board_rules.specs.declared.answer.Answer.{Answer}
+use Rattle.board_rules.specs.Rules.{isBoard}
+
+-- The first broken rule. `whole`: it is a board; top: the board's version.
+unfoldable pub compactRules : Bool → ℕ → ℕ → Verdict
+compactRules whole c top =
+    cond (not whole) (refusedBy notABoard 0)
+    (cond (ltb top c) (refusedBy markAhead 0)
+    (acceptedWith 0))
+
+unfoldable pub compactVerdict : Board → List ℕ → ℕ → Verdict
+compactVerdict b store c = compactRules (isBoard b (length store)) c (b .version)
+
+-- a mark "with version at most c"
+unfoldable pub dropped : Board → ℕ → ℕ → Bool
+dropped b c i = removalB b i && leb (versionAt b i) c
+
+-- f 0, f 1, .. , f (n - 1)
+unfoldable pub row : (ℕ → ℕ) → ℕ → List ℕ
+row f zero = []
+row f (suc n) = row f n ++ (f n ∷ [])
+
+-- the board after an accepted compaction: a place whose mark is dropped is empty, every other one is as it was
+unfoldable pub compacted : Board → ℕ → Board
+compacted b c =
+    boardOf (row (λ i. cond (dropped b c i) 0 (keyAt b i)) places) (row (λ i. cond (dropped b c i) 0 (versionAt b i)) places) (b .lengths)
+    (b .version) (max (b .floor) c)
+
+unfoldable pub compactAnswer : Board → List ℕ → ℕ → Answer
+compactAnswer b store c = record { verdict = compactVerdict b store c; board = kept (compactVerdict b store c .number) b (compacted b c) }

@@ -1,0 +1,33 @@
+-- The rules that several calls of the board share (document 01, "The board").
+use Prim.Native.Nat.{ℕ}
+use mathlib.Core.Bool.{Bool, not, cond, _&&_}
+use mathlib.Core.List.{List}
+use lib.ListN.{getD}
+use lib.Dec.{eqb, ltb, leb}
+use Rattle.answers.specs.declared.verdict.Verdict.{Verdict}
+use Rattle.board_record.specs.declared.record.Board.{Board}
+use Rattle.board_record.specs.Sizes.{places, storeSize, keyLeast, keyMost}
+use Rattle.board_record.specs.Table.{lengthAt}
+use Rattle.board_record.specs.Search.{placeOf}
+use Rattle.board_record.specs.Proper.{properB}
+use Rattle.board_rules.specs.declared.answer.Answer.{Answer}
+
+-- 17 "is answered exactly if the store is shorter than 49,152 octets or the record isn't proper": that it isn't answered, for a store of n octets
+unfoldable pub isBoard : Board → ℕ → Bool
+isBoard b n = leb storeSize n && properB b
+
+-- 18 "key out of range"; "Keys are 1 to 1,048,574."
+unfoldable pub inRange : ℕ → Bool
+inRange k = leb keyLeast k && leb k keyMost
+
+-- the length at a place; 0 for no place
+unfoldable pub lengthIn : List ℕ → ℕ → ℕ
+lengthIn lengths at = cond (ltb at places) (getD lengths at 0) 0
+
+-- 22 "key has no path": that it has one
+unfoldable pub hasPath : Board → ℕ → Bool
+hasPath b k = ltb (placeOf b k) places && not (eqb (lengthAt b (placeOf b k)) 0)
+
+-- what report, remove and compact answer: a verdict, with the board handed back
+abbrev pub answerOf : Verdict → Board → Answer
+answerOf verdict board = record { verdict = verdict; board = board }

@@ -1,0 +1,35 @@
+// What the board's calls answer.
+use answers::Verdict;
+use board_record::Board;
+
+// Report, remove and compact hand the board back: changed, or after a refusal as it was.
+pub struct Answer {
+    pub verdict: Verdict,
+    pub board: Board,
+}
+
+// A change comes with its key and version.
+pub struct Change {
+    pub key: u64,
+    pub version: u64,
+}
+
+// A path's octets are named by place and length: place i, from 0, starts at octet 384 times i of the store.
+pub struct Octets {
+    pub place: usize,
+    pub length: usize,
+}
+
+// Next hands out a path, or a removal, or says that the follower is level with the board's version.
+pub enum Handed {
+    Refused(Verdict),
+    Path(Change, Octets),
+    Removed(Change),
+    Level(u64),
+}
+
+// A follower's mark.
+pub struct Mark {
+    pub s: u64,
+    pub w: u64,
+}

@@ -1,0 +1,42 @@
+// 17 is answered exactly if the store is shorter than 49,152 octets or the record isn't proper.
+ghost use mathlib.Core.Path.{_≡_};
+ghost use Prim.Native.Nat.{_*_, _<_};
+ghost use Rattle.board_record.specs.Sizes.{places, room};
+ghost use Rattle.board_record.specs.Table.{boardOf};
+ghost use Rattle.board_rules.specs.Rules.{isBoard, lengthIn};
+use board_record::PLACES;
+use board_record::ROOM;
+use board_record::STORE;
+use board_record::wide16;
+
+// Whether a store of n octets and the record are a board.
+pub fn is_board<'a>(
+    n: usize,
+    keys: &'a [u32; 128],
+    versions: &'a [u64; 128],
+    lengths: &'a [u16; 128],
+    top: u64,
+    floor: u64,
+) -> bool
+    ensures board { λ r. ⌜ r ≡ isBoard (boardOf (now (keys .entry)) (now (versions .entry)) (now (lengths .entry)) top floor) n ⌝ }
+{
+    if n < STORE {
+        return false;
+    }
+    board_proper::is_proper(keys, versions, lengths, top, floor)
+}
+
+// Place i, from 0, starts at 384 times i.
+pub fn start_of(i: usize) -> usize
+    requires { ⌜ i < places ⌝ }
+    ensures start { λ r. ⌜ r ≡ room * i ⌝ }
+{
+    ROOM * i
+}
+
+// The length at a place; 0 for no place.
+pub fn length_at(lengths: &[u16; 128], at: usize) -> usize
+    ensures length { λ r. ⌜ r ≡ lengthIn (now (lengths .entry)) at ⌝ }
+{
+    if at < PLACES { wide16(lengths[at]) } else { 0 }
+}

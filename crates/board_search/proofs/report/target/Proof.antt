@@ -1,0 +1,28 @@
+use Rattle.board_record.specs.Table.{boardOf}
+use Rattle.board_search.proofs.Targets.{target-known, target-free, target-oldest}
+use borrow.Author.Needs.{needs}
+use Rattle.board_search.proofs.report.target.Statement.{statement}
+use Rattle.board_search.proofs.report.target.Tie as tie
+
+place-of-requires : tie.Need-place-of-requires
+place-of-requires c κs = search needs
+
+returns : tie.Need-returns
+returns c = target-known (boardOf (c .before .before .args .keys .now) (c .before .before .args .versions .now) (c .before .before .args .lengths .now) (c .before .before .args .top) (c .before .before .args .floor)) (c .before .before .args .key) _ (c .before .place-of .ensures) (c .if1 .taken)
+
+place-of-requires-2 : tie.Need-place-of-requires-2
+place-of-requires-2 c κs = search needs
+
+returns-2 : tie.Need-returns-2
+returns-2 c = target-free (boardOf (c .before .before .before .before .args .keys .now) (c .before .before .before .before .args .versions .now) (c .before .before .before .before .args .lengths .now) (c .before .before .before .before .args .top) (c .before .before .before .before .args .floor)) (c .before .before .before .before .args .key) _ _ (c .before .before .before .place-of .ensures) (c .before .before .if1 .left) (c .before .place-of2 .ensures) (c .if2 .taken)
+
+oldest-requires : tie.Need-oldest-requires
+oldest-requires c κs = search needs
+
+returns-3 : tie.Need-returns-3
+returns-3 c = target-oldest (boardOf (c .before .before .before .before .before .args .keys .now) (c .before .before .before .before .before .args .versions .now) (c .before .before .before .before .before .args .lengths .now) (c .before .before .before .before .before .args .top) (c .before .before .before .before .before .args .floor)) (c .before .before .before .before .before .args .key) _ _ _ (c .before .before .before .before .place-of .ensures) (c .before .before .before .if1 .left) (c .before .before .place-of2 .ensures) (c .before .if2 .left) (c .oldest .ensures)
+
+pub target-spec : {M : Type 1} → statement M
+target-spec =
+    tie.close
+    (tie.spec place-of-requires returns place-of-requires-2 returns-2 oldest-requires returns-3)

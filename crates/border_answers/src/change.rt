@@ -1,0 +1,63 @@
+// What next hands out.
+ghost use mathlib.Core.Path.{_≡_};
+ghost use Rattle.border_answers.specs.Handing.{changeOut};
+use board_rules::Handed;
+
+// Its kind, then what comes with it.
+#[repr(C)]
+pub struct ChangeRecord {
+    pub number: usize,
+    pub kind: usize,
+    pub key: u64,
+    pub version: u64,
+    pub place: usize,
+    pub length: usize,
+}
+
+// kinds of what next hands out
+const REFUSED: usize = 0;
+
+const PATH: usize = 1;
+
+const REMOVED: usize = 2;
+
+const LEVEL: usize = 3;
+
+pub fn change_out(h: Handed) -> ChangeRecord
+    ensures change { λ r. ⌜ r ≡ changeOut h ⌝ }
+{
+    match h {
+        Handed::Refused(v) => ChangeRecord {
+            number: v.number,
+            kind: REFUSED,
+            key: 0,
+            version: 0,
+            place: 0,
+            length: 0,
+        },
+        Handed::Path(c, o) => ChangeRecord {
+            number: 0,
+            kind: PATH,
+            key: c.key,
+            version: c.version,
+            place: o.place,
+            length: o.length,
+        },
+        Handed::Removed(c) => ChangeRecord {
+            number: 0,
+            kind: REMOVED,
+            key: c.key,
+            version: c.version,
+            place: 0,
+            length: 0,
+        },
+        Handed::Level(version) => ChangeRecord {
+            number: 0,
+            kind: LEVEL,
+            key: 0,
+            version: version,
+            place: 0,
+            length: 0,
+        },
+    }
+}

@@ -1,0 +1,42 @@
+// The writer's state, and what its calls hand back.
+ghost use mathlib.Core.Path.{_≡_};
+ghost use Rattle.border_answers.specs.Handing.{writerIn, writtenOut};
+use border_records::VerdictRecord;
+use writer::Writer;
+use writer::Written;
+
+// Of which kind the route is, and the present place.
+#[repr(C)]
+pub struct WriterRecord {
+    pub ero: u8,
+    pub at: usize,
+}
+
+#[repr(C)]
+pub struct WrittenRecord {
+    pub verdict: VerdictRecord,
+    pub writer: WriterRecord,
+}
+
+pub fn writer_in(w: WriterRecord) -> Writer
+    ensures writer { λ r. ⌜ r ≡ writerIn w ⌝ }
+{
+    Writer {
+        ero: border_records::yes(w.ero),
+        at: w.at,
+    }
+}
+
+pub fn written_out(w: Written) -> WrittenRecord
+    ensures written { λ r. ⌜ r ≡ writtenOut w ⌝ }
+{
+    let verdict = w.verdict;
+    let state = w.writer;
+    WrittenRecord {
+        verdict: border_records::verdict_out(verdict),
+        writer: WriterRecord {
+            ero: border_records::flag_of(state.ero),
+            at: state.at,
+        },
+    }
+}

@@ -1,0 +1,18 @@
+use borrow.Author.Needs.{needs}
+use Rattle.border_records.proofs.agreement.session_in.Statement.{statement}
+use Rattle.border_records.proofs.agreement.session_in.Tie as tie
+
+yes-requires : tie.Need-yes-requires
+yes-requires c κs = search needs
+
+yes-requires-2 : tie.Need-yes-requires-2
+yes-requires-2 c κs = search needs
+
+limit-in-requires : tie.Need-limit-in-requires
+limit-in-requires c κs = search needs
+
+returns : tie.Need-returns
+returns c = cc
+
+pub session-in-spec : {M : Type 1} → statement M
+session-in-spec = tie.close (tie.spec yes-requires yes-requires-2 limit-in-requires returns)

@@ -1,0 +1,28 @@
+// What the checking program answers: PCC OPEN, PCE OPEN and ERO one behind the other, each cut off by its own
+// length field, judged under setup type 3. The first refusal is the answer, or the ERO's verdict; octets
+// behind the ERO are ignored (document 01, the last paragraph of "Examples on either side").
+ghost use mathlib.Core.Path.{_≡_};
+ghost use Rattle.checker_verdict.specs.Checking.{checkedOf};
+use answers::Verdict;
+use cut_objects::first;
+use cut_objects::rest;
+
+// the setup type of an SRv6 path
+const SRV6_PATH: u64 = 3;
+
+// The verdict on three objects.
+pub fn check(s: &[u8]) -> Verdict
+    ensures checked { λ r. ⌜ r ≡ checkedOf (now (s .entry)) ⌝ }
+{
+    let behind = rest(s);
+    let pcc = open::read_open(first(s));
+    if pcc.number != 0 {
+        return answers::refused(pcc.number, 0);
+    }
+    let pce = open::read_open(first(behind));
+    if pce.number != 0 {
+        return answers::refused(pce.number, 0);
+    }
+    let session = session::agree(pcc, pce);
+    route::judge(first(rest(behind)), true, session, SRV6_PATH)
+}

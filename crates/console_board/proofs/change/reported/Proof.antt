@@ -1,0 +1,52 @@
+use Rattle.console_state.proofs.Laws.{spelled}
+use Rattle.board_rules.specs.Report.{reportAnswer, reportStore}
+use Prim.Native.Nat.{ℕ}
+use mathlib.Core.List.{List}
+use mathlib.Core.Path.{_∙_, ap}
+use borrow.Author.Needs.{needs}
+use Rattle.console_board.proofs.change.reported.Statement.{statement}
+use Rattle.console_board.proofs.change.reported.Tie as tie
+
+octets-at-requires : tie.Need-octets-at-requires
+octets-at-requires c κs = search needs
+
+slice-reshare-prefix-report : tie.Need-slice-reshare-prefix-report
+slice-reshare-prefix-report c = search needs
+
+slice-aggregate-report : tie.Need-slice-aggregate-report
+slice-aggregate-report c = search needs
+
+report-requires : tie.Need-report-requires
+report-requires c κs = search needs
+
+counted-requires : tie.Need-counted-requires
+counted-requires c κs = search needs
+
+same-length : tie.Need-same-length
+same-length c = search needs
+
+same-length-2 : tie.Need-same-length-2
+same-length-2 c = search needs
+
+same-length-3 : tie.Need-same-length-3
+same-length-3 c = search needs
+
+returns : tie.Need-returns
+returns c = let a = c .before .before .before .before .before .before .before .before .before .before .before .before .before .before .before .before .before .before .before .args in
+    let s = spelled _ _ (c .before .before .before .before .before .before .before .before .before .before .before .before .before .octets-at .ensures .0) in
+    let e = c .before .before .before .before .before .before .before .before .report .ensures .0 ∙ ap (λ (x : List ℕ). reportAnswer (a .b) (a .store .now) (a .c .one) x (a .session) (a .c .two)) s in
+    (rw (← e), (c .before .before .before .before .before .before .before .before .report .ensures .1 ∙ ap (λ (x : List ℕ). reportStore (a .b) (a .store .now) (a .c .one) x (a .session) (a .c .two)) s, rw (← e) (c .before .before .counted .ensures)))
+
+pub reported-spec : {M : Type 1} → statement M
+reported-spec =
+    tie.close
+    (tie.spec
+    octets-at-requires
+    slice-reshare-prefix-report
+    slice-aggregate-report
+    report-requires
+    counted-requires
+    same-length
+    same-length-2
+    same-length-3
+    returns)

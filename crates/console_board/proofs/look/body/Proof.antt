@@ -1,0 +1,51 @@
+use Rattle.console_board.proofs.Laws.{body-inside}
+use Rattle.console_board.specs.Boarding.{bodyLine}
+use Rattle.console_state.proofs.Laws.{told-refused, told-accepted}
+use Rattle.console_lines.specs.Lines.{octetsLine}
+use Rattle.board_rules.specs.Body.{bodyOf}
+use lib.ListN.{length}
+use mathlib.Core.Path.{ap}
+use native.Mathlib.Omega.{arith}
+use borrow.Author.Needs.{needs}
+use Rattle.console_board.proofs.look.body.Statement.{statement}
+use Rattle.console_board.proofs.look.body.Tie as tie
+
+body-number-requires : tie.Need-body-number-requires
+body-number-requires c κs = search needs
+
+refusal-requires : tie.Need-refusal-requires
+refusal-requires c κs = search needs
+
+same-length : tie.Need-same-length
+same-length c = search needs
+
+returns : tie.Need-returns
+unfolding bodyLine
+returns c = let a = c .before .before .before .before .before .before .before .before .before .args in
+    rw (← c .before .before .before .before .before .before .body-number .ensures) (told-refused (c .before .before .before .before .before .before .body-number .result) (octetsLine (bodyOf (a .b) (a .store .now) (a .c .one))) (c .before .before .before .before .if1 .taken) (c .before .before .refusal .ensures .0))
+
+body-requires : tie.Need-body-requires
+body-requires c κs = search needs
+
+octets-requires : tie.Need-octets-requires
+octets-requires c κs = let a = c .before .before .before .before .before .before .before .args in omega (arith, ap length (c .before .body .ensures), body-inside (a .b) (a .store .now) (a .c .one))
+
+same-length-2 : tie.Need-same-length-2
+same-length-2 c = search needs
+
+returns-2 : tie.Need-returns-2
+unfolding bodyLine
+returns-2 c = rw (← c .before .before .before .before .before .before .before .body-number .ensures, ← c .before .before .before .before .body .ensures) (told-accepted (c .before .before .before .before .before .before .before .body-number .result) (octetsLine (c .before .before .before .before .body .result .now)) (c .before .before .before .before .before .if1 .left) (c .before .before .octets .ensures .0))
+
+pub body-spec : {M : Type 1} → statement M
+body-spec =
+    tie.close
+    (tie.spec
+    body-number-requires
+    refusal-requires
+    same-length
+    returns
+    body-requires
+    octets-requires
+    same-length-2
+    returns-2)

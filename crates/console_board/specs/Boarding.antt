@@ -1,0 +1,71 @@
+-- The commands about the board (console.md, the table's last rows).
+use Prim.Native.Nat.{ℕ, _*_}
+use mathlib.Core.List.{List}
+use Rattle.session.specs.declared.Session.{Session}
+use Rattle.octets.specs.Octets.{part}
+use Rattle.board_record.specs.declared.record.Board.{Board}
+use Rattle.board_record.specs.Sizes.{room}
+use Rattle.board_rules.specs.declared.answer.Handed.{Handed}
+use Rattle.board_rules.specs.declared.answer.Handed.the-variants.{Refused, Path, Removed, Level}
+use Rattle.board_rules.specs.Report.{reportAnswer, reportStore}
+use Rattle.board_rules.specs.Remove.{removeAnswer}
+use Rattle.board_rules.specs.Compact.{compactAnswer}
+use Rattle.board_rules.specs.Body.{bodyNumber, bodyOf}
+use Rattle.board_rules.specs.Next.{nextAnswer, freshMark}
+use Rattle.command.specs.declared.Command.{Command}
+use Rattle.console_lines.specs.Lines.{refusalLine, octetsLine, pathLine, removedLine, levelLine, twoLine}
+use Rattle.console_state.specs.Answers.{answerLine, countLine, plainLine}
+use Rattle.console_state.specs.Spelled.{octetsIn}
+
+-- the board and its store after a command, and the line that answers it
+pub record Boarding : Type 0 where
+  pub board : Board
+  pub store : List ℕ
+  pub answer : List ℕ
+
+-- `report KEY PST OCTETS`: "reports a path to the board"; `0 0 COUNT`
+abbrev pub reportTurn : Board → List ℕ → Session → Command → List ℕ → Boarding
+reportTurn b store session c line = record {
+  board = reportAnswer b store (c .one) (octetsIn line 3) session (c .two) .board;
+  store = reportStore b store (c .one) (octetsIn line 3) session (c .two);
+  answer = countLine (reportAnswer b store (c .one) (octetsIn line 3) session (c .two) .verdict);
+}
+
+-- `remove KEY`; `0 0`
+abbrev pub removeTurn : Board → List ℕ → Command → Boarding
+removeTurn b store c = record {
+  board = removeAnswer b store (c .one) .board;
+  store = store;
+  answer = plainLine (removeAnswer b store (c .one) .verdict);
+}
+
+-- `compact C`; `0 0`
+abbrev pub compactTurn : Board → List ℕ → Command → Boarding
+compactTurn b store c = record {
+  board = compactAnswer b store (c .one) .board;
+  store = store;
+  answer = plainLine (compactAnswer b store (c .one) .verdict);
+}
+
+-- `body KEY`; `0 0 OCTETS`
+unfoldable pub bodyLine : Board → List ℕ → Command → List ℕ
+bodyLine b store c = answerLine (bodyNumber b store (c .one)) (octetsLine (bodyOf b store (c .one)))
+
+-- `0 0 path KEY VERSION OCTETS`, `0 0 removed KEY VERSION` or `0 0 level VERSION`
+abbrev pub handedLine : List ℕ → Handed → List ℕ
+handedLine store (Refused v) = refusalLine (v .number) (v .place)
+handedLine store (Path change path) = pathLine (change .key) (change .version) (part store (room * path .place) (path .length))
+handedLine store (Removed change) = removedLine (change .key) (change .version)
+handedLine store (Level version) = levelLine version
+
+-- `next S W`: "what a follower with mark (S, W) is handed"
+unfoldable pub nextLine : Board → List ℕ → Command → List ℕ
+nextLine b store c = handedLine store (nextAnswer b store (c .one) (c .two))
+
+-- `mark`: "a fresh mark"; `0 0 S W`
+abbrev pub markLine : Board → List ℕ
+markLine b = twoLine (freshMark b .s) (freshMark b .w)
+
+-- `board`: "the board's numbers"; `0 0 VERSION FLOOR`
+abbrev pub boardLine : Board → List ℕ
+boardLine b = twoLine (b .version) (b .floor)

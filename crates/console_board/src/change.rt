@@ -1,0 +1,71 @@
+// report, remove, compact: the board that the call leaves, and the line.
+ghost use Prim.Native.Nat.{_*_, _≤_};
+ghost use mathlib.Core.Path.{_≡_};
+ghost use lib.ListN.{length};
+ghost use Rattle.printing.specs.Text.{Behind};
+ghost use Rattle.console_board.specs.Boarding.{reportTurn, removeTurn, compactTurn};
+use board_record::Board;
+use command::Command;
+use command::octets_at;
+use session::Session;
+
+// The board after a command, and the end of the line in the buffer.
+pub struct Boarded {
+    pub board: Board,
+    pub end: usize,
+}
+
+// `report KEY PST OCTETS`
+pub fn reported(
+    b: Board,
+    line: &[u8],
+    c: Command,
+    session: Session,
+    store: &mut [u8],
+    room: &mut [u8],
+    out: &mut [u8],
+) -> Boarded
+    requires { ⌜ (length (now line) ≤ 2 * length (now room)) × (128 ≤ length (now out)) ⌝ }
+    ensures board { λ r. ⌜ r .board ≡ reportTurn b (now (store .entry)) session c (now (line .entry)) .board ⌝ }
+    ensures store { λ r. ⌜ now (store .exit) ≡ reportTurn b (now (store .entry)) session c (now (line .entry)) .store ⌝ }
+    ensures told { λ r. ⌜ Behind (now (out .entry)) (now (out .exit)) 0 (r .end) (reportTurn b (now (store .entry)) session c (now (line .entry)) .answer) ⌝ }
+{
+    let n = octets_at(line, 3, room);
+    let a = board_by_value::report(b, store, c.one, &room[..n], session, c.two);
+    let v = a.verdict;
+    let after = a.board;
+    Boarded {
+        board: after,
+        end: console_state::counted(out, v),
+    }
+}
+
+// `remove KEY`
+pub fn removed(b: Board, c: Command, store: &[u8], out: &mut [u8]) -> Boarded
+    requires { ⌜ 128 ≤ length (now out) ⌝ }
+    ensures board { λ r. ⌜ r .board ≡ removeTurn b (now (store .entry)) c .board ⌝ }
+    ensures told { λ r. ⌜ Behind (now (out .entry)) (now (out .exit)) 0 (r .end) (removeTurn b (now (store .entry)) c .answer) ⌝ }
+{
+    let a = board_by_value::remove(b, store, c.one);
+    let v = a.verdict;
+    let after = a.board;
+    Boarded {
+        board: after,
+        end: console_state::plain(out, v),
+    }
+}
+
+// `compact C`
+pub fn compacted(b: Board, c: Command, store: &[u8], out: &mut [u8]) -> Boarded
+    requires { ⌜ 128 ≤ length (now out) ⌝ }
+    ensures board { λ r. ⌜ r .board ≡ compactTurn b (now (store .entry)) c .board ⌝ }
+    ensures told { λ r. ⌜ Behind (now (out .entry)) (now (out .exit)) 0 (r .end) (compactTurn b (now (store .entry)) c .answer) ⌝ }
+{
+    let a = board_by_value::compact(b, store, c.one);
+    let v = a.verdict;
+    let after = a.board;
+    Boarded {
+        board: after,
+        end: console_state::plain(out, v),
+    }
+}

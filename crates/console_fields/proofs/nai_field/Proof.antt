@@ -1,0 +1,37 @@
+use lib.Seq.{length-take-le}
+use lib.ListN.{length, length-take}
+use mathlib.Core.Path.{_≡_, sym}
+use native.Mathlib.Omega.{arith}
+use borrow.Author.Needs.{needs}
+use Rattle.console_fields.proofs.nai_field.Statement.{statement}
+use Rattle.console_fields.proofs.nai_field.Tie as tie
+
+nai-length-requires : tie.Need-nai-length-requires
+nai-length-requires c κs = search needs
+
+array-share-prefix-nai : tie.Need-array-share-prefix-nai
+array-share-prefix-nai c = search needs
+
+slice-aggregate-octets-field : tie.Need-slice-aggregate-octets-field
+slice-aggregate-octets-field c = let e : length (c .before .before .before .before .args .t4) ≡ 40 = search needs in
+    sym (length-take-le (c .before .before .nai-length .result) (c .before .before .before .before .args .t4) (omega (arith, c .before .before .nai-length .ensures .1)))
+
+octets-field-requires : tie.Need-octets-field-requires
+octets-field-requires c κs = simp length-take (omega (arith, c .before .before .nai-length .ensures .1))
+
+same-length : tie.Need-same-length
+same-length c = search needs
+
+returns : tie.Need-returns
+returns c = (rw (c .before .before .before .before .before .nai-length .ensures .0) at (c .before .before .octets-field .ensures .0), omega (arith, c .before .before .octets-field .ensures .1, length-take (c .before .before .before .before .before .nai-length .result) (c .before .before .before .before .before .before .before .args .t4), c .before .before .before .before .before .nai-length .ensures .1))
+
+pub nai-field-spec : {M : Type 1} → statement M
+nai-field-spec =
+    tie.close
+    (tie.spec
+    nai-length-requires
+    array-share-prefix-nai
+    slice-aggregate-octets-field
+    octets-field-requires
+    same-length
+    returns)

@@ -1,0 +1,37 @@
+use lib.Seq.{length-take-le}
+use lib.ListN.{length, length-take}
+use mathlib.Core.Path.{_≡_, sym}
+use native.Mathlib.Omega.{arith}
+use borrow.Author.Needs.{needs}
+use Rattle.console_fields.proofs.sid_field.Statement.{statement}
+use Rattle.console_fields.proofs.sid_field.Tie as tie
+
+pick-requires : tie.Need-pick-requires
+pick-requires c κs = search needs
+
+array-share-prefix-sid : tie.Need-array-share-prefix-sid
+array-share-prefix-sid c = search needs
+
+slice-aggregate-octets-field : tie.Need-slice-aggregate-octets-field
+slice-aggregate-octets-field c = let e : length (c .before .before .before .before .args .t4) ≡ 16 = search needs in
+    sym (length-take-le (c .before .before .pick .result) (c .before .before .before .before .args .t4) (omega (arith, c .before .before .pick .ensures .1)))
+
+octets-field-requires : tie.Need-octets-field-requires
+octets-field-requires c κs = simp length-take (omega (arith, c .before .before .pick .ensures .1))
+
+same-length : tie.Need-same-length
+same-length c = search needs
+
+returns : tie.Need-returns
+returns c = (rw (c .before .before .before .before .before .pick .ensures .0) at (c .before .before .octets-field .ensures .0), omega (arith, c .before .before .octets-field .ensures .1, length-take (c .before .before .before .before .before .pick .result) (c .before .before .before .before .before .before .before .args .t4), c .before .before .before .before .before .pick .ensures .1))
+
+pub sid-field-spec : {M : Type 1} → statement M
+sid-field-spec =
+    tie.close
+    (tie.spec
+    pick-requires
+    array-share-prefix-sid
+    slice-aggregate-octets-field
+    octets-field-requires
+    same-length
+    returns)

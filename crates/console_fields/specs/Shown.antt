@@ -1,0 +1,43 @@
+-- What an OPEN carries and what a segment says, as lines (console.md, the table's last column).
+use Prim.Native.Nat.{ℕ}
+use mathlib.Core.Bool.{Bool, true, false, cond}
+use mathlib.Core.List.{List, [], _∷_, _++_}
+use lib.Dec.{eqb}
+use lib.ListN.{getD, take}
+use Rattle.session.specs.declared.Limit.{Limit}
+use Rattle.session.specs.declared.Limit.the-variants.{Free, Most}
+use Rattle.session.specs.declared.Opened.{Opened}
+use Rattle.subobject.specs.declared.segment.Segment.{Segment}
+use Rattle.subobject.specs.Layout.{naiLength}
+use Rattle.printing.specs.Text.{decimalOf, octetsText}
+use Rattle.console_lines.specs.Lines.{acceptance, refusalLine}
+
+-- "0 or 1"
+abbrev pub bitOf : Bool → ℕ
+bitOf b = cond b 1 0
+
+-- "a number or `-`"
+abbrev pub limitText : Limit → List ℕ
+limitText Free = 45 ∷ []
+limitText (Most n) = decimalOf n
+
+-- `0 0 SRV6 N LIMIT`
+abbrev pub openLine : Opened → List ℕ
+openLine o = acceptance (decimalOf (bitOf (o .srv6)) ∷ decimalOf (bitOf (o .n)) ∷ limitText (o .limit) ∷ [])
+
+-- An OPEN's answer, a refusal too.
+abbrev pub openedLine : Opened → List ℕ
+openedLine o = cond (eqb (o .number) 0) (openLine o) (refusalLine (o .number) 0)
+
+-- `40,24,16,48`, or `-` for none
+abbrev pub structureText : Bool → List ℕ → List ℕ
+structureText there bits =
+    cond there
+    (decimalOf (getD bits 0 0) ++ (44 ∷ decimalOf (getD bits 1 0) ++ (44 ∷ decimalOf (getD bits 2 0) ++ (44 ∷ decimalOf (getD bits 3 0)))))
+    (45 ∷ [])
+
+-- `0 0 L V NT BEHAVIOUR SID NAI STRUCTURE`, "SID and NAI as OCTETS of their own lengths, or `-`"
+abbrev pub segmentLine : Segment → List ℕ
+segmentLine g =
+    acceptance (decimalOf (bitOf (g .loose)) ∷ decimalOf (bitOf (g .verify)) ∷ decimalOf (g .nt) ∷ decimalOf (g .behaviour)
+    ∷ octetsText (take (cond (g .hassid) 16 0) (g .sid)) ∷ octetsText (take (naiLength (g .nt)) (g .nai)) ∷ structureText (g .structured) (g .structure) ∷ [])

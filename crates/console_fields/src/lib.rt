@@ -1,0 +1,145 @@
+// What an OPEN carries and what a segment says, as lines (console.md). Each call lays a line over the start of a
+// lent buffer and hands its end back.
+ghost use Prim.Native.Nat.{_+_, _≤_};
+ghost use mathlib.Core.Path.{_≡_};
+ghost use mathlib.Core.Bool.{cond, true};
+ghost use lib.ListN.{length, take};
+ghost use Rattle.subobject.specs.Layout.{naiLength};
+ghost use Rattle.printing.specs.Text.{Behind, spaced, octetsText};
+ghost use Rattle.console_fields.specs.Shown.{bitOf, limitText, openLine, openedLine, structureText, segmentLine};
+use session::Limit;
+use session::Opened;
+use subobject::Segment;
+
+const NEWLINE: [u8; 1] = [10];
+
+const COMMA: [u8; 1] = [44];
+
+// ` -`
+const NONE: [u8; 2] = [32, 45];
+
+// `0 0`
+const ACCEPTED: [u8; 3] = [48, 32, 48];
+
+const SID_OCTETS: usize = 16;
+
+fn bit(b: bool) -> u64
+    ensures bit { λ r. ⌜ r ≡ bitOf b ⌝ }
+{
+    if b { 1 } else { 0 }
+}
+
+// A space and a number, or `-`.
+fn limit_field(out: &mut [u8], at: usize, limit: Limit) -> usize
+    requires { ⌜ at + 21 ≤ length (now out) ⌝ }
+    ensures behind { λ r. ⌜ Behind (now (out .entry)) (now (out .exit)) at r (spaced (limitText limit)) ⌝ }
+    ensures short { λ r. ⌜ r ≤ at + 21 ⌝ }
+{
+    match limit {
+        Limit::Free => printing::push(out, at, &NONE),
+        Limit::Most(n) => printing::field(out, at, n as u64),
+    }
+}
+
+// `0 0 SRV6 N LIMIT`
+fn carried(out: &mut [u8], o: Opened) -> usize
+    requires { ⌜ 128 ≤ length (now out) ⌝ }
+    ensures told { λ r. ⌜ Behind (now (out .entry)) (now (out .exit)) 0 r (openLine o) ⌝ }
+    ensures within { λ r. ⌜ r ≤ 128 ⌝ }
+{
+    let at = printing::push(out, 0, &ACCEPTED);
+    let at = printing::field(out, at, bit(o.srv6));
+    let at = printing::field(out, at, bit(o.n));
+    let limit = o.limit;
+    let at = limit_field(out, at, limit);
+    printing::push(out, at, &NEWLINE)
+}
+
+// An OPEN's answer, a refusal too.
+pub fn opened(out: &mut [u8], o: Opened) -> usize
+    requires { ⌜ 128 ≤ length (now out) ⌝ }
+    ensures told { λ r. ⌜ Behind (now (out .entry)) (now (out .exit)) 0 r (openedLine o) ⌝ }
+    ensures within { λ r. ⌜ r ≤ 128 ⌝ }
+{
+    if o.number != 0 {
+        return console_lines::refusal(out, o.number, 0);
+    }
+    carried(out, o)
+}
+
+fn wide(x: u8) -> u64
+    ensures same { λ r. ⌜ r ≡ x ⌝ }
+{
+    x as u64
+}
+
+// A space and four numbers joined by commas.
+fn bits_field(out: &mut [u8], at: usize, bits: [u8; 4]) -> usize
+    requires { ⌜ at + 84 ≤ length (now out) ⌝ }
+    ensures behind { λ r. ⌜ Behind (now (out .entry)) (now (out .exit)) at r (spaced (structureText true bits)) ⌝ }
+    ensures short { λ r. ⌜ r ≤ at + 84 ⌝ }
+{
+    let a = wide(bits[0]);
+    let b = wide(bits[1]);
+    let c = wide(bits[2]);
+    let d = wide(bits[3]);
+    let end = printing::field(out, at, a);
+    let end = printing::push(out, end, &COMMA);
+    let end = printing::number(out, end, b);
+    let end = printing::push(out, end, &COMMA);
+    let end = printing::number(out, end, c);
+    let end = printing::push(out, end, &COMMA);
+    printing::number(out, end, d)
+}
+
+// The same, or `-` for none.
+fn structure_field(out: &mut [u8], at: usize, there: bool, bits: [u8; 4]) -> usize
+    requires { ⌜ at + 84 ≤ length (now out) ⌝ }
+    ensures behind { λ r. ⌜ Behind (now (out .entry)) (now (out .exit)) at r (spaced (structureText there bits)) ⌝ }
+    ensures short { λ r. ⌜ r ≤ at + 84 ⌝ }
+{
+    if there {
+        return bits_field(out, at, bits);
+    }
+    printing::push(out, at, &NONE)
+}
+
+// A space and the SID, or `-` for none.
+fn sid_field(out: &mut [u8], at: usize, there: bool, sid: [u8; 16]) -> usize
+    requires { ⌜ at + 34 ≤ length (now out) ⌝ }
+    ensures behind { λ r. ⌜ Behind (now (out .entry)) (now (out .exit)) at r (spaced (octetsText (take (cond there 16 0) sid))) ⌝ }
+    ensures short { λ r. ⌜ r ≤ at + 34 ⌝ }
+{
+    let k = octets::pick(there, SID_OCTETS, 0);
+    printing::octets_field(out, at, &sid[..k])
+}
+
+// A space and the NAI, or `-` for none.
+fn nai_field(out: &mut [u8], at: usize, nt: usize, nai: [u8; 40]) -> usize
+    requires { ⌜ at + 82 ≤ length (now out) ⌝ }
+    ensures behind { λ r. ⌜ Behind (now (out .entry)) (now (out .exit)) at r (spaced (octetsText (take (naiLength nt) nai))) ⌝ }
+    ensures short { λ r. ⌜ r ≤ at + 82 ⌝ }
+{
+    let n = subobject::nai_length(nt);
+    printing::octets_field(out, at, &nai[..n])
+}
+
+// `0 0 L V NT BEHAVIOUR SID NAI STRUCTURE`
+pub fn segment(out: &mut [u8], g: Segment) -> usize
+    requires { ⌜ 512 ≤ length (now out) ⌝ }
+    ensures told { λ r. ⌜ Behind (now (out .entry)) (now (out .exit)) 0 r (segmentLine g) ⌝ }
+    ensures within { λ r. ⌜ r ≤ 512 ⌝ }
+{
+    let at = printing::push(out, 0, &ACCEPTED);
+    let at = printing::field(out, at, bit(g.loose));
+    let at = printing::field(out, at, bit(g.verify));
+    let at = printing::field(out, at, g.nt as u64);
+    let at = printing::field(out, at, g.behaviour as u64);
+    let sid = g.sid;
+    let at = sid_field(out, at, g.hassid, sid);
+    let nai = g.nai;
+    let at = nai_field(out, at, g.nt as usize, nai);
+    let bits = g.structure;
+    let at = structure_field(out, at, g.structured, bits);
+    printing::push(out, at, &NEWLINE)
+}

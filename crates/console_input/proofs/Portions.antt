@@ -1,0 +1,34 @@
+-- In whatever portions the input is read, the console hears and says the same.
+use Prim.Native.Nat.{ℕ}
+use mathlib.Core.Path.{_≡_, refl, ap}
+use mathlib.Core.Bool.{Bool, true, false}
+use mathlib.Core.List.{List, [], _∷_, _++_, append-assoc}
+use lib.Dec.{eqb}
+use Rattle.console_input.specs.Hearing.{Heard, heardAtStart, turnNow, ended, longer, hearAll, sayAll, sayWhole}
+
+pub hear-append : (g : Heard) (xs ys : List ℕ) → hearAll (hearAll g xs) ys ≡ hearAll g (xs ++ ys)
+unfolding hearAll
+hear-append g [] ys = refl
+hear-append g (x ∷ xs) ys = go (eqb x 10) refl (hear-append (ended g) xs ys) (hear-append (longer g (x ∷ [])) xs ys) where
+  go : (t : Bool) → eqb x 10 ≡ t
+      → hearAll (hearAll (ended g) xs) ys ≡ hearAll (ended g) (xs ++ ys)
+      → hearAll (hearAll (longer g (x ∷ [])) xs) ys ≡ hearAll (longer g (x ∷ [])) (xs ++ ys)
+      → hearAll (hearAll g (x ∷ xs)) ys ≡ hearAll g (x ∷ xs ++ ys)
+  go true e p q = rw e p
+  go false e p q = rw e q
+
+pub say-append : (g : Heard) (xs ys : List ℕ) → sayAll g xs ++ sayAll (hearAll g xs) ys ≡ sayAll g (xs ++ ys)
+unfolding hearAll sayAll
+say-append g [] ys = refl
+say-append g (x ∷ xs) ys = go (eqb x 10) refl (say-append (ended g) xs ys) (say-append (longer g (x ∷ [])) xs ys) where
+  go : (t : Bool) → eqb x 10 ≡ t
+      → sayAll (ended g) xs ++ sayAll (hearAll (ended g) xs) ys ≡ sayAll (ended g) (xs ++ ys)
+      → sayAll (longer g (x ∷ [])) xs ++ sayAll (hearAll (longer g (x ∷ [])) xs) ys ≡ sayAll (longer g (x ∷ [])) (xs ++ ys)
+      → sayAll g (x ∷ xs) ++ sayAll (hearAll g (x ∷ xs)) ys ≡ sayAll g (x ∷ xs ++ ys)
+  go true e p q = rw (e, append-assoc) (ap (λ (t : List ℕ). turnNow g .answer ++ t) p)
+  go false e p q = rw e q
+
+-- What was said to the portions before, to the last one and to the last line is all that is said.
+pub say-whole : (xs ys : List ℕ) → sayAll heardAtStart xs ++ (sayAll (hearAll heardAtStart xs) ys ++ turnNow (hearAll (hearAll heardAtStart xs) ys) .answer) ≡ sayWhole (xs ++ ys)
+unfolding sayWhole
+say-whole xs ys = rw (← append-assoc, say-append, hear-append)

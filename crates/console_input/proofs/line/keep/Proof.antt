@@ -1,0 +1,31 @@
+use Rattle.console_input.proofs.Laws.{kept-more}
+use native.Mathlib.Omega.{arith}
+use borrow.Author.Needs.{needs}
+use Rattle.console_input.proofs.line.keep.Statement.{statement}
+use Rattle.console_input.proofs.line.keep.Tie as tie
+
+sub-fit : tie.Need-sub-fit
+sub-fit c = search needs
+
+fit-requires : tie.Need-fit-requires
+fit-requires c κs = search needs
+
+slice-aggregate-lay : tie.Need-slice-aggregate-lay
+slice-aggregate-lay c = search needs
+
+lay-requires : tie.Need-lay-requires
+lay-requires c κs = search needs
+
+add-result : tie.Need-add-result
+add-result c = search needs
+
+same-length : tie.Need-same-length
+same-length c = search needs
+
+returns : tie.Need-returns
+returns c = let a = c .before .before .before .before .before .before .before .before .args in (kept-more (a .line .now) (a .part .now) (c .before .before .lay .last .0) (a .kept) (c .before .before .before .before .before .fit .result) (c .before .before .before .before .before .before .before .before .pre) (c .before .before .before .before .before .fit .ensures .1) (c .before .before .lay .ensures), omega (arith, c .before .before .before .before .before .fit .ensures .1, c .before .before .before .before .before .before .before .before .pre))
+
+pub keep-spec : {M : Type 1} → statement M
+keep-spec =
+    tie.close
+    (tie.spec sub-fit fit-requires slice-aggregate-lay lay-requires add-result same-length returns)

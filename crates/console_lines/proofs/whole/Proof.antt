@@ -1,0 +1,38 @@
+use native.Mathlib.Omega.{arith}
+use Rattle.printing.proofs.Laws.{then}
+use borrow.Author.Needs.{needs}
+use Rattle.console_lines.proofs.whole.Statement.{statement}
+use Rattle.console_lines.proofs.whole.Tie as tie
+
+number-requires : tie.Need-number-requires
+number-requires c κs = search needs
+
+field-requires : tie.Need-field-requires
+field-requires c κs = search needs
+
+field-requires-2 : tie.Need-field-requires-2
+field-requires-2 c κs = search needs
+
+slice-aggregate-push : tie.Need-slice-aggregate-push
+slice-aggregate-push c = search needs
+
+push-requires : tie.Need-push-requires
+push-requires c κs = search needs
+
+same-length : tie.Need-same-length
+same-length c = search needs
+
+returns : tie.Need-returns
+returns c = ((then (c .before .before .before .before .before .before .before .before .before .before .before .before .before .before .before .number .ensures .0) (then (c .before .before .before .before .before .before .before .before .before .before .before .field .ensures .0) (then (c .before .before .before .before .before .before .before .field2 .ensures .0) (c .before .before .push .ensures)))), omega (arith, c .before .before .push .ensures .ends))
+
+pub whole-spec : {M : Type 1} → statement M
+whole-spec =
+    tie.close
+    (tie.spec
+    number-requires
+    field-requires
+    field-requires-2
+    slice-aggregate-push
+    push-requires
+    same-length
+    returns)

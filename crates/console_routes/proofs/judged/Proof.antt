@@ -1,0 +1,49 @@
+use Rattle.console_routes.specs.Routing.{routeLine}
+use Rattle.console_state.proofs.Laws.{spelled}
+use Rattle.route.specs.Routes.{judgeOf}
+use Prim.Native.Nat.{ℕ}
+use mathlib.Core.List.{List}
+use mathlib.Core.Path.{_∙_, ap}
+use borrow.Author.Needs.{needs}
+use Rattle.console_routes.proofs.judged.Statement.{statement}
+use Rattle.console_routes.proofs.judged.Tie as tie
+
+octets-at-requires : tie.Need-octets-at-requires
+octets-at-requires c κs = search needs
+
+slice-reshare-prefix-judge : tie.Need-slice-reshare-prefix-judge
+slice-reshare-prefix-judge c = search needs
+
+slice-aggregate-judge : tie.Need-slice-aggregate-judge
+slice-aggregate-judge c = search needs
+
+judge-requires : tie.Need-judge-requires
+judge-requires c κs = search needs
+
+counted-requires : tie.Need-counted-requires
+counted-requires c κs = search needs
+
+same-length : tie.Need-same-length
+same-length c = search needs
+
+same-length-2 : tie.Need-same-length-2
+same-length-2 c = search needs
+
+returns : tie.Need-returns
+unfolding routeLine
+returns c = let a = c .before .before .before .before .before .before .before .before .before .before .before .before .before .args in
+    let e = c .before .before .before .before .judge .ensures ∙ ap (λ (s : List ℕ). judgeOf s (a .ero) (a .session) (a .c .one)) (spelled _ _ (c .before .before .before .before .before .before .before .before .octets-at .ensures .0)) in
+    rw (← e) (c .before .before .counted .ensures)
+
+pub judged-spec : {M : Type 1} → statement M
+judged-spec =
+    tie.close
+    (tie.spec
+    octets-at-requires
+    slice-reshare-prefix-judge
+    slice-aggregate-judge
+    judge-requires
+    counted-requires
+    same-length
+    same-length-2
+    returns)

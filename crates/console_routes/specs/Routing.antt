@@ -1,0 +1,29 @@
+-- The commands about OPENs and routes (console.md, the table's first rows).
+use Prim.Native.Nat.{ℕ}
+use mathlib.Core.Bool.{Bool}
+use mathlib.Core.List.{List}
+use Rattle.session.specs.declared.Opened.{Opened}
+use Rattle.session.specs.declared.Session.{Session}
+use Rattle.open.specs.Open.{openOf}
+use Rattle.route.specs.Routes.{judgeOf, segmentOf}
+use Rattle.route.specs.declared.picking.Picked.{Picked}
+use Rattle.command.specs.declared.Command.{Command}
+use Rattle.console_fields.specs.Shown.{segmentLine}
+use Rattle.console_state.specs.Answers.{answerLine, countLine}
+use Rattle.console_state.specs.Spelled.{octetsIn}
+
+-- `pcc OCTETS` · `pce OCTETS`: "reads an OPEN object"
+unfoldable pub openIn : List ℕ → Opened
+openIn line = openOf (octetsIn line 1)
+
+-- `ero PST OCTETS` · `rro PST OCTETS`: "judges a route under the session; a PST is any number, and none but 3 is 3"; `0 0 COUNT`
+unfoldable pub routeLine : Bool → Session → Command → List ℕ → List ℕ
+routeLine ero session c line = countLine (judgeOf (octetsIn line 2) ero session (c .one))
+
+-- a segment that was asked for, or the refusal
+unfoldable pub pickedLine : Picked → List ℕ
+pickedLine p = answerLine (p .verdict) (segmentLine (p .segment))
+
+-- `ero-segment PST I OCTETS` · `rro-segment PST I OCTETS`: "asks for segment I of a route"; `0 0 L V NT BEHAVIOUR SID NAI STRUCTURE`
+unfoldable pub segmentAnswer : Bool → Session → Command → List ℕ → List ℕ
+segmentAnswer ero session c line = pickedLine (segmentOf (octetsIn line 3) ero session (c .one) (c .two))

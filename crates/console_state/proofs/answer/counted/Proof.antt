@@ -1,0 +1,30 @@
+use Rattle.console_state.proofs.Laws.{told-refused, told-accepted}
+use Rattle.console_lines.specs.Lines.{oneLine}
+use Rattle.console_state.specs.Answers.{countLine}
+use borrow.Author.Needs.{needs}
+use Rattle.console_state.proofs.answer.counted.Statement.{statement}
+use Rattle.console_state.proofs.answer.counted.Tie as tie
+
+refusal-requires : tie.Need-refusal-requires
+refusal-requires c κs = search needs
+
+same-length : tie.Need-same-length
+same-length c = search needs
+
+returns : tie.Need-returns
+unfolding countLine
+returns c = told-refused (c .before .before .before .before .before .before .before .args .v) (oneLine (c .before .before .before .before .before .before .before .args .v .count)) (c .before .before .before .before .if1 .taken) (c .before .before .refusal .ensures .0)
+
+one-requires : tie.Need-one-requires
+one-requires c κs = search needs
+
+same-length-2 : tie.Need-same-length-2
+same-length-2 c = search needs
+
+returns-2 : tie.Need-returns-2
+unfolding countLine
+returns-2 c = told-accepted (c .before .before .before .before .before .before .before .args .v) (oneLine (c .before .before .before .before .before .before .before .args .v .count)) (c .before .before .before .before .if1 .left) (c .before .before .one .ensures .0)
+
+pub counted-spec : {M : Type 1} → statement M
+counted-spec =
+    tie.close (tie.spec refusal-requires same-length returns one-requires same-length-2 returns-2)

@@ -1,0 +1,88 @@
+// What the console keeps by value between two lines.
+ghost use mathlib.Core.Path.{_≡_};
+ghost use Rattle.console_state.specs.Standing.{stateAtStart, withBoard, withPcc, withPce, withWriter};
+use board_record::Board;
+use session::Opened;
+use writer::Writer;
+
+pub struct State {
+    pub board: Board,
+    pub pcc: Opened,
+    pub pce: Opened,
+    pub writer: Writer,
+    pub size: usize,
+}
+
+// The start.
+pub fn start() -> State
+    ensures start { λ r. ⌜ r ≡ stateAtStart ⌝ }
+{
+    State {
+        board: board_record::empty(),
+        pcc: session::refused_open(answers::OPEN_MALFORMED),
+        pce: session::refused_open(answers::OPEN_MALFORMED),
+        writer: Writer { ero: true, at: 0 },
+        size: 0,
+    }
+}
+
+pub fn with_board(state: State, board: Board) -> State
+    ensures board { λ r. ⌜ r ≡ withBoard state board ⌝ }
+{
+    let pcc = state.pcc;
+    let pce = state.pce;
+    let writer = state.writer;
+    State {
+        board: board,
+        pcc: pcc,
+        pce: pce,
+        writer: writer,
+        size: state.size,
+    }
+}
+
+pub fn with_pcc(state: State, pcc: Opened) -> State
+    ensures pcc { λ r. ⌜ r ≡ withPcc state pcc ⌝ }
+{
+    let board = state.board;
+    let pce = state.pce;
+    let writer = state.writer;
+    State {
+        board: board,
+        pcc: pcc,
+        pce: pce,
+        writer: writer,
+        size: state.size,
+    }
+}
+
+pub fn with_pce(state: State, pce: Opened) -> State
+    ensures pce { λ r. ⌜ r ≡ withPce state pce ⌝ }
+{
+    let board = state.board;
+    let pcc = state.pcc;
+    let writer = state.writer;
+    State {
+        board: board,
+        pcc: pcc,
+        pce: pce,
+        writer: writer,
+        size: state.size,
+    }
+}
+
+// Another writer, and the octets that are lent to it.
+pub fn with_writer(state: State, writer: Writer, size: usize) -> State
+    ensures writer { λ r. ⌜ r ≡ withWriter state writer size ⌝ }
+{
+    let board = state.board;
+    let pcc = state.pcc;
+    let pce = state.pce;
+    State {
+        board: board,
+        pcc: pcc,
+        pce: pce,
+        writer: writer,
+        size: size,
+    }
+}

@@ -1,0 +1,68 @@
+// The answer to any line, the n-th.
+ghost use Prim.Native.Nat.{_+_, _*_, _≤_};
+ghost use lib.ListN.{length};
+ghost use Rattle.console_state.specs.Standing.{consoleOf};
+ghost use Rattle.console_turn.specs.Turns.{turnOf, Does};
+use crate::turn::Turn;
+use crate::turn::boarded;
+use crate::turn::composed;
+use crate::turn::ended;
+use command_forms::Verb;
+use console_state::State;
+use console_state::with_pcc;
+use console_state::with_pce;
+
+pub fn answered(
+    state: State,
+    line: &[u8],
+    n: u64,
+    store: &mut [u8],
+    memory: &mut [u8],
+    room: &mut [u8],
+    out: &mut [u8],
+) -> Turn
+    requires { ⌜ (length (now line) ≤ 2 * length (now room)) × (65536 ≤ length (now memory)) × (2 * length (now store) + 512 ≤ length (now out)) × (2 * length (now memory) + 512 ≤ length (now out)) ⌝ }
+    ensures done { λ r. ⌜ Does (turnOf (consoleOf state (now (store .entry)) (now (memory .entry))) (now (line .entry)) n) (consoleOf (r .state) (now (store .exit)) (now (memory .exit))) (now (out .entry)) (now (out .exit)) (r .end) ⌝ }
+{
+    let c = command::parse(line);
+    let pcc = state.pcc;
+    let pce = state.pce;
+    let s = session::agree(pcc, pce);
+    let b = state.board;
+    let w = state.writer;
+    let size = state.size;
+    let verb = c.verb;
+    match verb {
+        Verb::Skip => ended(state, 0),
+        Verb::Bad => ended(state, console_lines::bad(out, n)),
+        Verb::Pcc => {
+            let o = console_routes::heard(line, room);
+            ended(with_pcc(state, o), console_fields::opened(out, o))
+        }
+        Verb::Pce => {
+            let o = console_routes::heard(line, room);
+            ended(with_pce(state, o), console_fields::opened(out, o))
+        }
+        Verb::Ero => ended(state, console_routes::judged(line, c, true, s, room, out)),
+        Verb::Rro => ended(state, console_routes::judged(line, c, false, s, room, out)),
+        Verb::EroSegment => ended(state, console_routes::picked(line, c, true, s, room, out)),
+        Verb::RroSegment => ended(state, console_routes::picked(line, c, false, s, room, out)),
+        Verb::Begin => composed(state, console_writer::begun(w, size, c, memory, out)),
+        Verb::Add => composed(
+            state,
+            console_writer::added(w, size, line, c, memory, room, out),
+        ),
+        Verb::Finish => composed(state, console_writer::finished(w, size, memory, out)),
+        Verb::Lent => ended(state, console_writer::shown(size, memory, out)),
+        Verb::Report => boarded(
+            state,
+            console_board::reported(b, line, c, s, store, room, out),
+        ),
+        Verb::Remove => boarded(state, console_board::removed(b, c, store, out)),
+        Verb::Compact => boarded(state, console_board::compacted(b, c, store, out)),
+        Verb::Body => ended(state, console_board::body(b, c, store, out)),
+        Verb::Next => ended(state, console_board::next(b, c, store, out)),
+        Verb::Mark => ended(state, console_board::mark(b, out)),
+        Verb::Board => ended(state, console_board::numbers(b, out)),
+    }
+}

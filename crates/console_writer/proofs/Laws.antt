@@ -1,0 +1,97 @@
+-- Laws of the writer's commands, in the order of specs/Composing.
+use Prim.Native.Nat.{ℕ, zero, suc, _+_, _<_, min}
+use mathlib.Core.Path.{_≡_, refl}
+use mathlib.Core.Bool.{Bool, true, false, cond, not}
+use mathlib.Core.List.{List, _++_, append-nil}
+use lib.Dec.{eqb, ltb, leb}
+use lib.ListN.{length, take, drop, set, replicate, length-replicate, getD-replicate, drop-of-length-le}
+use lib.Seq.{take-at, take-all}
+use native.Mathlib.Omega.{arith}
+use borrow.Author.Tests.{leb-true, leb-false, lt-ltb, le-ltb, ltb-true, ltb-false}
+use Rattle.answers.specs.Verdicts.{kept}
+use Rattle.octets.proofs.Laws.{copied, copied-more}
+use Rattle.writer.specs.declared.state.Writer.{Writer}
+use Rattle.writer.specs.Writing.{beginNumber, beginAnswer, answered}
+use Rattle.words.specs.Words.{wordOf}
+use Rattle.decimal.specs.Decimal.{isNone, structureOf}
+use Rattle.command_forms.specs.Forms.{space}
+use Rattle.command.specs.declared.Command.{Command}
+use Rattle.console_writer.specs.Composing.{freshBuffer, sidIn, naiIn, segmentIn}
+
+-- ## The part of a memory that is lent
+
+-- What was written into that part is the new one.
+pub lent-back : (size : ℕ) (m y : List ℕ) {n : ℕ} → n ≡ min size (length m) → length y ≡ n → take size (y ++ drop n m) ≡ y
+lent-back size m y {n} e q = go (leb size (length m)) refl where
+  go : (b : Bool) → leb size (length m) ≡ b → take size (y ++ drop n m) ≡ y
+  go true h = let l = leb-true size (length m) h in take-at y (drop n m) size (omega arith)
+  go false h =
+      let l = leb-false size (length m) h in
+      rw (drop-of-length-le m {i = n} (omega arith), append-nil) (take-all size y (omega arith))
+
+-- ## Begin
+
+pub length-fresh : (size : ℕ) → length (freshBuffer size) ≡ size
+unfolding freshBuffer
+length-fresh size = length-replicate size 238
+
+pub filled-more : (b : List ℕ) (i : ℕ) → i < length b → set (copied b (freshBuffer (length b)) i) i 238 ≡ copied b (freshBuffer (length b)) (i + 1)
+unfolding freshBuffer
+filled-more b i h =
+    let l = length-replicate {A = ℕ} (length b) 238 in
+    rw (getD-replicate {A = ℕ} (length b) i 238 0 h) at (copied-more b (replicate (length b) 238) i h (omega arith))
+
+pub filled-all : (b : List ℕ) → copied b (freshBuffer (length b)) (length b) ≡ freshBuffer (length b)
+filled-all b =
+    let l = length-fresh (length b) in
+    rw (drop-of-length-le b {i = length b} (omega arith), append-nil) (take-all (length b) (freshBuffer (length b)) (omega arith))
+
+number-trial : (k size : ℕ) → k ≡ min size 4 → beginNumber k ≡ beginNumber size
+unfolding beginNumber
+number-trial k size e = go (ltb size 4) refl where
+  go : (b : Bool) → ltb size 4 ≡ b → _≡_ {A = ℕ} (cond (ltb k 4) 16 0) (cond (ltb size 4) 16 0)
+  go true h = let l = ltb-true size 4 h in rw (h, lt-ltb k 4 (omega arith))
+  go false h = let l = ltb-false size 4 h in rw (h, le-ltb k 4 (omega arith))
+
+-- A begin in the first octets of 4 is answered as one in the new buffer.
+pub begin-trial : (b : List ℕ) (size : ℕ) (w : Writer) (ero : Bool) → length b ≡ min size 4 → beginAnswer b w ero ≡ beginAnswer (freshBuffer size) w ero
+unfolding beginAnswer
+begin-trial b size w ero e = rw (length-fresh size, number-trial (length b) size e)
+
+refused-writer : (n : ℕ) (old new : Writer) → (answered n old new .verdict .number ≡ 0 → ⊥) → old ≡ answered n old new .writer
+refused-writer zero old new h = absurd (h refl)
+refused-writer (suc n) old new h = refl
+
+pub begin-keeps : (b : List ℕ) (w : Writer) (ero : Bool) → (beginAnswer b w ero .verdict .number ≡ 0 → ⊥) → w ≡ beginAnswer b w ero .writer
+unfolding beginAnswer
+begin-keeps b w ero h = refused-writer (beginNumber (length b)) w _ h
+
+pub kept-old : {A : Type 0} (n : ℕ) (old new : A) → (n ≡ 0 → ⊥) → old ≡ kept n old new
+kept-old zero old new h = absurd (h refl)
+kept-old (suc n) old new h = refl
+
+pub kept-new : {A : Type 0} (n : ℕ) (old new : A) → n ≡ 0 → new ≡ kept n old new
+kept-new zero old new h = refl
+kept-new (suc n) old new h = absurd (omega arith)
+
+-- ## Add
+
+pub segment-made : (c : Command) (line : List ℕ) {sid nai structure : List ℕ} {bare plain : Bool}
+    → sid ≡ sidIn line
+    → nai ≡ naiIn line
+    → bare ≡ isNone (wordOf space line 5)
+    → plain ≡ isNone (wordOf space line 7)
+    → structure ≡ structureOf (wordOf space line 7)
+    → record {
+      loose = eqb (c .one) 1;
+      verify = eqb (c .two) 1;
+      nt = c .three;
+      behaviour = c .four;
+      hassid = not bare;
+      sid = sid;
+      nai = nai;
+      structured = not plain;
+      structure = structure;
+    } ≡ segmentIn c line
+unfolding segmentIn
+segment-made c line a b d e f = cc

@@ -1,0 +1,93 @@
+use Rattle.console_writer.proofs.Laws.{begin-trial, begin-keeps, kept-old, kept-new}
+use Rattle.console_writer.specs.Composing.{freshBuffer}
+use Rattle.writer.specs.Writing.{beginAnswer, beginBuffer}
+use lib.Seq.{length-take-le, take-at}
+use lib.ListN.{length, drop}
+use Prim.Native.Nat.{ℕ, _≤_}
+use mathlib.Core.Path.{_∙_, ap, sym}
+use native.Mathlib.Omega.{arith}
+use borrow.Author.Needs.{needs}
+use Rattle.console_writer.proofs.begin.begun.Statement.{statement}
+use Rattle.console_writer.proofs.begin.begun.Tie as tie
+
+narrow-requires : tie.Need-narrow-requires
+narrow-requires c κs = search needs
+
+slice-aggregate-fit : tie.Need-slice-aggregate-fit
+slice-aggregate-fit c = search needs
+
+fit-requires : tie.Need-fit-requires
+fit-requires c κs = search needs
+
+array-borrow-prefix-trial : tie.Need-array-borrow-prefix-trial
+array-borrow-prefix-trial c = search needs
+
+slice-aggregate-begin : tie.Need-slice-aggregate-begin
+slice-aggregate-begin c = search needs
+
+begin-requires : tie.Need-begin-requires
+begin-requires c κs = search needs
+
+placed-requires : tie.Need-placed-requires
+placed-requires c κs = search needs
+
+same-length : tie.Need-same-length
+same-length c = search needs
+
+returns : tie.Need-returns
+returns c = let a = c .before .before .before .before .before .before .before .before .before .before .before .before .before .before .before .args in
+    let e = c .before .before .before .before .before .before .before .before .begin .ensures .0 ∙ begin-trial _ (a .c .two) (a .old) (a .c .ero) (omega (arith, c .before .before .before .before .before .before .before .before .before .before .fit .ensures .0 .1, c .before .before .before .before .before .before .before .before .before .before .fit .ensures .1, c .before .before .before .before .before .before .before .before .before .before .before .before .narrow .ensures)) in
+    let h = rw e at (c .before .before .before .before .if1 .taken) in
+    (begin-keeps (freshBuffer (a .c .two)) (a .old) (a .c .ero) h, (kept-old _ _ _ h, rw (← e) (c .before .before .placed .ensures)))
+
+slice-relend-prefix-fresh : tie.Need-slice-relend-prefix-fresh
+slice-relend-prefix-fresh c = search needs
+
+slice-aggregate-fresh : tie.Need-slice-aggregate-fresh
+slice-aggregate-fresh c = let h : c .before .before .before .before .before .before .before .before .before .narrow .result ≤ length (c .before .before .before .before .before .before .before .before .before .before .before .before .args .memory .now) = omega (arith, c .before .before .before .before .before .before .before .before .before .narrow .ensures, c .before .before .before .before .before .before .before .before .before .before .before .before .pre .0) in sym (length-take-le (c .before .before .before .before .before .before .before .before .before .narrow .result) (c .before .before .before .before .before .before .before .before .before .before .before .before .args .memory .now) h)
+
+fresh-requires : tie.Need-fresh-requires
+fresh-requires c κs = search needs
+
+placed-requires-2 : tie.Need-placed-requires-2
+placed-requires-2 c κs = search needs
+
+same-length-2 : tie.Need-same-length-2
+same-length-2 c = search needs
+
+same-length-3 : tie.Need-same-length-3
+same-length-3 c = search needs
+
+returns-2 : tie.Need-returns-2
+returns-2 c = let a = c .before .before .before .before .before .before .before .before .before .before .before .before .before .before .before .before .before .before .before .before .args in
+    let new = c .before .before .before .before .before .before .before .before .before .before .before .before .before .before .before .before .before .narrow .result in
+    let m = a .memory .now in
+    let k : new ≤ length m = omega (arith, c .before .before .before .before .before .before .before .before .before .before .before .before .before .before .before .before .before .narrow .ensures, c .before .before .before .before .before .before .before .before .before .before .before .before .before .before .before .before .before .before .before .before .pre .0) in
+    let l = length-take-le new m k in
+    let n = l ∙ c .before .before .before .before .before .before .before .before .before .before .before .before .before .before .before .before .before .narrow .ensures in
+    let t = c .before .before .before .before .before .before .before .before .before .before .before .before .before .begin .ensures .0 ∙ begin-trial _ (a .c .two) (a .old) (a .c .ero) (omega (arith, c .before .before .before .before .before .before .before .before .before .before .before .before .before .before .before .fit .ensures .0 .1, c .before .before .before .before .before .before .before .before .before .before .before .before .before .before .before .fit .ensures .1, c .before .before .before .before .before .before .before .before .before .before .before .before .before .before .before .before .before .narrow .ensures)) in
+    let z = rw t at (c .before .before .before .before .before .before .before .before .before .if1 .left) in
+    let e = c .before .before .before .before .before .before .before .fresh .ensures .0 ∙ ap (λ (x : ℕ). beginAnswer (freshBuffer x) (a .old) (a .c .ero)) n in
+    let b = c .before .before .before .before .before .before .before .fresh .ensures .1 ∙ ap (λ (x : ℕ). beginBuffer (freshBuffer x) (a .old) (a .c .ero)) n in
+    (rw (← e), (take-at (c .before .before .before .before .before .before .before .fresh .last .0) (drop new m) new (c .before .before .before .before .before .before .before .fresh .kept .0 ∙ l) ∙ (b ∙ kept-new _ _ _ z), rw (← e) (c .before .before .placed2 .ensures)))
+
+pub begun-spec : {M : Type 1} → statement M
+begun-spec =
+    tie.close
+    (tie.spec
+    narrow-requires
+    slice-aggregate-fit
+    fit-requires
+    array-borrow-prefix-trial
+    slice-aggregate-begin
+    begin-requires
+    placed-requires
+    same-length
+    returns
+    slice-relend-prefix-fresh
+    slice-aggregate-fresh
+    fresh-requires
+    placed-requires-2
+    same-length-2
+    same-length-3
+    returns-2)

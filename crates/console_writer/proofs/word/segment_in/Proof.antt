@@ -1,0 +1,64 @@
+use Rattle.console_writer.proofs.Laws.{segment-made}
+use Rattle.decimal.specs.Decimal.{isNone, structureOf}
+use mathlib.Core.Path.{_∙_, ap}
+use native.Mathlib.Omega.{arith}
+use borrow.Author.Needs.{needs}
+use Rattle.console_writer.proofs.word.segment_in.Statement.{statement}
+use Rattle.console_writer.proofs.word.segment_in.Tie as tie
+
+sid-in-requires : tie.Need-sid-in-requires
+sid-in-requires c κs = search needs
+
+nai-in-requires : tie.Need-nai-in-requires
+nai-in-requires c κs = search needs
+
+word-requires : tie.Need-word-requires
+word-requires c κs = search needs
+
+structure-requires : tie.Need-structure-requires
+structure-requires c κs = search needs
+
+cast-t14 : tie.Need-cast-t14
+cast-t14 c = search needs
+
+cast-t15 : tie.Need-cast-t15
+cast-t15 c = omega (arith, c .before .before .before .before .before .before .before .before .before .before .before .before .before .before .before .before .pre .1 .behaviour)
+
+word-requires-2 : tie.Need-word-requires-2
+word-requires-2 c κs = search needs
+
+is-none-requires : tie.Need-is-none-requires
+is-none-requires c κs = search needs
+
+word-requires-3 : tie.Need-word-requires-3
+word-requires-3 c κs = search needs
+
+is-none-requires-2 : tie.Need-is-none-requires-2
+is-none-requires-2 c κs = search needs
+
+same-length : tie.Need-same-length
+same-length c = c .before .before .before .before .before .before .before .before .before .before .before .before .nai-in .ensures .1 ∙ c .before .before .before .before .before .before .before .before .before .before .before .before .before .before .before .before .sid-in .ensures .1
+
+returns : tie.Need-returns
+returns c = (
+  segment-made (c .before .before .before .before .before .before .before .before .before .before .before .before .before .before .before .before .before .before .before .before .args .c) (c .before .before .before .before .before .before .before .before .before .before .before .before .before .before .before .before .before .before .before .before .args .line .now) (c .before .before .before .before .before .before .before .before .before .before .before .before .before .before .before .before .sid-in .ensures .0) (c .before .before .before .before .before .before .before .before .before .before .before .before .nai-in .ensures .0)
+      (c .before .before .is-none .ensures ∙ ap isNone (c .before .before .before .word2 .ensures .0)) (c .is-none2 .ensures ∙ ap isNone (c .before .word3 .ensures .0)) (c .before .before .before .before .before .before .before .before .structure .ensures ∙ ap structureOf (c .before .before .before .before .before .before .before .before .before .word .ensures .0)),
+  c .before .before .before .before .before .before .before .before .before .before .before .before .nai-in .ensures .1 ∙ c .before .before .before .before .before .before .before .before .before .before .before .before .before .before .before .before .sid-in .ensures .1,
+)
+
+pub segment-in-spec : {M : Type 1} → statement M
+segment-in-spec =
+    tie.close
+    (tie.spec
+    sid-in-requires
+    nai-in-requires
+    word-requires
+    structure-requires
+    cast-t14
+    cast-t15
+    word-requires-2
+    is-none-requires
+    word-requires-3
+    is-none-requires-2
+    same-length
+    returns)

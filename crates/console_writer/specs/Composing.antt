@@ -1,0 +1,99 @@
+-- The commands about the writer (console.md, the table's middle rows).
+use Prim.Native.Nat.{ℕ, _≤_}
+use mathlib.Core.Bool.{not}
+use mathlib.Core.List.{List}
+use lib.Dec.{eqb}
+use lib.ListN.{length, take, replicate}
+use Rattle.answers.specs.Verdicts.{kept}
+use Rattle.octets.specs.Octets.{over}
+use Rattle.subobject.specs.declared.segment.Segment.{Segment}
+use Rattle.writer.specs.declared.state.Writer.{Writer}
+use Rattle.writer.specs.declared.state.Written.{Written}
+use Rattle.writer.specs.Writing.{beginAnswer, beginBuffer, addAnswer, addBuffer, finishAnswer, finishBuffer}
+use Rattle.words.specs.Words.{wordOf}
+use Rattle.decimal.specs.Decimal.{isNone, structureOf}
+use Rattle.command_forms.specs.Forms.{space}
+use Rattle.command.specs.declared.Command.{Command}
+use Rattle.console_lines.specs.Lines.{oneLine, octetsLine}
+use Rattle.console_state.specs.Answers.{answerLine}
+use Rattle.console_state.specs.Spelled.{octetsIn}
+
+-- the writer and its buffer after a command, and the line that answers it
+pub record Composing : Type 0 where
+  pub writer : Writer
+  pub lent : List ℕ
+  pub answer : List ℕ
+
+-- `0 0 AT`, "the writer's new place"
+unfoldable pub placeLine : Written → List ℕ
+placeLine w = answerLine (w .verdict) (oneLine (w .writer .at))
+
+-- ## Begin
+
+-- "a new buffer of SIZE octets, each `EE`"
+unfoldable pub freshBuffer : ℕ → List ℕ
+freshBuffer size = replicate size 238
+
+-- `begin ero SIZE` · `begin rro SIZE`: "lends the writer a new buffer of SIZE octets (0 to 65,536), each `EE`, and begins a route in it. Where that is
+-- refused the writer keeps the buffer, the kind and the place that it had"; `0 0 4`
+abbrev pub beginTurn : Writer → List ℕ → Command → Composing
+beginTurn w lent c = record {
+  writer = beginAnswer (freshBuffer (c .two)) w (c .ero) .writer;
+  lent = kept (beginAnswer (freshBuffer (c .two)) w (c .ero) .verdict .number) lent (beginBuffer (freshBuffer (c .two)) w (c .ero));
+  answer = placeLine (beginAnswer (freshBuffer (c .two)) w (c .ero));
+}
+
+-- ## Add
+
+-- "SID 16 octets or `-`"
+unfoldable pub sidIn : List ℕ → List ℕ
+sidIn line = over (octetsIn line 5) (replicate 16 0)
+
+-- "NAI 0 to 40 octets, kept in 40 with 0 behind"
+unfoldable pub naiIn : List ℕ → List ℕ
+naiIn line = over (octetsIn line 6) (replicate 40 0)
+
+-- "L, V 0 or 1, NT 0 to 255, BEHAVIOUR 0 to 65,535, SID .., NAI .., STRUCTURE"
+unfoldable pub segmentIn : Command → List ℕ → Segment
+segmentIn c line = record {
+  loose = eqb (c .one) 1;
+  verify = eqb (c .two) 1;
+  nt = c .three;
+  behaviour = c .four;
+  hassid = not (isNone (wordOf space line 5));
+  sid = sidIn line;
+  nai = naiIn line;
+  structured = not (isNone (wordOf space line 7));
+  structure = structureOf (wordOf space line 7);
+}
+
+-- what the form of an `add` says of its words
+pub record AddForm (c : Command) (line : List ℕ) : Type 0 where
+  pub nt : c .three ≤ 255
+  pub behaviour : c .four ≤ 65535
+  pub sid : length (octetsIn line 5) ≤ 16
+  pub nai : length (octetsIn line 6) ≤ 40
+
+-- `add L V NT BEHAVIOUR SID NAI STRUCTURE`: "adds a segment"; `0 0 AT`
+abbrev pub addTurn : Writer → List ℕ → Command → List ℕ → Composing
+addTurn w lent c line = record {
+  writer = addAnswer lent w (segmentIn c line) .writer;
+  lent = addBuffer lent w (segmentIn c line);
+  answer = placeLine (addAnswer lent w (segmentIn c line));
+}
+
+-- ## Finish
+
+-- `0 0 OCTETS`, "the object": the buffer's octets up to the writer's place
+unfoldable pub finishLine : Writer → List ℕ → List ℕ
+finishLine w lent = answerLine (finishAnswer lent w .verdict) (octetsLine (take (finishAnswer lent w .writer .at) (finishBuffer lent w)))
+
+-- `finish`: "finishes the route; the writer stays where it is, so that more can be added and the route finished again"
+abbrev pub finishTurn : Writer → List ℕ → Composing
+finishTurn w lent = record { writer = finishAnswer lent w .writer; lent = finishBuffer lent w; answer = finishLine w lent }
+
+-- ## Lent
+
+-- `lent`: "shows the writer's whole buffer"; `0 0 OCTETS`
+abbrev pub lentLine : List ℕ → List ℕ
+lentLine lent = octetsLine lent

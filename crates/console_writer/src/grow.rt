@@ -1,0 +1,37 @@
+// `add L V NT BEHAVIOUR SID NAI STRUCTURE`
+ghost use Prim.Native.Nat.{_*_, _≤_};
+ghost use mathlib.Core.Path.{_≡_};
+ghost use lib.ListN.{length, take};
+ghost use Rattle.printing.specs.Text.{Behind};
+ghost use Rattle.console_writer.specs.Composing.{addTurn, AddForm};
+use crate::word::segment_in;
+use crate::wrote::Composed;
+use crate::wrote::placed;
+use command::Command;
+use console_state::fit;
+use writer::Writer;
+
+pub fn added(
+    old: Writer,
+    size: usize,
+    line: &[u8],
+    c: Command,
+    memory: &mut [u8],
+    room: &mut [u8],
+    out: &mut [u8],
+) -> Composed
+    requires { ⌜ (length (now line) ≤ 2 * length (now room)) × AddForm c (now line) × (128 ≤ length (now out)) ⌝ }
+    ensures writer { λ r. ⌜ r .writer ≡ addTurn old (take size (now (memory .entry))) c (now (line .entry)) .writer ⌝ }
+    ensures lent { λ r. ⌜ take (r .size) (now (memory .exit)) ≡ addTurn old (take size (now (memory .entry))) c (now (line .entry)) .lent ⌝ }
+    ensures told { λ r. ⌜ Behind (now (out .entry)) (now (out .exit)) 0 (r .end) (addTurn old (take size (now (memory .entry))) c (now (line .entry)) .answer) ⌝ }
+{
+    let n = fit(size, memory);
+    let g = segment_in(line, c, room);
+    let w = writer::add(&mut memory[..n], old, g);
+    let writer = w.writer;
+    Composed {
+        writer: writer,
+        size: size,
+        end: placed(out, w),
+    }
+}

@@ -1,0 +1,57 @@
+// TLVs one behind the other (document 01, "The OPEN object").
+//
+// A TLV is type (2), length (2), value, then padding to a multiple of 4 that the length doesn't count.
+// A sub-TLV is laid out as a TLV is; only the padding of the last sub-TLV may be missing or cut.
+// What is too short for that is no TLV: Broken.
+ghost use mathlib.Core.Path.{_≡_};
+ghost use mathlib.Core.Bool.{cond};
+ghost use Prim.Native.Nat.{_≤_, _<_};
+ghost use lib.ListN.{length};
+ghost use Rattle.tlvs.specs.Places.{itemAt, Within};
+
+// The octets of type and length.
+pub const HEAD: usize = 4;
+
+// One TLV: its type, where its value starts, its length, and where the next one starts.
+pub enum Item {
+    Whole {
+        kind: usize,
+        from: usize,
+        len: usize,
+        next: usize,
+    },
+    Broken,
+}
+
+// How much of a value and its padding must be there.
+fn needed(short: bool, len: usize, padded: usize) -> usize
+    requires { ⌜ len ≤ padded ⌝ }
+    ensures needed { λ r. ⌜ (r ≡ cond short len padded) × (len ≤ r) × (r ≤ padded) ⌝ }
+{
+    if short { len } else { padded }
+}
+
+// The TLV at `at` of those that end at `end`. With `short` its padding may be missing or cut at the end.
+pub fn item_at(s: &[u8], at: usize, end: usize, short: bool) -> Item
+    requires { ⌜ (at ≤ end) × (end ≤ length (now s)) × (end < 65536) ⌝ }
+    ensures exact { λ r. ⌜ r ≡ itemAt (now (s .entry)) at end short ⌝ }
+    ensures within { λ r. ⌜ Within at end r ⌝ }
+{
+    let room = end - at;
+    if room < HEAD {
+        return Item::Broken;
+    }
+    let kind = octets::read16(s, at);
+    let len = octets::read16(s, at + 2);
+    let padded = octets::padded(len);
+    if room < HEAD + needed(short, len, padded) {
+        return Item::Broken;
+    }
+    let from = at + HEAD;
+    Item::Whole {
+        kind,
+        from,
+        len,
+        next: from + padded,
+    }
+}
