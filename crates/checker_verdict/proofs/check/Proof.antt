@@ -24,7 +24,12 @@ refused-requires : tie.Need-refused-requires
 refused-requires c κs = search needs
 
 returns : tie.Need-returns
-returns c = c .refused .ensures ∙ pcc-refused (c .before .before .before .before .before .before .before .args .s .now) (c .before .before .before .read-open .result) (c .before .before .before .read-open .ensures ∙ ap openOf (c .before .before .before .before .first .ensures)) (c .before .if1 .taken)
+returns c =
+    c .refused .ensures
+    ∙ pcc-refused (c .before .before .before .before .before .before .before .args .s .now)
+    (c .before .before .before .read-open .result)
+    (c .before .before .before .read-open .ensures ∙ ap openOf (c .before .before .before .before .first .ensures))
+    (c .before .if1 .taken)
 
 first-requires-2 : tie.Need-first-requires-2
 first-requires-2 c κs = search needs
@@ -36,9 +41,17 @@ refused-requires-2 : tie.Need-refused-requires-2
 refused-requires-2 c κs = search needs
 
 returns-2 : tie.Need-returns-2
-returns-2 c = c .refused2 .ensures ∙ pce-refused (c .before .before .before .before .before .before .before .before .before .before .before .args .s .now) (c .before .before .before .before .before .before .before .read-open .result) (c .before .before .before .read-open2 .result)
-    (c .before .before .before .before .before .before .before .read-open .ensures ∙ ap openOf (c .before .before .before .before .before .before .before .before .first .ensures)) (c .before .before .before .before .before .if1 .left)
-    (c .before .before .before .read-open2 .ensures ∙ ap openOf (c .before .before .before .before .first2 .ensures ∙ ap firstOf (c .before .before .before .before .before .before .before .before .before .rest .ensures))) (c .before .if2 .taken)
+returns-2 c =
+    let before7 = c .before .before .before .before .before .before .before in
+    c .refused2 .ensures
+    ∙ pce-refused (before7 .before .before .before .before .args .s .now) (before7 .read-open .result)
+    (c .before .before .before .read-open2 .result)
+    (before7 .read-open .ensures ∙ ap openOf (before7 .before .first .ensures))
+    (c .before .before .before .before .before .if1 .left)
+    (c .before .before .before .read-open2 .ensures
+    ∙ ap openOf
+    (c .before .before .before .before .first2 .ensures ∙ ap firstOf (before7 .before .before .rest .ensures)))
+    (c .before .if2 .taken)
 
 agree-requires : tie.Need-agree-requires
 agree-requires c κs = search needs
@@ -53,12 +66,23 @@ judge-requires : tie.Need-judge-requires
 judge-requires c κs = search needs
 
 returns-3 : tie.Need-returns-3
-returns-3 c = c .judge .ensures
-    ∙ ap (λ (e : List ℕ). judgeOf e true (c .before .before .before .agree .result) 3) (c .before .first3 .ensures ∙ ap firstOf (c .before .before .rest2 .ensures ∙ ap restOf (c .before .before .before .before .before .before .before .before .before .before .before .before .rest .ensures)))
-    ∙ ap (λ (n : Session). judgeOf (firstOf (restOf (restOf (c .before .before .before .before .before .before .before .before .before .before .before .before .before .before .args .s .now)))) true n 3) (c .before .before .before .agree .ensures)
-    ∙ ero-judged (c .before .before .before .before .before .before .before .before .before .before .before .before .before .before .args .s .now) (c .before .before .before .before .before .before .before .before .before .before .read-open .result) (c .before .before .before .before .before .before .read-open2 .result)
-    (c .before .before .before .before .before .before .before .before .before .before .read-open .ensures ∙ ap openOf (c .before .before .before .before .before .before .before .before .before .before .before .first .ensures)) (c .before .before .before .before .before .before .before .before .if1 .left)
-    (c .before .before .before .before .before .before .read-open2 .ensures ∙ ap openOf (c .before .before .before .before .before .before .before .first2 .ensures ∙ ap firstOf (c .before .before .before .before .before .before .before .before .before .before .before .before .rest .ensures))) (c .before .before .before .before .if2 .left)
+returns-3 c =
+    let before6 = c .before .before .before .before .before .before in
+    let before10 = before6 .before .before .before .before in
+    c .judge .ensures
+    ∙ ap (λ (e : List ℕ). judgeOf e true (c .before .before .before .agree .result) 3)
+    (c .before .first3 .ensures
+    ∙ ap firstOf (c .before .before .rest2 .ensures ∙ ap restOf (before10 .before .before .rest .ensures)))
+    ∙ ap
+    (λ (n : Session).
+    judgeOf (firstOf (restOf (restOf (before10 .before .before .before .before .args .s .now)))) true n 3)
+    (c .before .before .before .agree .ensures)
+    ∙ ero-judged (before10 .before .before .before .before .args .s .now) (before10 .read-open .result)
+    (before6 .read-open2 .result) (before10 .read-open .ensures ∙ ap openOf (before10 .before .first .ensures))
+    (before6 .before .before .if1 .left)
+    (before6 .read-open2 .ensures
+    ∙ ap openOf (before6 .before .first2 .ensures ∙ ap firstOf (before10 .before .before .rest .ensures)))
+    (c .before .before .before .before .if2 .left)
 
 pub check-spec : {M : Type 1} → statement M
 check-spec =

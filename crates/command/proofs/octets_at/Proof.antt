@@ -22,13 +22,22 @@ same-length : tie.Need-same-length
 same-length c = search needs
 
 returns : tie.Need-returns
-returns c = let w = c .before .before .before .before .word .ensures .0 in
-    let l = length-octets (c .before .before .before .before .word .result .now) in
-    let n : length (octetsOf (c .before .before .before .before .word .result .now)) ≤ length (c .before .before .before .before .before .before .before .args .out .now) = omega (arith, c .before .before .before .before .word .ensures .1, c .before .before .before .before .before .before .before .pre) in
-    let e : length (c .before .before .decode .last .1 .0) ≡ length (c .before .before .before .before .before .before .before .args .out .now) = ap length (c .before .before .decode .ensures .1) ∙ length-over (octetsOf (c .before .before .before .before .word .result .now)) (c .before .before .before .before .before .before .before .args .out .now) n in
-    let k : c .before .before .decode .result ≤ length (c .before .before .decode .last .1 .0) = omega (arith, c .before .before .decode .ensures .0) in (
-      (c .before .before .decode .ensures .0 ∙ ap (λ (x : List ℕ). length (octetsOf x)) w, c .before .before .decode .ensures .1 ∙ ap (λ (x : List ℕ). over (octetsOf x) (c .before .before .before .before .before .before .before .args .out .now)) w),
-      ((k, sym (length-take-le (c .before .before .decode .result) (c .before .before .decode .last .1 .0) k)), e),
+returns c =
+    let decode = c .before .before .decode in
+    let before4 = c .before .before .before .before in
+    let w = before4 .word .ensures .0 in
+    let out = before4 .before .before .before .args .out .now in
+    let l = length-octets (before4 .word .result .now) in
+    let n : length (octetsOf (before4 .word .result .now)) ≤ length out = omega
+    (arith, before4 .word .ensures .1, before4 .before .before .before .pre) in
+    let e : length (decode .last .1 .0) ≡ length out = ap length (decode .ensures .1)
+    ∙ length-over (octetsOf (before4 .word .result .now)) out n in
+    let k : decode .result ≤ length (decode .last .1 .0) = omega (arith, decode .ensures .0) in (
+      (
+        decode .ensures .0 ∙ ap (λ (x : List ℕ). length (octetsOf x)) w,
+        decode .ensures .1 ∙ ap (λ (x : List ℕ). over (octetsOf x) out) w,
+      ),
+      ((k, sym (length-take-le (decode .result) (decode .last .1 .0) k)), e),
     )
 
 pub octets-at-spec : {M : Type 1} → statement M

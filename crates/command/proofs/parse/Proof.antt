@@ -39,8 +39,14 @@ alone-requires-3 : tie.Need-alone-requires-3
 alone-requires-3 c κs = search needs
 
 returns-3 : tie.Need-returns-3
-returns-3 c = let e = c .before .before .before .named .ensures ∙ ap verbOf (c .before .before .before .before .word .ensures .0) in
-    c .alone3 .ensures ∙ read-out-of-form _ (sym (c .before .before .before .before .before .before .before .is-skipped .ensures) ∙ c .before .before .before .before .before .before .if1 .left) (c .before .before .before .before .before .if2 .left) (rw (← e) (sym (c .before .before .is-formed .ensures) ∙ not-true _ (c .before .if3 .taken)))
+returns-3 c =
+    let before4 = c .before .before .before .before in
+    let e = c .before .before .before .named .ensures ∙ ap verbOf (before4 .word .ensures .0) in
+    c .alone3 .ensures
+    ∙ read-out-of-form _
+    (sym (before4 .before .before .before .is-skipped .ensures) ∙ before4 .before .before .if1 .left)
+    (before4 .before .if2 .left)
+    (rw (← e) (sym (c .before .before .is-formed .ensures) ∙ not-true _ (c .before .if3 .taken)))
 
 word-requires-2 : tie.Need-word-requires-2
 word-requires-2 c κs = search needs
@@ -76,11 +82,21 @@ value-requires-4 : tie.Need-value-requires-4
 value-requires-4 c κs = search needs
 
 returns-4 : tie.Need-returns-4
-returns-4 c = let e = c .before .before .before .before .before .before .before .before .before .before .before .before .before .named .ensures ∙ ap verbOf (c .before .before .before .before .before .before .before .before .before .before .before .before .before .before .word .ensures .0) in
-    made _ e (c .before .before .before .before .before .before .before .before .same .ensures ∙ ap (λ (w : List ℕ). sameOf w theEro) (c .before .before .before .before .before .before .before .before .before .before .word2 .ensures .0))
-    (c .before .before .before .before .before .before .value .ensures ∙ ap valueOf (c .before .before .before .before .before .before .before .word3 .ensures .0)) (c .before .before .before .before .value2 .ensures ∙ ap valueOf (c .before .before .before .before .before .word4 .ensures .0))
-    (c .before .before .value3 .ensures ∙ ap valueOf (c .before .before .before .word5 .ensures .0)) (c .value4 .ensures ∙ ap valueOf (c .before .word6 .ensures .0))
-    ∙ read-in-form _ (sym (c .before .before .before .before .before .before .before .before .before .before .before .before .before .before .before .before .before .is-skipped .ensures) ∙ c .before .before .before .before .before .before .before .before .before .before .before .before .before .before .before .before .if1 .left) (c .before .before .before .before .before .before .before .before .before .before .before .before .before .before .before .if2 .left) (rw (← e) (sym (c .before .before .before .before .before .before .before .before .before .before .before .before .is-formed .ensures) ∙ not-false _ (c .before .before .before .before .before .before .before .before .before .before .before .if3 .left)))
+returns-4 c =
+    let before5 = c .before .before .before .before .before in
+    let before10 = before5 .before .before .before .before .before in
+    let before14 = before10 .before .before .before .before in
+    let e = before10 .before .before .before .named .ensures ∙ ap verbOf (before14 .word .ensures .0) in
+    made _ e
+    (before5 .before .before .before .same .ensures
+    ∙ ap (λ (w : List ℕ). sameOf w theEro) (before10 .word2 .ensures .0))
+    (before5 .before .value .ensures ∙ ap valueOf (before5 .before .before .word3 .ensures .0))
+    (c .before .before .before .before .value2 .ensures ∙ ap valueOf (before5 .word4 .ensures .0))
+    (c .before .before .value3 .ensures ∙ ap valueOf (c .before .before .before .word5 .ensures .0))
+    (c .value4 .ensures ∙ ap valueOf (c .before .word6 .ensures .0))
+    ∙ read-in-form _ (sym (before14 .before .before .before .is-skipped .ensures) ∙ before14 .before .before .if1 .left)
+    (before14 .before .if2 .left)
+    (rw (← e) (sym (before10 .before .before .is-formed .ensures) ∙ not-false _ (before10 .before .if3 .left)))
 
 pub parse-spec : {M : Type 1} → statement M
 parse-spec =

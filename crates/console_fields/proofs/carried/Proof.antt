@@ -35,10 +35,20 @@ same-length : tie.Need-same-length
 same-length c = search needs
 
 returns : tie.Need-returns
-returns c = (
-  then (c .before .before .before .before .before .before .before .before .before .before .before .before .before .before .before .before .before .before .before .before .before .push .ensures) (then (rw (c .before .before .before .before .before .before .before .before .before .before .before .before .before .before .before .before .before .bit .ensures) at (c .before .before .before .before .before .before .before .before .before .before .before .before .before .before .before .before .field .ensures .0)) (then (rw (c .before .before .before .before .before .before .before .before .before .before .before .before .bit2 .ensures) at (c .before .before .before .before .before .before .before .before .before .before .before .field2 .ensures .0)) (then (c .before .before .before .before .before .before .before .limit-field .ensures .0) (c .before .before .push2 .ensures)))),
-  omega (arith, c .before .before .before .before .before .before .before .before .before .before .before .before .before .before .before .before .before .before .before .before .before .push .ensures .ends, c .before .before .push2 .ensures .ends),
-)
+returns c =
+    let before11 = c .before .before .before .before .before .before .before .before .before .before .before in
+    let before16 = before11 .before .before .before .before .before in (
+      then (before16 .before .before .before .before .before .push .ensures)
+          (then (rw (before16 .before .bit .ensures) at (before16 .field .ensures .0))
+          (then (rw (before11 .before .bit2 .ensures) at (before11 .field2 .ensures .0))
+          (then (c .before .before .before .before .before .before .before .limit-field .ensures .0)
+          (c .before .before .push2 .ensures)))),
+      omega (
+        arith,
+        before16 .before .before .before .before .before .push .ensures .ends,
+        c .before .before .push2 .ensures .ends,
+      ),
+    )
 
 pub carried-spec : {M : Type 1} → statement M
 carried-spec =

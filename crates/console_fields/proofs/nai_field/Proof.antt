@@ -23,7 +23,16 @@ same-length : tie.Need-same-length
 same-length c = search needs
 
 returns : tie.Need-returns
-returns c = (rw (c .before .before .before .before .before .nai-length .ensures .0) at (c .before .before .octets-field .ensures .0), omega (arith, c .before .before .octets-field .ensures .1, length-take (c .before .before .before .before .before .nai-length .result) (c .before .before .before .before .before .before .before .args .t4), c .before .before .before .before .before .nai-length .ensures .1))
+returns c =
+    let before5 = c .before .before .before .before .before in (
+      rw (before5 .nai-length .ensures .0) at (c .before .before .octets-field .ensures .0),
+      omega (
+        arith,
+        c .before .before .octets-field .ensures .1,
+        length-take (before5 .nai-length .result) (before5 .before .before .args .t4),
+        before5 .nai-length .ensures .1,
+      ),
+    )
 
 pub nai-field-spec : {M : Type 1} → statement M
 nai-field-spec =

@@ -23,7 +23,16 @@ same-length : tie.Need-same-length
 same-length c = search needs
 
 returns : tie.Need-returns
-returns c = (rw (c .before .before .before .before .before .pick .ensures .0) at (c .before .before .octets-field .ensures .0), omega (arith, c .before .before .octets-field .ensures .1, length-take (c .before .before .before .before .before .pick .result) (c .before .before .before .before .before .before .before .args .t4), c .before .before .before .before .before .pick .ensures .1))
+returns c =
+    let before5 = c .before .before .before .before .before in (
+      rw (before5 .pick .ensures .0) at (c .before .before .octets-field .ensures .0),
+      omega (
+        arith,
+        c .before .before .octets-field .ensures .1,
+        length-take (before5 .pick .result) (before5 .before .before .args .t4),
+        before5 .pick .ensures .1,
+      ),
+    )
 
 pub sid-field-spec : {M : Type 1} → statement M
 sid-field-spec =

@@ -20,7 +20,12 @@ same-length : tie.Need-same-length
 same-length c = search needs
 
 returns : tie.Need-returns
-returns c = ((then (c .before .before .before .before .before .before .before .before .before .before .before .number .ensures .0) (then (c .before .before .before .before .before .before .before .field .ensures .0) (c .before .before .push .ensures))), omega (arith, c .before .before .push .ensures .ends))
+returns c = (
+  (then (c .before .before .before .before .before .before .before .before .before .before .before .number .ensures .0)
+      (then (c .before .before .before .before .before .before .before .field .ensures .0)
+      (c .before .before .push .ensures))),
+  omega (arith, c .before .before .push .ensures .ends),
+)
 
 pub refusal-spec : {M : Type 1} → statement M
 refusal-spec =

@@ -23,7 +23,13 @@ same-length : tie.Need-same-length
 same-length c = search needs
 
 returns : tie.Need-returns
-returns c = ((then (c .before .before .before .before .before .before .before .before .before .before .before .before .before .before .before .number .ensures .0) (then (c .before .before .before .before .before .before .before .before .before .before .before .field .ensures .0) (then (c .before .before .before .before .before .before .before .field2 .ensures .0) (c .before .before .push .ensures)))), omega (arith, c .before .before .push .ensures .ends))
+returns c =
+    let before7 = c .before .before .before .before .before .before .before in (
+      (then (before7 .before .before .before .before .before .before .before .before .number .ensures .0)
+          (then (before7 .before .before .before .before .field .ensures .0)
+          (then (before7 .field2 .ensures .0) (c .before .before .push .ensures)))),
+      omega (arith, c .before .before .push .ensures .ends),
+    )
 
 pub whole-spec : {M : Type 1} → statement M
 whole-spec =

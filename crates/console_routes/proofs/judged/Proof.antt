@@ -31,8 +31,11 @@ same-length-2 c = search needs
 
 returns : tie.Need-returns
 unfolding routeLine
-returns c = let a = c .before .before .before .before .before .before .before .before .before .before .before .before .before .args in
-    let e = c .before .before .before .before .judge .ensures ∙ ap (λ (s : List ℕ). judgeOf s (a .ero) (a .session) (a .c .one)) (spelled _ _ (c .before .before .before .before .before .before .before .before .octets-at .ensures .0)) in
+returns c =
+    let a = c .before .before .before .before .before .before .before .before .before .before .before .before .before .args in
+    let e = c .before .before .before .before .judge .ensures
+    ∙ ap (λ (s : List ℕ). judgeOf s (a .ero) (a .session) (a .c .one))
+    (spelled _ _ (c .before .before .before .before .before .before .before .before .octets-at .ensures .0)) in
     rw (← e) (c .before .before .counted .ensures)
 
 pub judged-spec : {M : Type 1} → statement M

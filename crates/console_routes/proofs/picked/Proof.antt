@@ -32,10 +32,16 @@ same-length-2 c = search needs
 
 returns : tie.Need-returns
 unfolding segmentAnswer pickedLine
-returns c = let a = c .before .before .before .before .before .before .before .before .before .before .before .before .before .before .before .before .args in
-    let p = c .before .before .before .before .before .before .before .segment .result in
-    let e = c .before .before .before .before .before .before .before .segment .ensures ∙ ap (λ (s : List ℕ). segmentOf s (a .ero) (a .session) (a .c .one) (a .c .two)) (spelled _ _ (c .before .before .before .before .before .before .before .before .before .before .before .octets-at .ensures .0)) in
-    rw (← e) (told-refused (p .verdict) (segmentLine (p .segment)) (c .before .before .before .before .if1 .taken) (c .before .before .refusal .ensures .0))
+returns c =
+    let before7 = c .before .before .before .before .before .before .before in
+    let p = before7 .segment .result in
+    let a = before7 .before .before .before .before .before .before .before .before .before .args in
+    let e = before7 .segment .ensures
+    ∙ ap (λ (s : List ℕ). segmentOf s (a .ero) (a .session) (a .c .one) (a .c .two))
+    (spelled _ _ (before7 .before .before .before .before .octets-at .ensures .0)) in
+    rw (← e)
+    (told-refused (p .verdict) (segmentLine (p .segment)) (c .before .before .before .before .if1 .taken)
+    (c .before .before .refusal .ensures .0))
 
 segment-requires-2 : tie.Need-segment-requires-2
 segment-requires-2 c κs = search needs
@@ -48,10 +54,16 @@ same-length-4 c = search needs
 
 returns-2 : tie.Need-returns-2
 unfolding segmentAnswer pickedLine
-returns-2 c = let a = c .before .before .before .before .before .before .before .before .before .before .before .before .before .before .before .before .before .args in
-    let p = c .before .before .before .before .before .before .before .before .segment .result in
-    let e = c .before .before .before .before .before .before .before .before .segment .ensures ∙ ap (λ (s : List ℕ). segmentOf s (a .ero) (a .session) (a .c .one) (a .c .two)) (spelled _ _ (c .before .before .before .before .before .before .before .before .before .before .before .before .octets-at .ensures .0)) in
-    rw (← e) (told-accepted (p .verdict) (segmentLine (p .segment)) (c .before .before .before .before .before .if1 .left) (c .before .before .segment2 .ensures .0))
+returns-2 c =
+    let before8 = c .before .before .before .before .before .before .before .before in
+    let p = before8 .segment .result in
+    let a = before8 .before .before .before .before .before .before .before .before .before .args in
+    let e = before8 .segment .ensures
+    ∙ ap (λ (s : List ℕ). segmentOf s (a .ero) (a .session) (a .c .one) (a .c .two))
+    (spelled _ _ (before8 .before .before .before .before .octets-at .ensures .0)) in
+    rw (← e)
+    (told-accepted (p .verdict) (segmentLine (p .segment)) (c .before .before .before .before .before .if1 .left)
+    (c .before .before .segment2 .ensures .0))
 
 pub picked-spec : {M : Type 1} → statement M
 picked-spec =

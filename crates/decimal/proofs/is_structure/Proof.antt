@@ -56,9 +56,17 @@ either-requires c κs = search needs
 returns : tie.Need-returns
 unfolding isStructure
 returns c =
-    or (c .either .ensures) (c .before .before .before .is-none .ensures) (and (c .before .both4 .ensures) (ap (λ (n : ℕ). eqb n 4) (c .before .before .before .before .before .before .before .before .before .before .before .before .before .before .count .ensures))
-    (and (c .before .before .both3 .ensures) (and (c .before .before .before .before .before .before .before .before .before .both .ensures) (c .before .before .before .before .before .before .before .before .before .before .before .before .at-most .ensures ∙ ap (isAtMost 255) (c .before .before .before .before .before .before .before .before .before .before .before .before .before .word .ensures .0)) (c .before .before .before .before .before .before .before .before .before .before .at-most2 .ensures ∙ ap (isAtMost 255) (c .before .before .before .before .before .before .before .before .before .before .before .word2 .ensures .0)))
-    (and (c .before .before .before .before .both2 .ensures) (c .before .before .before .before .before .before .before .at-most3 .ensures ∙ ap (isAtMost 255) (c .before .before .before .before .before .before .before .before .word3 .ensures .0)) (c .before .before .before .before .before .at-most4 .ensures ∙ ap (isAtMost 255) (c .before .before .before .before .before .before .word4 .ensures .0)))))
+    let before4 = c .before .before .before .before in
+    let before7 = before4 .before .before .before in
+    let before11 = before7 .before .before .before .before in
+    or (c .either .ensures) (c .before .before .before .is-none .ensures)
+    (and (c .before .both4 .ensures) (ap (λ (n : ℕ). eqb n 4) (before11 .before .before .before .count .ensures))
+    (and (c .before .before .both3 .ensures)
+    (and (before7 .before .before .both .ensures)
+    (before11 .before .at-most .ensures ∙ ap (isAtMost 255) (before11 .before .before .word .ensures .0))
+    (before7 .before .before .before .at-most2 .ensures ∙ ap (isAtMost 255) (before11 .word2 .ensures .0)))
+    (and (before4 .both2 .ensures) (before7 .at-most3 .ensures ∙ ap (isAtMost 255) (before7 .before .word3 .ensures .0))
+    (before4 .before .at-most4 .ensures ∙ ap (isAtMost 255) (before4 .before .before .word4 .ensures .0)))))
 
 pub is-structure-spec : {M : Type 1} → statement M
 is-structure-spec =

@@ -29,7 +29,10 @@ returns-3 : tie.Need-returns-3 Inv-loop μ-loop
 returns-3 c = nondigit-refused (c .before .before .before .before .loop .inv) (c .before .before .before .loop-test .taken) (digit-high _ (c .if3 .taken))
 
 returns-4 : tie.Need-returns-4 Inv-loop μ-loop
-returns-4 c = overflow-refused (c .before .before .before .before .before .loop .inv) (c .before .before .before .before .loop-test .taken) (digit-is _ (c .before .before .if2 .left) (c .before .if3 .left)) (omega arith)
+returns-4 c =
+    overflow-refused (c .before .before .before .before .before .loop .inv)
+    (c .before .before .before .before .loop-test .taken)
+    (digit-is _ (c .before .before .if2 .left) (c .before .if3 .left)) (omega arith)
 
 digit-requires : tie.Need-digit-requires Inv-loop μ-loop
 digit-requires c κs = search needs
@@ -41,7 +44,10 @@ sub-if5 : tie.Need-sub-if5 Inv-loop μ-loop
 sub-if5 c = omega arith
 
 returns-5 : tie.Need-returns-5 Inv-loop μ-loop
-returns-5 c = overflow-refused (c .before .before .before .before .before .before .before .loop .inv) (c .before .before .before .before .before .before .loop-test .taken) (digit-is _ (c .before .before .before .before .if2 .left) (c .before .before .before .if3 .left)) (omega arith)
+returns-5 c =
+    overflow-refused (c .before .before .before .before .before .before .before .loop .inv)
+    (c .before .before .before .before .before .before .loop-test .taken)
+    (digit-is _ (c .before .before .before .before .if2 .left) (c .before .before .before .if3 .left)) (omega arith)
 
 mul-v : tie.Need-mul-v Inv-loop μ-loop
 mul-v c = omega arith
@@ -56,7 +62,11 @@ loop-less : tie.Need-loop-less Inv-loop μ-loop
 loop-less c = omega arith
 
 loop-again : tie.Need-loop-again Inv-loop μ-loop
-loop-again c = rw (c .before .digit .ensures .0) (one-more (c .before .before .before .before .before .before .before .loop .inv) (c .before .before .before .before .before .before .loop-test .taken) (digit-is _ (c .before .before .before .before .if2 .left) (c .before .before .before .if3 .left)) (omega arith))
+loop-again c =
+    rw (c .before .digit .ensures .0)
+    (one-more (c .before .before .before .before .before .before .before .loop .inv)
+    (c .before .before .before .before .before .before .loop-test .taken)
+    (digit-is _ (c .before .before .before .before .if2 .left) (c .before .before .before .if3 .left)) (omega arith))
 
 returns-6 : tie.Need-returns-6 Inv-loop μ-loop
 returns-6 c = all-read (c .before .loop .inv) (c .loop-test .left)

@@ -26,7 +26,13 @@ hex-code-requires : tie.Need-hex-code-requires Inv-loop μ-loop
 hex-code-requires c κs = search needs
 
 returns-2 : tie.Need-returns-2 Inv-loop μ-loop
-returns-2 c = sym (pairs-even (c .before .before .before .before .before .before .before .args .word .now) (c .before .before .before .before .before .if1 .left) ∙ sym (c .before .before .before .before .loop .inv .1) ∙ hex-miss (c .before .before .before .before .before .before .before .args .word .now) (c .before .before .before .before .loop .i) (c .before .before .before .loop-test .taken) (sym (c .before .hex-code .ensures .0) ∙ c .if2 .taken))
+returns-2 c =
+    let before4 = c .before .before .before .before in
+    sym
+    (pairs-even (before4 .before .before .before .args .word .now) (before4 .before .if1 .left)
+    ∙ sym (before4 .loop .inv .1)
+    ∙ hex-miss (before4 .before .before .before .args .word .now) (before4 .loop .i)
+    (c .before .before .before .loop-test .taken) (sym (c .before .hex-code .ensures .0) ∙ c .if2 .taken))
 
 add-i : tie.Need-add-i Inv-loop μ-loop
 add-i c = omega arith
@@ -35,10 +41,21 @@ loop-less : tie.Need-loop-less Inv-loop μ-loop
 loop-less c = omega arith
 
 loop-again : tie.Need-loop-again Inv-loop μ-loop
-loop-again c = (omega arith, sym (hex-hit (c .before .before .before .before .before .before .before .args .word .now) (c .before .before .before .before .loop .i) (c .before .before .before .loop-test .taken) (λ e. c .if2 .left (c .before .hex-code .ensures .0 ∙ e))) ∙ c .before .before .before .before .loop .inv .1)
+loop-again c = (
+  omega arith,
+  sym
+      (hex-hit (c .before .before .before .before .before .before .before .args .word .now)
+      (c .before .before .before .before .loop .i) (c .before .before .before .loop-test .taken)
+      (λ e. c .if2 .left (c .before .hex-code .ensures .0 ∙ e)))
+      ∙ c .before .before .before .before .loop .inv .1,
+)
 
 returns-3 : tie.Need-returns-3 Inv-loop μ-loop
-returns-3 c = sym (pairs-even (c .before .before .before .before .args .word .now) (c .before .before .if1 .left) ∙ sym (c .before .loop .inv .1) ∙ hex-end (c .before .before .before .before .args .word .now) (c .before .loop .i) (c .loop-test .left))
+returns-3 c =
+    sym
+    (pairs-even (c .before .before .before .before .args .word .now) (c .before .before .if1 .left)
+    ∙ sym (c .before .loop .inv .1)
+    ∙ hex-end (c .before .before .before .before .args .word .now) (c .before .loop .i) (c .loop-test .left))
 
 pub all-pairs-spec : {M : Type 1} → statement M
 all-pairs-spec =

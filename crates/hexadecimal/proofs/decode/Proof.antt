@@ -46,13 +46,16 @@ loop-less : tie.Need-loop-less Inv-loop μ-loop
 loop-less c = omega arith
 
 loop-again : tie.Need-loop-again Inv-loop μ-loop
-loop-again c = (
-  omega arith,
-  simp length-set (c .before .before .before .before .loop .inv .1),
-  c .before .before .before .before .loop .inv .2,
-  rw (c .before .before .before .before .loop .inv .3, c .pair .ensures, ← octets-at (c .before .before .before .before .before .before .before .args .word .now) (c .before .before .before .before .loop .n) (omega arith))
-      (copied-more (c .before .before .before .before .before .before .before .args .out .now) (octetsOf (c .before .before .before .before .before .before .before .args .word .now)) (c .before .before .before .before .loop .n) (omega arith) (omega (arith, length-octets (c .before .before .before .before .before .before .before .args .word .now)))),
-)
+loop-again c =
+    let before4 = c .before .before .before .before in
+    let args = before4 .before .before .before .args in (
+      omega arith,
+      simp length-set (before4 .loop .inv .1),
+      before4 .loop .inv .2,
+      rw (before4 .loop .inv .3, c .pair .ensures, ← octets-at (args .word .now) (before4 .loop .n) (omega arith))
+          (copied-more (args .out .now) (octetsOf (args .word .now)) (before4 .loop .n) (omega arith)
+          (omega (arith, length-octets (args .word .now)))),
+    )
 
 same-length : tie.Need-same-length Inv-loop μ-loop
 same-length c = c .before .loop .inv .1

@@ -17,7 +17,10 @@ same-length : tie.Need-same-length
 same-length c = search needs
 
 returns : tie.Need-returns
-returns c = (then (c .before .before .before .before .before .before .push .ensures) (c .before .before .number .ensures .0), omega (arith, c .before .before .before .before .before .before .push .ensures .ends))
+returns c = (
+  then (c .before .before .before .before .before .before .push .ensures) (c .before .before .number .ensures .0),
+  omega (arith, c .before .before .before .before .before .before .push .ensures .ends),
+)
 
 pub field-spec : {M : Type 1} → statement M
 field-spec =

@@ -27,9 +27,15 @@ same-length c = search needs
 
 returns : tie.Need-returns
 returns c =
-    let k = fewest-20 (c .before .before .before .before .before .before .before .before .args .n) (c .before .before .before .before .before .decimal .result) (omega arith) (c .before .before .before .before .before .decimal .ensures .1 .0) in
-    let e = c .before .before .before .before .before .decimal .ensures .1 .1 ∙ digits-decimal (c .before .before .before .before .before .decimal .result) (c .before .before .before .before .before .before .before .before .args .n) k (c .before .before .before .before .before .decimal .ensures .1 .0) in
-    (rw e at (c .before .before .push .ensures), omega (arith, c .before .before .push .ensures .ends, c .before .before .before .before .before .decimal .ensures .0))
+    let before5 = c .before .before .before .before .before in
+    let k = fewest-20 (before5 .before .before .before .args .n) (before5 .decimal .result) (omega arith)
+    (before5 .decimal .ensures .1 .0) in
+    let e = before5 .decimal .ensures .1 .1
+    ∙ digits-decimal (before5 .decimal .result) (before5 .before .before .before .args .n) k
+    (before5 .decimal .ensures .1 .0) in (
+      rw e at (c .before .before .push .ensures),
+      omega (arith, c .before .before .push .ensures .ends, before5 .decimal .ensures .0),
+    )
 
 pub number-spec : {M : Type 1} → statement M
 number-spec =

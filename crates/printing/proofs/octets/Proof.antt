@@ -16,7 +16,12 @@ same-length : tie.Need-same-length
 same-length c = search needs
 
 returns : tie.Need-returns
-returns c = (rw (dash-for-none (c .before .before .before .before .before .before .before .before .args .s .now) (c .before .before .before .before .before .if1 .taken)) (c .before .before .push .ensures), omega (arith, c .before .before .push .ensures .ends))
+returns c = (
+  rw
+      (dash-for-none (c .before .before .before .before .before .before .before .before .args .s .now)
+      (c .before .before .before .before .before .if1 .taken)) (c .before .before .push .ensures),
+  omega (arith, c .before .before .push .ensures .ends),
+)
 
 pairs-requires : tie.Need-pairs-requires
 pairs-requires c κs = search needs
@@ -25,7 +30,11 @@ same-length-2 : tie.Need-same-length-2
 same-length-2 c = search needs
 
 returns-2 : tie.Need-returns-2
-returns-2 c = (rw (digits-for-some (c .before .before .before .before .before .before .before .args .s .now) (c .before .before .before .before .if1 .left)) (c .before .before .pairs .ensures), omega (arith, c .before .before .pairs .ensures .ends, hex-length (c .before .before .before .before .before .before .before .args .s .now)))
+returns-2 c =
+    let s = c .before .before .before .before .before .before .before .args .s in (
+      rw (digits-for-some (s .now) (c .before .before .before .before .if1 .left)) (c .before .before .pairs .ensures),
+      omega (arith, c .before .before .pairs .ensures .ends, hex-length (s .now)),
+    )
 
 pub octets-spec : {M : Type 1} → statement M
 octets-spec =

@@ -41,13 +41,19 @@ loop-less : tie.Need-loop-less Inv-loop μ-loop
 loop-less c = omega arith
 
 loop-again : tie.Need-loop-again Inv-loop μ-loop
-loop-again c = (
-  omega arith,
-  omega (arith, c .before .before .push .ensures .ends),
-  omega arith,
-  c .before .before .push .ensures .room ∙ c .before .before .before .before .before .before .before .before .before .loop .inv .3,
-  rw (← hex-more (c .before .before .before .before .before .before .before .before .before .before .before .before .args .s .now) (c .before .before .before .before .before .before .before .before .before .loop .i) (c .before .before .before .before .before .before .before .before .loop-test .taken), ← c .before .before .before .before .before .glyph .ensures, ← c .before .before .before .before .glyph2 .ensures) (then (c .before .before .before .before .before .before .before .before .before .loop .inv .4) (c .before .before .push .ensures)),
-)
+loop-again c =
+    let before8 = c .before .before .before .before .before .before .before .before in (
+      omega arith,
+      omega (arith, c .before .before .push .ensures .ends),
+      omega arith,
+      c .before .before .push .ensures .room ∙ before8 .before .loop .inv .3,
+      rw (
+        ← hex-more (before8 .before .before .before .before .args .s .now) (before8 .before .loop .i)
+            (before8 .loop-test .taken),
+        ← c .before .before .before .before .before .glyph .ensures,
+        ← c .before .before .before .before .glyph2 .ensures,
+      ) (then (before8 .before .loop .inv .4) (c .before .before .push .ensures)),
+    )
 
 same-length : tie.Need-same-length Inv-loop μ-loop
 same-length c = c .before .loop .inv .3

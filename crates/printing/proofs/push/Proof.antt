@@ -16,7 +16,10 @@ same-length : tie.Need-same-length
 same-length c = search needs
 
 returns : tie.Need-returns
-returns c = rw (c .before .before .lay .ensures) (behind-placed (c .before .before .before .before .before .before .args .out .now) (c .before .before .before .before .before .before .args .src .now) (c .before .before .before .before .before .before .args .at) (c .before .before .before .before .before .before .pre))
+returns c =
+    let before6 = c .before .before .before .before .before .before in
+    rw (c .before .before .lay .ensures)
+    (behind-placed (before6 .args .out .now) (before6 .args .src .now) (before6 .args .at) (before6 .pre))
 
 pub push-spec : {M : Type 1} → statement M
 push-spec = tie.close (tie.spec lay-requires add-result same-length returns)

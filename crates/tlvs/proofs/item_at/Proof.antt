@@ -29,11 +29,13 @@ add-if2 : tie.Need-add-if2
 add-if2 c = search needs
 
 returns-2 : tie.Need-returns-2
-returns-2 c = let a = c .before .before .before .before .before .before .before .args in (
-  at-torn (a .s .now) (a .at) (a .end) (a .short) (c .before .before .before .before .read16 .ensures .0) (c .before .before .before .read162 .ensures .0) (c .before .before .padded .ensures .0) (c .before .needed .ensures .0)
-      (c .before .before .before .before .before .if1 .left) (c .if2 .taken),
-  tt,
-)
+returns-2 c =
+    let a = c .before .before .before .before .before .before .before .args in (
+      at-torn (a .s .now) (a .at) (a .end) (a .short) (c .before .before .before .before .read16 .ensures .0)
+          (c .before .before .before .read162 .ensures .0) (c .before .before .padded .ensures .0)
+          (c .before .needed .ensures .0) (c .before .before .before .before .before .if1 .left) (c .if2 .taken),
+      tt,
+    )
 
 add-from : tie.Need-add-from
 add-from c = search needs
@@ -42,11 +44,13 @@ add-t11 : tie.Need-add-t11
 add-t11 c = search needs
 
 returns-3 : tie.Need-returns-3
-returns-3 c = let a = c .before .before .before .before .before .before .before .args in (
-  at-whole (a .s .now) (a .at) (a .end) (a .short) (c .before .before .before .before .read16 .ensures .0) (c .before .before .before .read162 .ensures .0) (c .before .before .padded .ensures .0) (c .before .needed .ensures .0)
-      (c .before .before .before .before .before .if1 .left) (c .if2 .left),
-  omega arith,
-)
+returns-3 c =
+    let a = c .before .before .before .before .before .before .before .args in (
+      at-whole (a .s .now) (a .at) (a .end) (a .short) (c .before .before .before .before .read16 .ensures .0)
+          (c .before .before .before .read162 .ensures .0) (c .before .before .padded .ensures .0)
+          (c .before .needed .ensures .0) (c .before .before .before .before .before .if1 .left) (c .if2 .left),
+      omega arith,
+    )
 
 pub item-at-spec : {M : Type 1} → statement M
 item-at-spec =

@@ -34,10 +34,18 @@ array-share-prefix-octets c = search needs
 
 slice-aggregate-check : tie.Need-slice-aggregate-check
 slice-aggregate-check c =
-    let l = length-octets (c .before .before .before .before .before .before .before .before .before .args .line .now) in
-    let n : length (octetsOf (c .before .before .before .before .before .before .before .before .before .args .line .now)) ≤ length (c .before .before .before .before .before .before .before .large-buffer .result) = omega (arith, c .before .before .before .before .before .before .before .large-buffer .ensures, c .before .before .before .before .before .before .if1 .left) in
-    let e : length (c .before .before .before .before .decode .last .1 .0) ≡ length (c .before .before .before .before .before .before .before .large-buffer .result) = ap length (c .before .before .before .before .decode .ensures .1) ∙ length-over (octetsOf (c .before .before .before .before .before .before .before .before .before .args .line .now)) (c .before .before .before .before .before .before .before .large-buffer .result) n in
-    sym (length-take-le (c .before .before .before .before .decode .result) (c .before .before .before .before .decode .last .1 .0) (omega (arith, c .before .before .before .before .decode .ensures .0)))
+    let before4 = c .before .before .before .before in
+    let before7 = before4 .before .before .before in
+    let line = before7 .before .before .args .line .now in
+    let l = length-octets line in
+    let n : length (octetsOf line) ≤ length (before7 .large-buffer .result) = omega
+    (arith, before7 .large-buffer .ensures, before4 .before .before .if1 .left) in
+    let e : length (before4 .decode .last .1 .0) ≡ length (before7 .large-buffer .result) = ap length
+    (before4 .decode .ensures .1)
+    ∙ length-over (octetsOf line) (before7 .large-buffer .result) n in
+    sym
+    (length-take-le (before4 .decode .result) (before4 .decode .last .1 .0)
+    (omega (arith, before4 .decode .ensures .0)))
 
 check-requires : tie.Need-check-requires
 check-requires c κs = search needs

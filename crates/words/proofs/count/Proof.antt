@@ -31,7 +31,27 @@ loop-less : tie.Need-loop-less Inv-loop μ-loop
 loop-less c = omega arith
 
 loop-again : tie.Need-loop-again Inv-loop μ-loop
-loop-again c = ⊎-elim (λ w. (omega arith, omega arith, omega (arith, words-hit (c .before .before .before .before .args .mark) (c .before .before .before .before .args .line .now) (c .before .before .before .loop .i) (c .before .before .loop-test .taken) (w .0 .taken)))) (λ w. (omega arith, omega arith, omega (arith, words-miss (c .before .before .before .before .args .mark) (c .before .before .before .before .args .line .now) (c .before .before .before .loop .i) (c .before .before .loop-test .taken) (w .0 .left)))) (c .if1 .came)
+loop-again c =
+    let args = c .before .before .before .before .args in
+    ⊎-elim
+    (λ w. (
+      omega arith,
+      omega arith,
+      omega (
+        arith,
+        words-hit (args .mark) (args .line .now) (c .before .before .before .loop .i)
+            (c .before .before .loop-test .taken) (w .0 .taken),
+      ),
+    ))
+    (λ w. (
+      omega arith,
+      omega arith,
+      omega (
+        arith,
+        words-miss (args .mark) (args .line .now) (c .before .before .before .loop .i)
+            (c .before .before .loop-test .taken) (w .0 .left),
+      ),
+    )) (c .if1 .came)
 
 returns : tie.Need-returns Inv-loop μ-loop
 returns c = omega (arith, words-end (c .before .before .args .mark) (c .before .before .args .line .now) (c .before .loop .i) (c .loop-test .left))

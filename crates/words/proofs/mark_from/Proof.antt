@@ -21,7 +21,15 @@ shared-slice-read-if1 : tie.Need-shared-slice-read-if1 Inv-loop μ-loop
 shared-slice-read-if1 c = search needs
 
 returns : tie.Need-returns Inv-loop μ-loop
-returns c = (sym (c .before .before .before .loop .inv .2 ∙ rw (until-hit _ (c .before .before .before .before .args .line .now) (c .before .before .before .loop .i) (c .before .before .loop-test .taken) (c .if1 .taken)) (omega arith)), search needs, search needs)
+returns c = (
+  sym
+      (c .before .before .before .loop .inv .2
+      ∙ rw
+      (until-hit _ (c .before .before .before .before .args .line .now) (c .before .before .before .loop .i)
+      (c .before .before .loop-test .taken) (c .if1 .taken)) (omega arith)),
+  search needs,
+  search needs,
+)
 
 add-i : tie.Need-add-i Inv-loop μ-loop
 add-i c = search needs
@@ -30,10 +38,25 @@ loop-less : tie.Need-loop-less Inv-loop μ-loop
 loop-less c = search needs
 
 loop-again : tie.Need-loop-again Inv-loop μ-loop
-loop-again c = (search needs, search needs, c .before .before .before .loop .inv .2 ∙ rw (until-miss _ (c .before .before .before .before .args .line .now) (c .before .before .before .loop .i) (c .before .before .loop-test .taken) (c .if1 .left)) (omega arith))
+loop-again c = (
+  search needs,
+  search needs,
+  c .before .before .before .loop .inv .2
+      ∙ rw
+      (until-miss _ (c .before .before .before .before .args .line .now) (c .before .before .before .loop .i)
+      (c .before .before .loop-test .taken) (c .if1 .left)) (omega arith),
+)
 
 returns-2 : tie.Need-returns-2 Inv-loop μ-loop
-returns-2 c = (sym (c .before .loop .inv .2 ∙ rw (until-end (c .before .before .args .mark) (c .before .before .args .line .now) (c .before .loop .i) (c .loop-test .left)) (omega arith)), search needs, search needs)
+returns-2 c = (
+  sym
+      (c .before .loop .inv .2
+      ∙ rw
+      (until-end (c .before .before .args .mark) (c .before .before .args .line .now) (c .before .loop .i)
+      (c .loop-test .left)) (omega arith)),
+  search needs,
+  search needs,
+)
 
 pub mark-from-spec : {M : Type 1} → statement M
 mark-from-spec =

@@ -27,7 +27,12 @@ shared-slice-read-if2-2 : tie.Need-shared-slice-read-if2-2 Inv-loop μ-loop
 shared-slice-read-if2-2 c = search needs
 
 returns-2 : tie.Need-returns-2 Inv-loop μ-loop
-returns-2 c = sym (same-miss (c .before .before .before .before .before .before .args .word .now) (c .before .before .before .before .before .before .args .name .now) (c .before .before .before .before .loop .i) (omega arith) (omega arith) (c .if2 .taken)) ∙ c .before .before .before .before .loop .inv .2
+returns-2 c =
+    let before4 = c .before .before .before .before in
+    sym
+    (same-miss (before4 .before .before .args .word .now) (before4 .before .before .args .name .now) (before4 .loop .i)
+    (omega arith) (omega arith) (c .if2 .taken))
+    ∙ before4 .loop .inv .2
 
 add-i : tie.Need-add-i Inv-loop μ-loop
 add-i c = search needs
@@ -36,7 +41,15 @@ loop-less : tie.Need-loop-less Inv-loop μ-loop
 loop-less c = search needs
 
 loop-again : tie.Need-loop-again Inv-loop μ-loop
-loop-again c = (omega arith, search needs, sym (same-hit (c .before .before .before .before .before .before .args .word .now) (c .before .before .before .before .before .before .args .name .now) (c .before .before .before .before .loop .i) (omega arith) (omega arith) (c .if2 .left)) ∙ c .before .before .before .before .loop .inv .2)
+loop-again c =
+    let before4 = c .before .before .before .before in (
+      omega arith,
+      search needs,
+      sym
+          (same-hit (before4 .before .before .args .word .now) (before4 .before .before .args .name .now)
+          (before4 .loop .i) (omega arith) (omega arith) (c .if2 .left))
+          ∙ before4 .loop .inv .2,
+    )
 
 returns-3 : tie.Need-returns-3 Inv-loop μ-loop
 returns-3 c = sym (same-end (c .before .before .before .args .word .now) (c .before .before .before .args .name .now) (c .before .loop .i) (omega arith) (omega arith)) ∙ c .before .loop .inv .2

@@ -33,8 +33,17 @@ part-result-end c = search needs
 
 returns : tie.Need-returns Inv-loop μ-loop
 returns c =
-    let n : length (c .before .before .before .before .before .before .args .line .now) ≤ c .before .before .mark-from .result = omega arith in
-    (rw (drop-of-length-le (c .before .before .before .before .before .before .args .line .now) n) (simp take-nil (sym (word-past (c .before .before .before .before .before .before .args .mark) (c .before .before .before .before .before .before .args .line .now) (c .before .before .before .before .loop .from) (c .before .before .before .before .loop .k) _ (c .before .before .mark-from .ensures .0) (c .before .before .before .loop-test .taken) (omega arith)) ∙ c .before .before .before .before .loop .inv .1)), simp (length-take, length-drop) (omega arith))
+    let before4 = c .before .before .before .before in
+    let args = before4 .before .before .args in
+    let n : length (args .line .now) ≤ c .before .before .mark-from .result = omega arith in (
+      rw (drop-of-length-le (args .line .now) n)
+          (simp take-nil
+          (sym
+          (word-past (args .mark) (args .line .now) (before4 .loop .from) (before4 .loop .k) _
+          (c .before .before .mark-from .ensures .0) (c .before .before .before .loop-test .taken) (omega arith))
+          ∙ before4 .loop .inv .1)),
+      simp (length-take, length-drop) (omega arith),
+    )
 
 add-from : tie.Need-add-from Inv-loop μ-loop
 add-from c = search needs
@@ -46,7 +55,14 @@ loop-less : tie.Need-loop-less Inv-loop μ-loop
 loop-less c = search needs
 
 loop-again : tie.Need-loop-again Inv-loop μ-loop
-loop-again c = (omega arith, sym (word-next (c .before .before .before .before .before .args .mark) (c .before .before .before .before .before .args .line .now) (c .before .before .before .loop .from) (c .before .before .before .loop .k) _ (c .before .mark-from .ensures .0) (c .before .before .loop-test .taken)) ∙ c .before .before .before .loop .inv .1)
+loop-again c = (
+  omega arith,
+  sym
+      (word-next (c .before .before .before .before .before .args .mark)
+      (c .before .before .before .before .before .args .line .now) (c .before .before .before .loop .from)
+      (c .before .before .before .loop .k) _ (c .before .mark-from .ensures .0) (c .before .before .loop-test .taken))
+      ∙ c .before .before .before .loop .inv .1,
+)
 
 mark-from-requires-2 : tie.Need-mark-from-requires-2 Inv-loop μ-loop
 mark-from-requires-2 c κs = search needs
@@ -61,7 +77,13 @@ part-result-end-2 : tie.Need-part-result-end-2 Inv-loop μ-loop
 part-result-end-2 c = search needs
 
 returns-2 : tie.Need-returns-2 Inv-loop μ-loop
-returns-2 c = (word-last (c .before .before .before .before .before .args .mark) (c .before .before .before .before .before .args .line .now) (c .before .before .before .loop .from) (c .before .before .before .loop .k) _ (c .before .mark-from2 .ensures .0) (c .before .before .loop-test .left) ∙ c .before .before .before .loop .inv .1, simp (length-take, length-drop) (omega arith))
+returns-2 c = (
+  word-last (c .before .before .before .before .before .args .mark)
+      (c .before .before .before .before .before .args .line .now) (c .before .before .before .loop .from)
+      (c .before .before .before .loop .k) _ (c .before .mark-from2 .ensures .0) (c .before .before .loop-test .left)
+      ∙ c .before .before .before .loop .inv .1,
+  simp (length-take, length-drop) (omega arith),
+)
 
 pub word-spec : {M : Type 1} → statement M
 word-spec =

@@ -12,13 +12,26 @@ refused-requires : tie.Need-refused-requires
 refused-requires c κs = search needs
 
 returns : tie.Need-returns
-returns c = compact-not-board (boardOf (c .before .before .before .before .before .before .before .args .keys .now) (c .before .before .before .before .before .before .before .args .versions .now) (c .before .before .before .before .before .before .before .args .lengths .now) (c .before .before .before .before .before .before .before .args .version) (c .before .before .before .before .before .before .before .args .floor .now)) (c .before .before .before .before .before .before .before .args .store .now) (c .before .before .before .before .before .before .before .args .c) _ _ (c .before .before .is-board .ensures) (c .before .if1 .taken) (c .refused .ensures)
+returns c =
+    let args = c .before .before .before .before .before .before .before .args in
+    compact-not-board
+    (boardOf (args .keys .now) (args .versions .now) (args .lengths .now) (args .version) (args .floor .now))
+    (args .store .now) (args .c) _ _ (c .before .before .is-board .ensures) (c .before .if1 .taken)
+    (c .refused .ensures)
 
 compact-rules-requires : tie.Need-compact-rules-requires
 compact-rules-requires c κs = search needs
 
 returns-2 : tie.Need-returns-2
-returns-2 c = compact-refused (boardOf (c .before .before .before .before .before .before .before .before .before .args .keys .now) (c .before .before .before .before .before .before .before .before .before .args .versions .now) (c .before .before .before .before .before .before .before .before .before .args .lengths .now) (c .before .before .before .before .before .before .before .before .before .args .version) (c .before .before .before .before .before .before .before .before .before .args .floor .now)) (c .before .before .before .before .before .before .before .before .before .args .store .now) (c .before .before .before .before .before .before .before .before .before .args .c) _ (compact-verdict (boardOf (c .before .before .before .before .before .before .before .before .before .args .keys .now) (c .before .before .before .before .before .before .before .before .before .args .versions .now) (c .before .before .before .before .before .before .before .before .before .args .lengths .now) (c .before .before .before .before .before .before .before .before .before .args .version) (c .before .before .before .before .before .before .before .before .before .args .floor .now)) (c .before .before .before .before .before .before .before .before .before .args .store .now) (c .before .before .before .before .before .before .before .before .before .args .c) _ _ (c .before .before .before .before .is-board .ensures) (c .before .before .before .if1 .left) (c .before .before .compact-rules .ensures)) (c .if2 .taken)
+returns-2 c =
+    let args = c .before .before .before .before .before .before .before .before .before .args in
+    compact-refused
+    (boardOf (args .keys .now) (args .versions .now) (args .lengths .now) (args .version) (args .floor .now))
+    (args .store .now) (args .c) _
+    (compact-verdict
+    (boardOf (args .keys .now) (args .versions .now) (args .lengths .now) (args .version) (args .floor .now))
+    (args .store .now) (args .c) _ _ (c .before .before .before .before .is-board .ensures)
+    (c .before .before .before .if1 .left) (c .before .before .compact-rules .ensures)) (c .if2 .taken)
 
 sweep-requires : tie.Need-sweep-requires
 sweep-requires c κs = search needs
@@ -27,7 +40,18 @@ larger-requires : tie.Need-larger-requires
 larger-requires c κs = search needs
 
 returns-3 : tie.Need-returns-3
-returns-3 c = compact-accepted (boardOf (c .before .before .before .before .before .before .before .before .before .before .before .before .before .args .keys .now) (c .before .before .before .before .before .before .before .before .before .before .before .before .before .args .versions .now) (c .before .before .before .before .before .before .before .before .before .before .before .before .before .args .lengths .now) (c .before .before .before .before .before .before .before .before .before .before .before .before .before .args .version) (c .before .before .before .before .before .before .before .before .before .before .before .before .before .args .floor .now)) (c .before .before .before .before .before .before .before .before .before .before .before .before .before .args .store .now) (c .before .before .before .before .before .before .before .before .before .before .before .before .before .args .c) _ _ (compact-verdict (boardOf (c .before .before .before .before .before .before .before .before .before .before .before .before .before .args .keys .now) (c .before .before .before .before .before .before .before .before .before .before .before .before .before .args .versions .now) (c .before .before .before .before .before .before .before .before .before .before .before .before .before .args .lengths .now) (c .before .before .before .before .before .before .before .before .before .before .before .before .before .args .version) (c .before .before .before .before .before .before .before .before .before .before .before .before .before .args .floor .now)) (c .before .before .before .before .before .before .before .before .before .before .before .before .before .args .store .now) (c .before .before .before .before .before .before .before .before .before .before .before .before .before .args .c) _ _ (c .before .before .before .before .before .before .before .before .is-board .ensures) (c .before .before .before .before .before .before .before .if1 .left) (c .before .before .before .before .before .before .compact-rules .ensures)) (c .before .before .before .before .if2 .left) (compacted-is (c .before .before .before .before .before .before .before .before .before .before .before .before .before .args .keys .now) (c .before .before .before .before .before .before .before .before .before .before .before .before .before .args .versions .now) (c .before .before .before .before .before .before .before .before .before .before .before .before .before .args .lengths .now) (c .before .before .before .before .before .before .before .before .before .before .before .before .before .args .version) (c .before .before .before .before .before .before .before .before .before .before .before .before .before .args .floor .now) (c .before .before .before .before .before .before .before .before .before .before .before .before .before .args .c) _ _ _ (c .before .sweep .ensures .0) (c .before .sweep .ensures .1) (c .larger .ensures))
+returns-3 c =
+    let before6 = c .before .before .before .before .before .before in
+    let args = before6 .before .before .before .before .before .before .before .args in
+    compact-accepted
+    (boardOf (args .keys .now) (args .versions .now) (args .lengths .now) (args .version) (args .floor .now))
+    (args .store .now) (args .c) _ _
+    (compact-verdict
+    (boardOf (args .keys .now) (args .versions .now) (args .lengths .now) (args .version) (args .floor .now))
+    (args .store .now) (args .c) _ _ (before6 .before .before .is-board .ensures) (before6 .before .if1 .left)
+    (before6 .compact-rules .ensures)) (c .before .before .before .before .if2 .left)
+    (compacted-is (args .keys .now) (args .versions .now) (args .lengths .now) (args .version) (args .floor .now)
+    (args .c) _ _ _ (c .before .sweep .ensures .0) (c .before .sweep .ensures .1) (c .larger .ensures))
 
 pub compact-spec : {M : Type 1} → statement M
 compact-spec =

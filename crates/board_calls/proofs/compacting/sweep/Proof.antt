@@ -12,7 +12,12 @@ abbrev μ-loop : tie.MeasureT-loop
 μ-loop keys₀ versions₀ lengths c i₀ keys versions i = 128 - i
 
 loop-holds : tie.Need-loop-holds Inv-loop μ-loop
-loop-holds c = (omega arith, sweep-none (c .before .before .args .keys .now) (c .before .before .args .versions .now) (c .before .before .args .lengths .now) (c .before .before .args .c) (c .before .before .pre .0) (c .before .before .pre .1))
+loop-holds c = (
+  omega arith,
+  sweep-none (c .before .before .args .keys .now) (c .before .before .args .versions .now)
+      (c .before .before .args .lengths .now) (c .before .before .args .c) (c .before .before .pre .0)
+      (c .before .before .pre .1),
+)
 
 mul-is-dropped : tie.Need-mul-is-dropped Inv-loop μ-loop
 mul-is-dropped c = omega arith
@@ -42,7 +47,15 @@ loop-less : tie.Need-loop-less Inv-loop μ-loop
 loop-less c = omega arith
 
 loop-again : tie.Need-loop-again Inv-loop μ-loop
-loop-again c = (omega arith, sweep-skip (c .before .before .before .before .before .before .before .before .before .args .keys .now) (c .before .before .before .before .before .before .before .before .before .args .versions .now) (c .before .before .before .before .before .before .before .before .before .args .lengths .now) (c .before .before .before .before .before .before .before .before .before .args .c) (c .before .before .before .before .before .before .before .before .before .pre .0) (c .before .before .before .before .before .before .before .before .before .pre .1) _ _ _ _ (c .before .before .before .before .before .before .loop .inv .1) (c .before .before .before .before .before .loop-test .taken) (c .before .is-dropped .ensures) (c .if1 .taken))
+loop-again c =
+    let before9 = c .before .before .before .before .before .before .before .before .before in (
+      omega arith,
+      sweep-skip (before9 .args .keys .now) (before9 .args .versions .now) (before9 .args .lengths .now)
+          (before9 .args .c) (before9 .pre .0) (before9 .pre .1) _ _ _ _
+          (c .before .before .before .before .before .before .loop .inv .1)
+          (c .before .before .before .before .before .loop-test .taken) (c .before .is-dropped .ensures)
+          (c .if1 .taken),
+    )
 
 mul-keys : tie.Need-mul-keys Inv-loop μ-loop
 mul-keys c = omega arith
@@ -63,7 +76,14 @@ loop-less-2 : tie.Need-loop-less-2 Inv-loop μ-loop
 loop-less-2 c = omega arith
 
 loop-again-2 : tie.Need-loop-again-2 Inv-loop μ-loop
-loop-again-2 c = (omega arith, sweep-take (c .before .before .before .before .before .before .before .before .before .args .keys .now) (c .before .before .before .before .before .before .before .before .before .args .versions .now) (c .before .before .before .before .before .before .before .before .before .args .lengths .now) (c .before .before .before .before .before .before .before .before .before .args .c) (c .before .before .before .before .before .before .before .before .before .pre .0) (c .before .before .before .before .before .before .before .before .before .pre .1) _ _ _ _ (c .before .before .before .before .before .before .loop .inv .1) (c .before .before .before .before .before .loop-test .taken) (c .before .is-dropped .ensures) (c .if1 .left))
+loop-again-2 c =
+    let before9 = c .before .before .before .before .before .before .before .before .before in (
+      omega arith,
+      sweep-take (before9 .args .keys .now) (before9 .args .versions .now) (before9 .args .lengths .now)
+          (before9 .args .c) (before9 .pre .0) (before9 .pre .1) _ _ _ _
+          (c .before .before .before .before .before .before .loop .inv .1)
+          (c .before .before .before .before .before .loop-test .taken) (c .before .is-dropped .ensures) (c .if1 .left),
+    )
 
 same-length : tie.Need-same-length Inv-loop μ-loop
 same-length c = omega arith
@@ -72,7 +92,15 @@ same-length-2 : tie.Need-same-length-2 Inv-loop μ-loop
 same-length-2 c = omega arith
 
 returns : tie.Need-returns Inv-loop μ-loop
-returns c = (sweep-keys (c .before .before .before .before .args .keys .now) (c .before .before .before .before .args .versions .now) (c .before .before .before .before .args .lengths .now) (c .before .before .before .before .args .c) (c .before .before .before .before .pre .0) (c .before .before .before .before .pre .1) _ _ _ (c .before .loop .inv .1) (c .before .loop .inv .0) (c .loop-test .left), sweep-versions (c .before .before .before .before .args .keys .now) (c .before .before .before .before .args .versions .now) (c .before .before .before .before .args .lengths .now) (c .before .before .before .before .args .c) (c .before .before .before .before .pre .0) (c .before .before .before .before .pre .1) _ _ _ (c .before .loop .inv .1) (c .before .loop .inv .0) (c .loop-test .left))
+returns c =
+    let before4 = c .before .before .before .before in (
+      sweep-keys (before4 .args .keys .now) (before4 .args .versions .now) (before4 .args .lengths .now)
+          (before4 .args .c) (before4 .pre .0) (before4 .pre .1) _ _ _ (c .before .loop .inv .1)
+          (c .before .loop .inv .0) (c .loop-test .left),
+      sweep-versions (before4 .args .keys .now) (before4 .args .versions .now) (before4 .args .lengths .now)
+          (before4 .args .c) (before4 .pre .0) (before4 .pre .1) _ _ _ (c .before .loop .inv .1)
+          (c .before .loop .inv .0) (c .loop-test .left),
+    )
 
 pub sweep-spec : {M : Type 1} → statement M
 sweep-spec =

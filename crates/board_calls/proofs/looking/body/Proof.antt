@@ -18,19 +18,33 @@ part-result-end : tie.Need-part-result-end
 part-result-end c = search needs
 
 returns : tie.Need-returns
-returns c = body-none (boardOf (c .before .before .before .before .before .args .keys .now) (c .before .before .before .before .before .args .versions .now) (c .before .before .before .before .before .args .lengths .now) (c .before .before .before .before .before .args .version) (c .before .before .before .before .before .args .floor)) (c .before .before .before .before .before .args .store .now) (c .before .before .before .before .before .args .key) _ (c .before .before .before .body-number .ensures) (c .before .if1 .taken)
+returns c =
+    let args = c .before .before .before .before .before .args in
+    body-none (boardOf (args .keys .now) (args .versions .now) (args .lengths .now) (args .version) (args .floor))
+    (args .store .now) (args .key) _ (c .before .before .before .body-number .ensures) (c .before .if1 .taken)
 
 place-of-requires : tie.Need-place-of-requires
 place-of-requires c κs = search needs
 
 start-of-requires : tie.Need-start-of-requires
-start-of-requires c κs = let h = body-here (boardOf (c .before .before .before .before .before .args .keys .now) (c .before .before .before .before .before .args .versions .now) (c .before .before .before .before .before .args .lengths .now) (c .before .before .before .before .before .args .version) (c .before .before .before .before .before .args .floor)) (c .before .before .before .before .before .args .store .now) (c .before .before .before .before .before .args .key) _ (c .before .before .before .body-number .ensures) (c .before .if1 .left) in omega (arith, c .place-of .ensures)
+start-of-requires c κs =
+    let args = c .before .before .before .before .before .args in
+    let h = body-here
+    (boardOf (args .keys .now) (args .versions .now) (args .lengths .now) (args .version) (args .floor))
+    (args .store .now) (args .key) _ (c .before .before .before .body-number .ensures) (c .before .if1 .left) in
+    omega (arith, c .place-of .ensures)
 
 length-at-requires : tie.Need-length-at-requires
 length-at-requires c κs = search needs
 
 add-to : tie.Need-add-to
-add-to c = let h = body-room (boardOf (c .before .before .before .before .before .before .before .args .keys .now) (c .before .before .before .before .before .before .before .args .versions .now) (c .before .before .before .before .before .before .before .args .lengths .now) (c .before .before .before .before .before .before .before .args .version) (c .before .before .before .before .before .before .before .args .floor)) (c .before .before .before .before .before .before .before .args .store .now) (c .before .before .before .before .before .before .before .args .key) _ _ _ (c .before .before .before .before .before .body-number .ensures) (c .before .before .before .if1 .left) (c .before .before .place-of .ensures) (c .length-at .ensures) in omega (arith, c .before .start-of .ensures)
+add-to c =
+    let args = c .before .before .before .before .before .before .before .args in
+    let h = body-room
+    (boardOf (args .keys .now) (args .versions .now) (args .lengths .now) (args .version) (args .floor))
+    (args .store .now) (args .key) _ _ _ (c .before .before .before .before .before .body-number .ensures)
+    (c .before .before .before .if1 .left) (c .before .before .place-of .ensures) (c .length-at .ensures) in
+    omega (arith, c .before .start-of .ensures)
 
 sub-result-2 : tie.Need-sub-result-2
 sub-result-2 c = search needs
@@ -39,10 +53,21 @@ part-result-start-2 : tie.Need-part-result-start-2
 part-result-start-2 c = search needs
 
 part-result-end-2 : tie.Need-part-result-end-2
-part-result-end-2 c = let h = body-room (boardOf (c .before .before .before .before .before .before .before .args .keys .now) (c .before .before .before .before .before .before .before .args .versions .now) (c .before .before .before .before .before .before .before .args .lengths .now) (c .before .before .before .before .before .before .before .args .version) (c .before .before .before .before .before .before .before .args .floor)) (c .before .before .before .before .before .before .before .args .store .now) (c .before .before .before .before .before .before .before .args .key) _ _ _ (c .before .before .before .before .before .body-number .ensures) (c .before .before .before .if1 .left) (c .before .before .place-of .ensures) (c .length-at .ensures) in omega (arith, c .before .start-of .ensures)
+part-result-end-2 c =
+    let args = c .before .before .before .before .before .before .before .args in
+    let h = body-room
+    (boardOf (args .keys .now) (args .versions .now) (args .lengths .now) (args .version) (args .floor))
+    (args .store .now) (args .key) _ _ _ (c .before .before .before .before .before .body-number .ensures)
+    (c .before .before .before .if1 .left) (c .before .before .place-of .ensures) (c .length-at .ensures) in
+    omega (arith, c .before .start-of .ensures)
 
 returns-2 : tie.Need-returns-2
-returns-2 c = body-is (boardOf (c .before .before .before .before .before .before .before .before .args .keys .now) (c .before .before .before .before .before .before .before .before .args .versions .now) (c .before .before .before .before .before .before .before .before .args .lengths .now) (c .before .before .before .before .before .before .before .before .args .version) (c .before .before .before .before .before .before .before .before .args .floor)) (c .before .before .before .before .before .before .before .before .args .store .now) (c .before .before .before .before .before .before .before .before .args .key) _ _ _ _ (c .before .before .before .before .before .before .body-number .ensures) (c .before .before .before .before .if1 .left) (c .before .before .before .place-of .ensures) (c .before .length-at .ensures) (c .before .before .start-of .ensures)
+returns-2 c =
+    let args = c .before .before .before .before .before .before .before .before .args in
+    body-is (boardOf (args .keys .now) (args .versions .now) (args .lengths .now) (args .version) (args .floor))
+    (args .store .now) (args .key) _ _ _ _ (c .before .before .before .before .before .before .body-number .ensures)
+    (c .before .before .before .before .if1 .left) (c .before .before .before .place-of .ensures)
+    (c .before .length-at .ensures) (c .before .before .start-of .ensures)
 
 pub body-spec : {M : Type 1} → statement M
 body-spec =

@@ -11,7 +11,12 @@ refused-requires : tie.Need-refused-requires
 refused-requires c κs = search needs
 
 returns : tie.Need-returns
-returns c = number-not-board (boardOf (c .before .before .before .before .args .keys .now) (c .before .before .before .before .args .versions .now) (c .before .before .before .before .args .lengths .now) (c .before .before .before .before .args .version) (c .before .before .before .before .args .floor)) (c .before .before .before .before .args .store .now) (c .before .before .before .before .args .key) _ _ (c .before .before .is-board .ensures) (c .before .if1 .taken) (c .refused .ensures)
+returns c =
+    let args = c .before .before .before .before .args in
+    number-not-board
+    (boardOf (args .keys .now) (args .versions .now) (args .lengths .now) (args .version) (args .floor))
+    (args .store .now) (args .key) _ _ (c .before .before .is-board .ensures) (c .before .if1 .taken)
+    (c .refused .ensures)
 
 place-of-requires : tie.Need-place-of-requires
 place-of-requires c κs = search needs
@@ -23,7 +28,12 @@ body-rules-requires : tie.Need-body-rules-requires
 body-rules-requires c κs = search needs
 
 returns-2 : tie.Need-returns-2
-returns-2 c = number-is (boardOf (c .before .before .before .before .before .before .args .keys .now) (c .before .before .before .before .before .before .args .versions .now) (c .before .before .before .before .before .before .args .lengths .now) (c .before .before .before .before .before .before .args .version) (c .before .before .before .before .before .before .args .floor)) (c .before .before .before .before .before .before .args .store .now) (c .before .before .before .before .before .before .args .key) _ _ _ _ (c .before .before .before .before .is-board .ensures) (c .before .before .before .if1 .left) (c .before .before .place-of .ensures) (c .before .length-at .ensures) (c .body-rules .ensures)
+returns-2 c =
+    let args = c .before .before .before .before .before .before .args in
+    number-is (boardOf (args .keys .now) (args .versions .now) (args .lengths .now) (args .version) (args .floor))
+    (args .store .now) (args .key) _ _ _ _ (c .before .before .before .before .is-board .ensures)
+    (c .before .before .before .if1 .left) (c .before .before .place-of .ensures) (c .before .length-at .ensures)
+    (c .body-rules .ensures)
 
 pub body-number-spec : {M : Type 1} → statement M
 body-number-spec =

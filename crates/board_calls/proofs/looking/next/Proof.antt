@@ -13,19 +13,40 @@ refused-requires : tie.Need-refused-requires
 refused-requires c κs = search needs
 
 returns : tie.Need-returns
-returns c = next-not-board (boardOf (c .before .before .before .before .args .keys .now) (c .before .before .before .before .args .versions .now) (c .before .before .before .before .args .lengths .now) (c .before .before .before .before .args .version) (c .before .before .before .before .args .floor)) (c .before .before .before .before .args .store .now) (c .before .before .before .before .args .s) (c .before .before .before .before .args .w) _ _ (c .before .before .is-board .ensures) (c .before .if1 .taken) (c .refused .ensures)
+returns c =
+    let args = c .before .before .before .before .args in
+    next-not-board (boardOf (args .keys .now) (args .versions .now) (args .lengths .now) (args .version) (args .floor))
+    (args .store .now) (args .s) (args .w) _ _ (c .before .before .is-board .ensures) (c .before .if1 .taken)
+    (c .refused .ensures)
 
 next-rules-requires : tie.Need-next-rules-requires
 next-rules-requires c κs = search needs
 
 returns-2 : tie.Need-returns-2
-returns-2 c = next-refused (boardOf (c .before .before .before .before .before .before .args .keys .now) (c .before .before .before .before .before .before .args .versions .now) (c .before .before .before .before .before .before .args .lengths .now) (c .before .before .before .before .before .before .args .version) (c .before .before .before .before .before .before .args .floor)) (c .before .before .before .before .before .before .args .store .now) (c .before .before .before .before .before .before .args .s) (c .before .before .before .before .before .before .args .w) _ (next-verdict (boardOf (c .before .before .before .before .before .before .args .keys .now) (c .before .before .before .before .before .before .args .versions .now) (c .before .before .before .before .before .before .args .lengths .now) (c .before .before .before .before .before .before .args .version) (c .before .before .before .before .before .before .args .floor)) (c .before .before .before .before .before .before .args .store .now) (c .before .before .before .before .before .before .args .s) (c .before .before .before .before .before .before .args .w) _ _ (c .before .before .before .before .is-board .ensures) (c .before .before .before .if1 .left) (c .before .before .next-rules .ensures)) (c .if2 .taken)
+returns-2 c =
+    let args = c .before .before .before .before .before .before .args in
+    next-refused (boardOf (args .keys .now) (args .versions .now) (args .lengths .now) (args .version) (args .floor))
+    (args .store .now) (args .s) (args .w) _
+    (next-verdict (boardOf (args .keys .now) (args .versions .now) (args .lengths .now) (args .version) (args .floor))
+    (args .store .now) (args .s) (args .w) _ _ (c .before .before .before .before .is-board .ensures)
+    (c .before .before .before .if1 .left) (c .before .before .next-rules .ensures)) (c .if2 .taken)
 
 next-place-requires : tie.Need-next-place-requires
-next-place-requires c κs = board-proper (boardOf (c .before .before .before .before .before .before .args .keys .now) (c .before .before .before .before .before .before .args .versions .now) (c .before .before .before .before .before .before .args .lengths .now) (c .before .before .before .before .before .before .args .version) (c .before .before .before .before .before .before .args .floor)) _ (board-is (boardOf (c .before .before .before .before .before .before .args .keys .now) (c .before .before .before .before .before .before .args .versions .now) (c .before .before .before .before .before .before .args .lengths .now) (c .before .before .before .before .before .before .args .version) (c .before .before .before .before .before .before .args .floor)) _ _ (c .before .before .before .before .is-board .ensures) (c .before .before .before .if1 .left))
+next-place-requires c κs =
+    let args = c .before .before .before .before .before .before .args in
+    board-proper (boardOf (args .keys .now) (args .versions .now) (args .lengths .now) (args .version) (args .floor)) _
+    (board-is (boardOf (args .keys .now) (args .versions .now) (args .lengths .now) (args .version) (args .floor)) _ _
+    (c .before .before .before .before .is-board .ensures) (c .before .before .before .if1 .left))
 
 returns-3 : tie.Need-returns-3
-returns-3 c = next-level (boardOf (c .before .before .before .before .before .before .before .before .args .keys .now) (c .before .before .before .before .before .before .before .before .args .versions .now) (c .before .before .before .before .before .before .before .before .args .lengths .now) (c .before .before .before .before .before .before .before .before .args .version) (c .before .before .before .before .before .before .before .before .args .floor)) (c .before .before .before .before .before .before .before .before .args .store .now) (c .before .before .before .before .before .before .before .before .args .s) (c .before .before .before .before .before .before .before .before .args .w) _ _ (next-verdict (boardOf (c .before .before .before .before .before .before .before .before .args .keys .now) (c .before .before .before .before .before .before .before .before .args .versions .now) (c .before .before .before .before .before .before .before .before .args .lengths .now) (c .before .before .before .before .before .before .before .before .args .version) (c .before .before .before .before .before .before .before .before .args .floor)) (c .before .before .before .before .before .before .before .before .args .store .now) (c .before .before .before .before .before .before .before .before .args .s) (c .before .before .before .before .before .before .before .before .args .w) _ _ (c .before .before .before .before .before .before .is-board .ensures) (c .before .before .before .before .before .if1 .left) (c .before .before .before .before .next-rules .ensures)) (c .before .before .if2 .left) (c .before .next-place .ensures) (c .if3 .taken)
+returns-3 c =
+    let before4 = c .before .before .before .before in
+    let args = before4 .before .before .before .before .args in
+    next-level (boardOf (args .keys .now) (args .versions .now) (args .lengths .now) (args .version) (args .floor))
+    (args .store .now) (args .s) (args .w) _ _
+    (next-verdict (boardOf (args .keys .now) (args .versions .now) (args .lengths .now) (args .version) (args .floor))
+    (args .store .now) (args .s) (args .w) _ _ (before4 .before .before .is-board .ensures) (before4 .before .if1 .left)
+    (before4 .next-rules .ensures)) (c .before .before .if2 .left) (c .before .next-place .ensures) (c .if3 .taken)
 
 mul-wide32 : tie.Need-mul-wide32
 mul-wide32 c = search needs
@@ -52,10 +73,30 @@ wide16-requires : tie.Need-wide16-requires
 wide16-requires c κs = search needs
 
 returns-4 : tie.Need-returns-4
-returns-4 c = next-removed (boardOf (c .before .before .before .before .before .before .before .before .before .before .before .before .before .before .args .keys .now) (c .before .before .before .before .before .before .before .before .before .before .before .before .before .before .args .versions .now) (c .before .before .before .before .before .before .before .before .before .before .before .before .before .before .args .lengths .now) (c .before .before .before .before .before .before .before .before .before .before .before .before .before .before .args .version) (c .before .before .before .before .before .before .before .before .before .before .before .before .before .before .args .floor)) (c .before .before .before .before .before .before .before .before .before .before .before .before .before .before .args .store .now) (c .before .before .before .before .before .before .before .before .before .before .before .before .before .before .args .s) (c .before .before .before .before .before .before .before .before .before .before .before .before .before .before .args .w) _ _ _ _ (next-verdict (boardOf (c .before .before .before .before .before .before .before .before .before .before .before .before .before .before .args .keys .now) (c .before .before .before .before .before .before .before .before .before .before .before .before .before .before .args .versions .now) (c .before .before .before .before .before .before .before .before .before .before .before .before .before .before .args .lengths .now) (c .before .before .before .before .before .before .before .before .before .before .before .before .before .before .args .version) (c .before .before .before .before .before .before .before .before .before .before .before .before .before .before .args .floor)) (c .before .before .before .before .before .before .before .before .before .before .before .before .before .before .args .store .now) (c .before .before .before .before .before .before .before .before .before .before .before .before .before .before .args .s) (c .before .before .before .before .before .before .before .before .before .before .before .before .before .before .args .w) _ _ (c .before .before .before .before .before .before .before .before .before .before .before .before .is-board .ensures) (c .before .before .before .before .before .before .before .before .before .before .before .if1 .left) (c .before .before .before .before .before .before .before .before .before .before .next-rules .ensures)) (c .before .before .before .before .before .before .before .before .if2 .left) (c .before .before .before .before .before .before .before .next-place .ensures) (c .before .before .before .before .before .before .if3 .left) (c .before .before .before .before .wide32 .ensures) (c .before .wide16 .ensures) (c .if4 .taken)
+returns-4 c =
+    let before6 = c .before .before .before .before .before .before in
+    let before10 = before6 .before .before .before .before in
+    let args = before10 .before .before .before .before .args in
+    next-removed (boardOf (args .keys .now) (args .versions .now) (args .lengths .now) (args .version) (args .floor))
+    (args .store .now) (args .s) (args .w) _ _ _ _
+    (next-verdict (boardOf (args .keys .now) (args .versions .now) (args .lengths .now) (args .version) (args .floor))
+    (args .store .now) (args .s) (args .w) _ _ (before10 .before .before .is-board .ensures)
+    (before10 .before .if1 .left) (before10 .next-rules .ensures)) (before6 .before .before .if2 .left)
+    (before6 .before .next-place .ensures) (before6 .if3 .left) (c .before .before .before .before .wide32 .ensures)
+    (c .before .wide16 .ensures) (c .if4 .taken)
 
 returns-5 : tie.Need-returns-5
-returns-5 c = next-path (boardOf (c .before .before .before .before .before .before .before .before .before .before .before .before .before .before .args .keys .now) (c .before .before .before .before .before .before .before .before .before .before .before .before .before .before .args .versions .now) (c .before .before .before .before .before .before .before .before .before .before .before .before .before .before .args .lengths .now) (c .before .before .before .before .before .before .before .before .before .before .before .before .before .before .args .version) (c .before .before .before .before .before .before .before .before .before .before .before .before .before .before .args .floor)) (c .before .before .before .before .before .before .before .before .before .before .before .before .before .before .args .store .now) (c .before .before .before .before .before .before .before .before .before .before .before .before .before .before .args .s) (c .before .before .before .before .before .before .before .before .before .before .before .before .before .before .args .w) _ _ _ _ (next-verdict (boardOf (c .before .before .before .before .before .before .before .before .before .before .before .before .before .before .args .keys .now) (c .before .before .before .before .before .before .before .before .before .before .before .before .before .before .args .versions .now) (c .before .before .before .before .before .before .before .before .before .before .before .before .before .before .args .lengths .now) (c .before .before .before .before .before .before .before .before .before .before .before .before .before .before .args .version) (c .before .before .before .before .before .before .before .before .before .before .before .before .before .before .args .floor)) (c .before .before .before .before .before .before .before .before .before .before .before .before .before .before .args .store .now) (c .before .before .before .before .before .before .before .before .before .before .before .before .before .before .args .s) (c .before .before .before .before .before .before .before .before .before .before .before .before .before .before .args .w) _ _ (c .before .before .before .before .before .before .before .before .before .before .before .before .is-board .ensures) (c .before .before .before .before .before .before .before .before .before .before .before .if1 .left) (c .before .before .before .before .before .before .before .before .before .before .next-rules .ensures)) (c .before .before .before .before .before .before .before .before .if2 .left) (c .before .before .before .before .before .before .before .next-place .ensures) (c .before .before .before .before .before .before .if3 .left) (c .before .before .before .before .wide32 .ensures) (c .before .wide16 .ensures) (c .if4 .left)
+returns-5 c =
+    let before6 = c .before .before .before .before .before .before in
+    let before10 = before6 .before .before .before .before in
+    let args = before10 .before .before .before .before .args in
+    next-path (boardOf (args .keys .now) (args .versions .now) (args .lengths .now) (args .version) (args .floor))
+    (args .store .now) (args .s) (args .w) _ _ _ _
+    (next-verdict (boardOf (args .keys .now) (args .versions .now) (args .lengths .now) (args .version) (args .floor))
+    (args .store .now) (args .s) (args .w) _ _ (before10 .before .before .is-board .ensures)
+    (before10 .before .if1 .left) (before10 .next-rules .ensures)) (before6 .before .before .if2 .left)
+    (before6 .before .next-place .ensures) (before6 .if3 .left) (c .before .before .before .before .wide32 .ensures)
+    (c .before .wide16 .ensures) (c .if4 .left)
 
 pub next-spec : {M : Type 1} → statement M
 next-spec =

@@ -12,7 +12,12 @@ refused-requires : tie.Need-refused-requires
 refused-requires c κs = search needs
 
 returns : tie.Need-returns
-returns c = remove-not-board (boardOf (c .before .before .before .before .before .before .before .args .keys .now) (c .before .before .before .before .before .before .before .args .versions .now) (c .before .before .before .before .before .before .before .args .lengths .now) (c .before .before .before .before .before .before .before .args .version .now) (c .before .before .before .before .before .before .before .args .floor)) (c .before .before .before .before .before .before .before .args .store .now) (c .before .before .before .before .before .before .before .args .key) _ _ (c .before .before .is-board .ensures) (c .before .if1 .taken) (c .refused .ensures)
+returns c =
+    let args = c .before .before .before .before .before .before .before .args in
+    remove-not-board
+    (boardOf (args .keys .now) (args .versions .now) (args .lengths .now) (args .version .now) (args .floor))
+    (args .store .now) (args .key) _ _ (c .before .before .is-board .ensures) (c .before .if1 .taken)
+    (c .refused .ensures)
 
 place-of-requires : tie.Need-place-of-requires
 place-of-requires c κs = search needs
@@ -24,25 +29,73 @@ remove-rules-requires : tie.Need-remove-rules-requires
 remove-rules-requires c κs = search needs
 
 returns-2 : tie.Need-returns-2
-returns-2 c = remove-refused (boardOf (c .before .before .before .before .before .before .before .before .before .before .before .before .args .keys .now) (c .before .before .before .before .before .before .before .before .before .before .before .before .args .versions .now) (c .before .before .before .before .before .before .before .before .before .before .before .before .args .lengths .now) (c .before .before .before .before .before .before .before .before .before .before .before .before .args .version .now) (c .before .before .before .before .before .before .before .before .before .before .before .before .args .floor)) (c .before .before .before .before .before .before .before .before .before .before .before .before .args .store .now) (c .before .before .before .before .before .before .before .before .before .before .before .before .args .key) _ (remove-verdict (boardOf (c .before .before .before .before .before .before .before .before .before .before .before .before .args .keys .now) (c .before .before .before .before .before .before .before .before .before .before .before .before .args .versions .now) (c .before .before .before .before .before .before .before .before .before .before .before .before .args .lengths .now) (c .before .before .before .before .before .before .before .before .before .before .before .before .args .version .now) (c .before .before .before .before .before .before .before .before .before .before .before .before .args .floor)) (c .before .before .before .before .before .before .before .before .before .before .before .before .args .store .now) (c .before .before .before .before .before .before .before .before .before .before .before .before .args .key) _ _ _ _ (c .before .before .before .before .before .before .before .is-board .ensures) (c .before .before .before .before .before .before .if1 .left) (c .before .before .before .before .before .place-of .ensures) (c .before .before .before .length-at .ensures) (c .before .before .remove-rules .ensures)) (c .if2 .taken)
+returns-2 c =
+    let before5 = c .before .before .before .before .before in
+    let args = before5 .before .before .before .before .before .before .before .args in
+    remove-refused
+    (boardOf (args .keys .now) (args .versions .now) (args .lengths .now) (args .version .now) (args .floor))
+    (args .store .now) (args .key) _
+    (remove-verdict
+    (boardOf (args .keys .now) (args .versions .now) (args .lengths .now) (args .version .now) (args .floor))
+    (args .store .now) (args .key) _ _ _ _ (before5 .before .before .is-board .ensures) (before5 .before .if1 .left)
+    (before5 .place-of .ensures) (c .before .before .before .length-at .ensures)
+    (c .before .before .remove-rules .ensures)) (c .if2 .taken)
 
 add-next : tie.Need-add-next
-add-next c = let h = version-room (boardOf (c .before .before .before .before .before .before .before .before .before .before .before .before .args .keys .now) (c .before .before .before .before .before .before .before .before .before .before .before .before .args .versions .now) (c .before .before .before .before .before .before .before .before .before .before .before .before .args .lengths .now) (c .before .before .before .before .before .before .before .before .before .before .before .before .args .version .now) (c .before .before .before .before .before .before .before .before .before .before .before .before .args .floor)) _ _ (c .before .before .before .before .before .before .before .is-board .ensures) (c .before .before .before .before .before .before .if1 .left) in omega arith
+add-next c =
+    let before6 = c .before .before .before .before .before .before in
+    let args = before6 .before .before .before .before .before .before .args in
+    let h = version-room
+    (boardOf (args .keys .now) (args .versions .now) (args .lengths .now) (args .version .now) (args .floor)) _ _
+    (before6 .before .is-board .ensures) (before6 .if1 .left) in
+    omega arith
 
 mul-versions : tie.Need-mul-versions
-mul-versions c = let h = remove-place (c .before .before .before .before .before .before .before .before .before .before .before .before .args .key) (c .before .before .before .before .before .place-of .result) (c .before .before .before .length-at .result) (c .before .before .before .before .before .before .before .before .before .before .before .before .args .version .now) _ (c .before .before .remove-rules .ensures) (c .if2 .left) in omega arith
+mul-versions c =
+    let args = c .before .before .before .before .before .before .before .before .before .before .before .before .args in
+    let h = remove-place (args .key) (c .before .before .before .before .before .place-of .result)
+    (c .before .before .before .length-at .result) (args .version .now) _ (c .before .before .remove-rules .ensures)
+    (c .if2 .left) in
+    omega arith
 
 element-write-versions : tie.Need-element-write-versions
-element-write-versions c = let h = remove-place (c .before .before .before .before .before .before .before .before .before .before .before .before .args .key) (c .before .before .before .before .before .place-of .result) (c .before .before .before .length-at .result) (c .before .before .before .before .before .before .before .before .before .before .before .before .args .version .now) _ (c .before .before .remove-rules .ensures) (c .if2 .left) in omega arith
+element-write-versions c =
+    let args = c .before .before .before .before .before .before .before .before .before .before .before .before .args in
+    let h = remove-place (args .key) (c .before .before .before .before .before .place-of .result)
+    (c .before .before .before .length-at .result) (args .version .now) _ (c .before .before .remove-rules .ensures)
+    (c .if2 .left) in
+    omega arith
 
 mul-lengths : tie.Need-mul-lengths
-mul-lengths c = let h = remove-place (c .before .before .before .before .before .before .before .before .before .before .before .before .args .key) (c .before .before .before .before .before .place-of .result) (c .before .before .before .length-at .result) (c .before .before .before .before .before .before .before .before .before .before .before .before .args .version .now) _ (c .before .before .remove-rules .ensures) (c .if2 .left) in omega arith
+mul-lengths c =
+    let args = c .before .before .before .before .before .before .before .before .before .before .before .before .args in
+    let h = remove-place (args .key) (c .before .before .before .before .before .place-of .result)
+    (c .before .before .before .length-at .result) (args .version .now) _ (c .before .before .remove-rules .ensures)
+    (c .if2 .left) in
+    omega arith
 
 element-write-lengths : tie.Need-element-write-lengths
-element-write-lengths c = let h = remove-place (c .before .before .before .before .before .before .before .before .before .before .before .before .args .key) (c .before .before .before .before .before .place-of .result) (c .before .before .before .length-at .result) (c .before .before .before .before .before .before .before .before .before .before .before .before .args .version .now) _ (c .before .before .remove-rules .ensures) (c .if2 .left) in omega arith
+element-write-lengths c =
+    let args = c .before .before .before .before .before .before .before .before .before .before .before .before .args in
+    let h = remove-place (args .key) (c .before .before .before .before .before .place-of .result)
+    (c .before .before .before .length-at .result) (args .version .now) _ (c .before .before .remove-rules .ensures)
+    (c .if2 .left) in
+    omega arith
 
 returns-3 : tie.Need-returns-3
-returns-3 c = remove-accepted (boardOf (c .before .before .before .before .before .before .before .before .before .before .before .before .args .keys .now) (c .before .before .before .before .before .before .before .before .before .before .before .before .args .versions .now) (c .before .before .before .before .before .before .before .before .before .before .before .before .args .lengths .now) (c .before .before .before .before .before .before .before .before .before .before .before .before .args .version .now) (c .before .before .before .before .before .before .before .before .before .before .before .before .args .floor)) (c .before .before .before .before .before .before .before .before .before .before .before .before .args .store .now) (c .before .before .before .before .before .before .before .before .before .before .before .before .args .key) _ _ (remove-verdict (boardOf (c .before .before .before .before .before .before .before .before .before .before .before .before .args .keys .now) (c .before .before .before .before .before .before .before .before .before .before .before .before .args .versions .now) (c .before .before .before .before .before .before .before .before .before .before .before .before .args .lengths .now) (c .before .before .before .before .before .before .before .before .before .before .before .before .args .version .now) (c .before .before .before .before .before .before .before .before .before .before .before .before .args .floor)) (c .before .before .before .before .before .before .before .before .before .before .before .before .args .store .now) (c .before .before .before .before .before .before .before .before .before .before .before .before .args .key) _ _ _ _ (c .before .before .before .before .before .before .before .is-board .ensures) (c .before .before .before .before .before .before .if1 .left) (c .before .before .before .before .before .place-of .ensures) (c .before .before .before .length-at .ensures) (c .before .before .remove-rules .ensures)) (c .if2 .left) (c .before .before .before .before .before .place-of .ensures) (remove-place (c .before .before .before .before .before .before .before .before .before .before .before .before .args .key) (c .before .before .before .before .before .place-of .result) (c .before .before .before .length-at .result) (c .before .before .before .before .before .before .before .before .before .before .before .before .args .version .now) _ (c .before .before .remove-rules .ensures) (c .if2 .left))
+returns-3 c =
+    let before5 = c .before .before .before .before .before in
+    let args = before5 .before .before .before .before .before .before .before .args in
+    remove-accepted
+    (boardOf (args .keys .now) (args .versions .now) (args .lengths .now) (args .version .now) (args .floor))
+    (args .store .now) (args .key) _ _
+    (remove-verdict
+    (boardOf (args .keys .now) (args .versions .now) (args .lengths .now) (args .version .now) (args .floor))
+    (args .store .now) (args .key) _ _ _ _ (before5 .before .before .is-board .ensures) (before5 .before .if1 .left)
+    (before5 .place-of .ensures) (c .before .before .before .length-at .ensures)
+    (c .before .before .remove-rules .ensures)) (c .if2 .left) (before5 .place-of .ensures)
+    (remove-place (args .key) (before5 .place-of .result) (c .before .before .before .length-at .result)
+    (args .version .now) _ (c .before .before .remove-rules .ensures) (c .if2 .left))
 
 pub remove-spec : {M : Type 1} → statement M
 remove-spec =

@@ -15,10 +15,20 @@ wide32-requires : tie.Need-wide32-requires
 wide32-requires c κs = search needs
 
 returns : tie.Need-returns
-returns c = λ lengths top. sym (floor-takes (boardOf (c .before .before .before .args .keys .now) (c .before .before .before .args .versions .now) lengths top (c .before .before .before .args .floor)) (c .before .before .before .args .key) (c .before .before .before .args .at) (sym (c .before .wide32 .ensures) ∙ c .if1 .taken))
+returns c =
+    let args = c .before .before .before .args in
+    λ lengths top.
+    sym
+    (floor-takes (boardOf (args .keys .now) (args .versions .now) lengths top (args .floor)) (args .key) (args .at)
+    (sym (c .before .wide32 .ensures) ∙ c .if1 .taken))
 
 returns-2 : tie.Need-returns-2
-returns-2 c = λ lengths top. sym (floor-keeps (boardOf (c .before .before .before .before .args .keys .now) (c .before .before .before .before .args .versions .now) lengths top (c .before .before .before .before .args .floor)) (c .before .before .before .before .args .key) (c .before .before .before .before .args .at) (sym (c .before .before .wide32 .ensures) ∙ c .if2 .taken))
+returns-2 c =
+    let args = c .before .before .before .before .args in
+    λ lengths top.
+    sym
+    (floor-keeps (boardOf (args .keys .now) (args .versions .now) lengths top (args .floor)) (args .key) (args .at)
+    (sym (c .before .before .wide32 .ensures) ∙ c .if2 .taken))
 
 mul-result : tie.Need-mul-result
 mul-result c = search needs
@@ -27,7 +37,13 @@ element-copy-out-result : tie.Need-element-copy-out-result
 element-copy-out-result c = search needs
 
 returns-3 : tie.Need-returns-3
-returns-3 c = λ lengths top. sym (floor-drops (boardOf (c .before .before .before .before .before .args .keys .now) (c .before .before .before .before .before .args .versions .now) lengths top (c .before .before .before .before .before .args .floor)) (c .before .before .before .before .before .args .key) (c .before .before .before .before .before .args .at) (λ e. c .before .before .if1 .left (c .before .before .before .wide32 .ensures ∙ e)) (λ e. c .before .if2 .left (c .before .before .before .wide32 .ensures ∙ e)))
+returns-3 c =
+    let args = c .before .before .before .before .before .args in
+    λ lengths top.
+    sym
+    (floor-drops (boardOf (args .keys .now) (args .versions .now) lengths top (args .floor)) (args .key) (args .at)
+    (λ e. c .before .before .if1 .left (c .before .before .before .wide32 .ensures ∙ e))
+    (λ e. c .before .if2 .left (c .before .before .before .wide32 .ensures ∙ e)))
 
 pub floor-after-spec : {M : Type 1} → statement M
 floor-after-spec =

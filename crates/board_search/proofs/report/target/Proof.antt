@@ -8,19 +8,30 @@ place-of-requires : tie.Need-place-of-requires
 place-of-requires c κs = search needs
 
 returns : tie.Need-returns
-returns c = target-known (boardOf (c .before .before .args .keys .now) (c .before .before .args .versions .now) (c .before .before .args .lengths .now) (c .before .before .args .top) (c .before .before .args .floor)) (c .before .before .args .key) _ (c .before .place-of .ensures) (c .if1 .taken)
+returns c =
+    let args = c .before .before .args in
+    target-known (boardOf (args .keys .now) (args .versions .now) (args .lengths .now) (args .top) (args .floor))
+    (args .key) _ (c .before .place-of .ensures) (c .if1 .taken)
 
 place-of-requires-2 : tie.Need-place-of-requires-2
 place-of-requires-2 c κs = search needs
 
 returns-2 : tie.Need-returns-2
-returns-2 c = target-free (boardOf (c .before .before .before .before .args .keys .now) (c .before .before .before .before .args .versions .now) (c .before .before .before .before .args .lengths .now) (c .before .before .before .before .args .top) (c .before .before .before .before .args .floor)) (c .before .before .before .before .args .key) _ _ (c .before .before .before .place-of .ensures) (c .before .before .if1 .left) (c .before .place-of2 .ensures) (c .if2 .taken)
+returns-2 c =
+    let args = c .before .before .before .before .args in
+    target-free (boardOf (args .keys .now) (args .versions .now) (args .lengths .now) (args .top) (args .floor))
+    (args .key) _ _ (c .before .before .before .place-of .ensures) (c .before .before .if1 .left)
+    (c .before .place-of2 .ensures) (c .if2 .taken)
 
 oldest-requires : tie.Need-oldest-requires
 oldest-requires c κs = search needs
 
 returns-3 : tie.Need-returns-3
-returns-3 c = target-oldest (boardOf (c .before .before .before .before .before .args .keys .now) (c .before .before .before .before .before .args .versions .now) (c .before .before .before .before .before .args .lengths .now) (c .before .before .before .before .before .args .top) (c .before .before .before .before .before .args .floor)) (c .before .before .before .before .before .args .key) _ _ _ (c .before .before .before .before .place-of .ensures) (c .before .before .before .if1 .left) (c .before .before .place-of2 .ensures) (c .before .if2 .left) (c .oldest .ensures)
+returns-3 c =
+    let args = c .before .before .before .before .before .args in
+    target-oldest (boardOf (args .keys .now) (args .versions .now) (args .lengths .now) (args .top) (args .floor))
+    (args .key) _ _ _ (c .before .before .before .before .place-of .ensures) (c .before .before .before .if1 .left)
+    (c .before .before .place-of2 .ensures) (c .before .if2 .left) (c .oldest .ensures)
 
 pub target-spec : {M : Type 1} → statement M
 target-spec =

@@ -21,7 +21,10 @@ shared-slice-read-if1 : tie.Need-shared-slice-read-if1 Inv-loop μ-loop
 shared-slice-read-if1 c = search needs
 
 returns : tie.Need-returns Inv-loop μ-loop
-returns c = has-hit _ (c .before .before .before .before .args .p .now) (c .before .before .before .loop .i) (c .before .before .loop-test .taken) (c .if1 .taken) ∙ c .before .before .before .loop .inv .1
+returns c =
+    has-hit _ (c .before .before .before .before .args .p .now) (c .before .before .before .loop .i)
+    (c .before .before .loop-test .taken) (c .if1 .taken)
+    ∙ c .before .before .before .loop .inv .1
 
 add-i : tie.Need-add-i Inv-loop μ-loop
 add-i c = search needs
@@ -30,7 +33,12 @@ loop-less : tie.Need-loop-less Inv-loop μ-loop
 loop-less c = search needs
 
 loop-again : tie.Need-loop-again Inv-loop μ-loop
-loop-again c = (omega arith, has-miss _ (c .before .before .before .before .args .p .now) (c .before .before .before .loop .i) (c .before .before .loop-test .taken) (c .if1 .left) ∙ c .before .before .before .loop .inv .1)
+loop-again c = (
+  omega arith,
+  has-miss _ (c .before .before .before .before .args .p .now) (c .before .before .before .loop .i)
+      (c .before .before .loop-test .taken) (c .if1 .left)
+      ∙ c .before .before .before .loop .inv .1,
+)
 
 returns-2 : tie.Need-returns-2 Inv-loop μ-loop
 returns-2 c = has-end (c .before .before .args .x) (c .before .before .args .p .now) (c .before .loop .i) (c .loop-test .left) ∙ c .before .loop .inv .1

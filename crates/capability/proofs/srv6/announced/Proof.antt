@@ -53,10 +53,15 @@ refused-open-requires-2 c κs = search needs
 
 returns-3 : tie.Need-returns-3
 unfolding announcedOf sizedOf wrongOf xOf
-returns-3 c = rw (c .refused-open2 .ensures, sym (c .before .before .before .before .before .before .before .both .ensures) ∙ not-false _ (c .before .before .before .before .before .before .if1 .left))
+returns-3 c =
+    let before4 = c .before .before .before .before in
+    rw (
+      c .refused-open2 .ensures,
+      sym (before4 .before .before .before .both .ensures) ∙ not-false _ (before4 .before .before .if1 .left),
+    )
     (simp (
-      ← c .before .before .before .before .before .octet .ensures .0,
-      ne-eqb _ _ (c .before .before .before .before .if2 .left),
+      ← before4 .before .octet .ensures .0,
+      ne-eqb _ _ (before4 .if2 .left),
       rw rest-lent at (sym (c .before .before .wrong .ensures) ∙ c .before .if3 .taken),
     ))
 
@@ -77,10 +82,15 @@ carried-requires-2 c κs = search needs
 
 returns-4 : tie.Need-returns-4
 unfolding announcedOf sizedOf wrongOf xOf nOf limitOf
-returns-4 c = rw (c .carried2 .ensures, sym (c .before .before .before .before .before .before .before .before .before .both .ensures) ∙ not-false _ (c .before .before .before .before .before .before .before .before .if1 .left))
+returns-4 c =
+    let before6 = c .before .before .before .before .before .before in
+    rw (
+      c .carried2 .ensures,
+      sym (before6 .before .before .before .both .ensures) ∙ not-false _ (before6 .before .before .if1 .left),
+    )
     (simp (
-      ← c .before .before .before .before .before .before .before .octet .ensures .0,
-      ne-eqb _ _ (c .before .before .before .before .before .before .if2 .left),
+      ← before6 .before .octet .ensures .0,
+      ne-eqb _ _ (before6 .if2 .left),
       rw rest-lent at (sym (c .before .before .before .before .wrong .ensures) ∙ c .before .before .before .if3 .left),
       rw rest-lent at (c .before .lowest .ensures),
     ))

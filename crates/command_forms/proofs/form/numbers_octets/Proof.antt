@@ -46,9 +46,15 @@ both-requires-4 c κs = search needs
 returns : tie.Need-returns
 unfolding formed
 returns c =
-    and (c .both4 .ensures) (ap (λ (n : ℕ). eqb n 4) (c .before .before .before .before .before .before .before .before .before .before .count .ensures)) (and (c .before .both3 .ensures) (c .before .before .before .before .before .before .before .before .is-number .ensures ∙ ap isNumber (c .before .before .before .before .before .before .before .before .before .word .ensures .0))
-    (and (c .before .before .both2 .ensures) (c .before .before .before .before .before .before .is-number2 .ensures ∙ ap isNumber (c .before .before .before .before .before .before .before .word2 .ensures .0))
-    (and (c .before .before .before .both .ensures) (c .before .before .before .before .is-octets .ensures ∙ ap isOctets (c .before .before .before .before .before .word3 .ensures .0)) refl)))
+    let before5 = c .before .before .before .before .before in
+    and (c .both4 .ensures) (ap (λ (n : ℕ). eqb n 4) (before5 .before .before .before .before .before .count .ensures))
+    (and (c .before .both3 .ensures)
+    (before5 .before .before .before .is-number .ensures
+    ∙ ap isNumber (before5 .before .before .before .before .word .ensures .0))
+    (and (c .before .before .both2 .ensures)
+    (before5 .before .is-number2 .ensures ∙ ap isNumber (before5 .before .before .word2 .ensures .0))
+    (and (c .before .before .before .both .ensures)
+    (c .before .before .before .before .is-octets .ensures ∙ ap isOctets (before5 .word3 .ensures .0)) refl)))
 
 pub numbers-octets-spec : {M : Type 1} → statement M
 numbers-octets-spec =

@@ -81,14 +81,27 @@ both-requires-8 c κs = search needs
 returns : tie.Need-returns
 unfolding formed
 returns c =
-    and (c .both8 .ensures) (ap (λ (n : ℕ). eqb n 8) (c .before .before .before .before .before .before .before .count .ensures))
-    (and (c .before .both7 .ensures) (c .before .before .before .before .before .at-most3 .ensures ∙ ap (isAtMost 1) (c .before .before .before .before .before .before .word6 .ensures .0))
-    (and (c .before .before .both6 .ensures) (c .before .before .before .at-most4 .ensures ∙ ap (isAtMost 1) (c .before .before .before .before .word7 .ensures .0))
-    (and (c .before .before .before .before .before .before .before .before .both5 .ensures) (c .before .before .before .before .before .before .before .before .before .before .before .before .at-most .ensures ∙ ap (isAtMost 255) (c .before .before .before .before .before .before .before .before .before .before .before .before .before .word4 .ensures .0))
-    (and (c .before .before .before .before .before .before .before .before .before .both4 .ensures) (c .before .before .before .before .before .before .before .before .before .before .at-most2 .ensures ∙ ap (isAtMost 65535) (c .before .before .before .before .before .before .before .before .before .before .before .word5 .ensures .0))
-    (and (c .before .before .before .before .before .before .before .before .before .before .before .before .before .before .both3 .ensures) (c .before .before .before .before .before .before .before .before .before .before .before .before .before .before .before .before .before .before .before .before .before .is-sid .ensures ∙ ap isSid (c .before .before .before .before .before .before .before .before .before .before .before .before .before .before .before .before .before .before .before .before .before .before .word .ensures .0))
-    (and (c .before .before .before .before .before .before .before .before .before .before .before .before .before .before .before .both2 .ensures) (c .before .before .before .before .before .before .before .before .before .before .before .before .before .before .before .before .before .before .before .is-nai .ensures ∙ ap isNai (c .before .before .before .before .before .before .before .before .before .before .before .before .before .before .before .before .before .before .before .before .word2 .ensures .0))
-    (and (c .before .before .before .before .before .before .before .before .before .before .before .before .before .before .before .before .both .ensures) (c .before .before .before .before .before .before .before .before .before .before .before .before .before .before .before .before .before .is-structure .ensures ∙ ap isStructure (c .before .before .before .before .before .before .before .before .before .before .before .before .before .before .before .before .before .before .word3 .ensures .0)) refl)))))))
+    let before6 = c .before .before .before .before .before .before in
+    let before11 = before6 .before .before .before .before .before in
+    let before14 = before11 .before .before .before in
+    let before17 = before14 .before .before .before in
+    and (c .both8 .ensures) (ap (λ (n : ℕ). eqb n 8) (before6 .before .count .ensures))
+    (and (c .before .both7 .ensures)
+    (c .before .before .before .before .before .at-most3 .ensures ∙ ap (isAtMost 1) (before6 .word6 .ensures .0))
+    (and (c .before .before .both6 .ensures)
+    (c .before .before .before .at-most4 .ensures
+    ∙ ap (isAtMost 1) (c .before .before .before .before .word7 .ensures .0))
+    (and (before6 .before .before .both5 .ensures)
+    (before11 .before .at-most .ensures ∙ ap (isAtMost 255) (before11 .before .before .word4 .ensures .0))
+    (and (before6 .before .before .before .both4 .ensures)
+    (before6 .before .before .before .before .at-most2 .ensures ∙ ap (isAtMost 65535) (before11 .word5 .ensures .0))
+    (and (before14 .both3 .ensures)
+    (before17 .before .before .before .before .is-sid .ensures
+    ∙ ap isSid (before17 .before .before .before .before .before .word .ensures .0))
+    (and (before14 .before .both2 .ensures)
+    (before17 .before .before .is-nai .ensures ∙ ap isNai (before17 .before .before .before .word2 .ensures .0))
+    (and (before14 .before .before .both .ensures)
+    (before17 .is-structure .ensures ∙ ap isStructure (before17 .before .word3 .ensures .0)) refl)))))))
 
 pub segment-spec : {M : Type 1} → statement M
 segment-spec =

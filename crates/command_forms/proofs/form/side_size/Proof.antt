@@ -53,8 +53,18 @@ both-requires-3 c κs = search needs
 returns : tie.Need-returns
 unfolding formed
 returns c =
-    and (c .both3 .ensures) (ap (λ (n : ℕ). eqb n 3) (c .before .before .before .before .before .count .ensures)) (and (c .before .both2 .ensures) (or (c .before .before .before .before .before .before .either .ensures) (c .before .before .before .before .before .before .before .before .before .before .same .ensures ∙ ap (λ (w : List ℕ). sameOf w theEro) (c .before .before .before .before .before .before .before .before .before .before .before .before .word .ensures .0)) (c .before .before .before .before .before .before .before .same2 .ensures ∙ ap (λ (w : List ℕ). sameOf w theRro) (c .before .before .before .before .before .before .before .before .before .word2 .ensures .0)))
-    (and (c .before .before .both .ensures) (c .before .before .before .at-most .ensures ∙ ap (isAtMost 65536) (c .before .before .before .before .word3 .ensures .0)) refl))
+    let before5 = c .before .before .before .before .before in
+    and (c .both3 .ensures) (ap (λ (n : ℕ). eqb n 3) (before5 .count .ensures))
+    (and (c .before .both2 .ensures)
+    (or (before5 .before .either .ensures)
+    (before5 .before .before .before .before .before .same .ensures
+    ∙ ap (λ (w : List ℕ). sameOf w theEro)
+    (before5 .before .before .before .before .before .before .before .word .ensures .0))
+    (before5 .before .before .same2 .ensures
+    ∙ ap (λ (w : List ℕ). sameOf w theRro) (before5 .before .before .before .before .word2 .ensures .0)))
+    (and (c .before .before .both .ensures)
+    (c .before .before .before .at-most .ensures
+    ∙ ap (isAtMost 65536) (c .before .before .before .before .word3 .ensures .0)) refl))
 
 pub side-size-spec : {M : Type 1} → statement M
 side-size-spec =

@@ -88,16 +88,22 @@ choose-requires-9 c κs = search needs
 
 returns : tie.Need-returns
 returns c =
+    let before6 = c .before .before .before .before .before .before in
+    let before12 = before6 .before .before .before .before .before .before in
+    let before18 = before12 .before .before .before .before .before .before in
+    let before21 = before18 .before .before .before in
     (row v.Finish (c .choose9 .ensures) (c .before .same9 .ensures)
     (row v.Lent (c .before .before .before .choose8 .ensures) (c .before .before .before .before .same8 .ensures)
-    (row v.Report (c .before .before .before .before .before .before .choose7 .ensures) (c .before .before .before .before .before .before .before .same7 .ensures)
-    (row v.Remove (c .before .before .before .before .before .before .before .before .before .choose6 .ensures) (c .before .before .before .before .before .before .before .before .before .before .same6 .ensures)
-    (row v.Compact (c .before .before .before .before .before .before .before .before .before .before .before .before .choose5 .ensures) (c .before .before .before .before .before .before .before .before .before .before .before .before .before .same5 .ensures)
-    (row v.Body (c .before .before .before .before .before .before .before .before .before .before .before .before .before .before .before .choose4 .ensures) (c .before .before .before .before .before .before .before .before .before .before .before .before .before .before .before .before .same4 .ensures)
-    (row v.Next (c .before .before .before .before .before .before .before .before .before .before .before .before .before .before .before .before .before .before .choose3 .ensures) (c .before .before .before .before .before .before .before .before .before .before .before .before .before .before .before .before .before .before .before .same3 .ensures)
-    (row v.Mark (c .before .before .before .before .before .before .before .before .before .before .before .before .before .before .before .before .before .before .before .before .before .choose2 .ensures) (c .before .before .before .before .before .before .before .before .before .before .before .before .before .before .before .before .before .before .before .before .before .before .same2 .ensures)
-    (row v.Board (c .before .before .before .before .before .before .before .before .before .before .before .before .before .before .before .before .before .before .before .before .before .before .before .before .choose .ensures) (c .before .before .before .before .before .before .before .before .before .before .before .before .before .before .before .before .before .before .before .before .before .before .before .before .before .same .ensures)
-    refl)))))))))
+    (row v.Report (before6 .choose7 .ensures) (before6 .before .same7 .ensures)
+    (row v.Remove (before6 .before .before .before .choose6 .ensures)
+    (before6 .before .before .before .before .same6 .ensures)
+    (row v.Compact (before12 .choose5 .ensures) (before12 .before .same5 .ensures)
+    (row v.Body (before12 .before .before .before .choose4 .ensures)
+    (before12 .before .before .before .before .same4 .ensures)
+    (row v.Next (before18 .choose3 .ensures) (before18 .before .same3 .ensures)
+    (row v.Mark (before21 .choose2 .ensures) (before21 .before .same2 .ensures)
+    (row v.Board (before21 .before .before .before .choose .ensures)
+    (before21 .before .before .before .before .same .ensures) refl)))))))))
 
 pub board-named-spec : {M : Type 1} → statement M
 board-named-spec =

@@ -84,15 +84,21 @@ choose-requires-8 c κs = search needs
 returns : tie.Need-returns
 unfolding verbOf
 returns c =
+    let before6 = c .before .before .before .before .before .before in
+    let before12 = before6 .before .before .before .before .before .before in
+    let before18 = before12 .before .before .before .before .before .before in
     (row v.Pcc (c .choose8 .ensures) (c .before .same8 .ensures)
     (row v.Pce (c .before .before .before .choose7 .ensures) (c .before .before .before .before .same7 .ensures)
-    (row v.Ero (c .before .before .before .before .before .before .choose6 .ensures) (c .before .before .before .before .before .before .before .same6 .ensures)
-    (row v.Rro (c .before .before .before .before .before .before .before .before .before .choose5 .ensures) (c .before .before .before .before .before .before .before .before .before .before .same5 .ensures)
-    (row v.EroSegment (c .before .before .before .before .before .before .before .before .before .before .before .before .choose4 .ensures) (c .before .before .before .before .before .before .before .before .before .before .before .before .before .same4 .ensures)
-    (row v.RroSegment (c .before .before .before .before .before .before .before .before .before .before .before .before .before .before .before .choose3 .ensures) (c .before .before .before .before .before .before .before .before .before .before .before .before .before .before .before .before .same3 .ensures)
-    (row v.Begin (c .before .before .before .before .before .before .before .before .before .before .before .before .before .before .before .before .before .before .choose2 .ensures) (c .before .before .before .before .before .before .before .before .before .before .before .before .before .before .before .before .before .before .before .same2 .ensures)
-    (row v.Add (c .before .before .before .before .before .before .before .before .before .before .before .before .before .before .before .before .before .before .before .before .before .choose .ensures) (c .before .before .before .before .before .before .before .before .before .before .before .before .before .before .before .before .before .before .before .before .before .before .before .same .ensures)
-    (c .before .before .before .before .before .before .before .before .before .before .before .before .before .before .before .before .before .before .before .before .before .before .board-named .ensures)))))))))
+    (row v.Ero (before6 .choose6 .ensures) (before6 .before .same6 .ensures)
+    (row v.Rro (before6 .before .before .before .choose5 .ensures)
+    (before6 .before .before .before .before .same5 .ensures)
+    (row v.EroSegment (before12 .choose4 .ensures) (before12 .before .same4 .ensures)
+    (row v.RroSegment (before12 .before .before .before .choose3 .ensures)
+    (before12 .before .before .before .before .same3 .ensures)
+    (row v.Begin (before18 .choose2 .ensures) (before18 .before .same2 .ensures)
+    (row v.Add (before18 .before .before .before .choose .ensures)
+    (before18 .before .before .before .before .before .same .ensures)
+    (before18 .before .before .before .before .board-named .ensures)))))))))
 
 pub named-spec : {M : Type 1} → statement M
 named-spec =

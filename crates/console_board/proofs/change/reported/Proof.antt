@@ -32,10 +32,19 @@ same-length-3 : tie.Need-same-length-3
 same-length-3 c = search needs
 
 returns : tie.Need-returns
-returns c = let a = c .before .before .before .before .before .before .before .before .before .before .before .before .before .before .before .before .before .before .before .args in
-    let s = spelled _ _ (c .before .before .before .before .before .before .before .before .before .before .before .before .before .octets-at .ensures .0) in
-    let e = c .before .before .before .before .before .before .before .before .report .ensures .0 ∙ ap (λ (x : List ℕ). reportAnswer (a .b) (a .store .now) (a .c .one) x (a .session) (a .c .two)) s in
-    (rw (← e), (c .before .before .before .before .before .before .before .before .report .ensures .1 ∙ ap (λ (x : List ℕ). reportStore (a .b) (a .store .now) (a .c .one) x (a .session) (a .c .two)) s, rw (← e) (c .before .before .counted .ensures)))
+returns c =
+    let before8 = c .before .before .before .before .before .before .before .before in
+    let a = before8 .before .before .before .before .before .before .before .before .before .before .before .args in
+    let s = spelled _ _ (before8 .before .before .before .before .before .octets-at .ensures .0) in
+    let e = before8 .report .ensures .0
+    ∙ ap (λ (x : List ℕ). reportAnswer (a .b) (a .store .now) (a .c .one) x (a .session) (a .c .two)) s in (
+      rw (← e),
+      (
+        before8 .report .ensures .1
+            ∙ ap (λ (x : List ℕ). reportStore (a .b) (a .store .now) (a .c .one) x (a .session) (a .c .two)) s,
+        rw (← e) (c .before .before .counted .ensures),
+      ),
+    )
 
 pub reported-spec : {M : Type 1} → statement M
 reported-spec =

@@ -21,8 +21,12 @@ same-length c = search needs
 
 returns : tie.Need-returns
 unfolding bodyLine
-returns c = let a = c .before .before .before .before .before .before .before .before .before .args in
-    rw (← c .before .before .before .before .before .before .body-number .ensures) (told-refused (c .before .before .before .before .before .before .body-number .result) (octetsLine (bodyOf (a .b) (a .store .now) (a .c .one))) (c .before .before .before .before .if1 .taken) (c .before .before .refusal .ensures .0))
+returns c =
+    let before6 = c .before .before .before .before .before .before in
+    let a = before6 .before .before .before .args in
+    rw (← before6 .body-number .ensures)
+    (told-refused (before6 .body-number .result) (octetsLine (bodyOf (a .b) (a .store .now) (a .c .one)))
+    (c .before .before .before .before .if1 .taken) (c .before .before .refusal .ensures .0))
 
 body-requires : tie.Need-body-requires
 body-requires c κs = search needs
@@ -35,7 +39,11 @@ same-length-2 c = search needs
 
 returns-2 : tie.Need-returns-2
 unfolding bodyLine
-returns-2 c = rw (← c .before .before .before .before .before .before .before .body-number .ensures, ← c .before .before .before .before .body .ensures) (told-accepted (c .before .before .before .before .before .before .before .body-number .result) (octetsLine (c .before .before .before .before .body .result .now)) (c .before .before .before .before .before .if1 .left) (c .before .before .octets .ensures .0))
+returns-2 c =
+    let before4 = c .before .before .before .before in
+    rw (← before4 .before .before .before .body-number .ensures, ← before4 .body .ensures)
+    (told-accepted (before4 .before .before .before .body-number .result) (octetsLine (before4 .body .result .now))
+    (before4 .before .if1 .left) (c .before .before .octets .ensures .0))
 
 pub body-spec : {M : Type 1} → statement M
 body-spec =

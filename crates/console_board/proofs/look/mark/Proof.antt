@@ -16,7 +16,12 @@ same-length : tie.Need-same-length
 same-length c = search needs
 
 returns : tie.Need-returns
-returns c = subst (λ (m : Mark). Behind (c .before .before .before .before .before .before .args .out .now) (c .before .before .two .last .0) 0 (c .before .before .two .result) (twoLine (m .s) (m .w))) (c .before .before .before .before .fresh-mark .ensures) (c .before .before .two .ensures .0)
+returns c =
+    subst
+    (λ (m : Mark).
+    Behind (c .before .before .before .before .before .before .args .out .now) (c .before .before .two .last .0) 0
+    (c .before .before .two .result) (twoLine (m .s) (m .w))) (c .before .before .before .before .fresh-mark .ensures)
+    (c .before .before .two .ensures .0)
 
 pub mark-spec : {M : Type 1} → statement M
 mark-spec = tie.close (tie.spec fresh-mark-requires two-requires same-length returns)

@@ -21,10 +21,20 @@ enum-known-change : tie.Need-enum-known-change
 enum-known-change c = search needs
 
 named-requires : tie.Need-named-requires
-named-requires c κs = let a = c .before .before .before .before .before .before .before .args in path-inside (a .b) (a .store .now) (a .c .one) (a .c .two) (sym (c .before .before .before .before .next .ensures) ∙ c .before .before .change .given .1)
+named-requires c κs =
+    let a = c .before .before .before .before .before .before .before .args in
+    path-inside (a .b) (a .store .now) (a .c .one) (a .c .two)
+    (sym (c .before .before .before .before .next .ensures) ∙ c .before .before .change .given .1)
 
 path-requires : tie.Need-path-requires
-path-requires c κs = let a = c .before .before .before .before .before .before .before .before .args in omega (arith, ap length (c .named .ensures), length-part-most (a .store .now) (384 * c .before .before .before .change .given .0 .1 .0 .place) (c .before .before .before .change .given .0 .1 .0 .length))
+path-requires c κs =
+    let a = c .before .before .before .before .before .before .before .before .args in
+    omega (
+      arith,
+      ap length (c .named .ensures),
+      length-part-most (a .store .now) (384 * c .before .before .before .change .given .0 .1 .0 .place)
+          (c .before .before .before .change .given .0 .1 .0 .length),
+    )
 
 enum-known-change-2 : tie.Need-enum-known-change-2
 enum-known-change-2 c = search needs
@@ -50,7 +60,12 @@ same-length-2 c = search needs
 
 returns-2 : tie.Need-returns-2
 unfolding nextLine
-returns-2 c = rw (← c .before .before .before .before .before .before .before .before .next .ensures, c .before .before .before .before .before .before .change .given .1, ← c .before .before .before .named .ensures) (c .before .before .path .ensures .0)
+returns-2 c =
+    rw (
+      ← c .before .before .before .before .before .before .before .before .next .ensures,
+      c .before .before .before .before .before .before .change .given .1,
+      ← c .before .before .before .named .ensures,
+    ) (c .before .before .path .ensures .0)
 
 same-length-3 : tie.Need-same-length-3
 same-length-3 c = search needs

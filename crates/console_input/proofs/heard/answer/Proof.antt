@@ -11,11 +11,19 @@ wrapping-add-u64-requires : tie.Need-wrapping-add-u64-requires
 wrapping-add-u64-requires c κs = search needs
 
 slice-aggregate-answered : tie.Need-slice-aggregate-answered
-slice-aggregate-answered c = sym (length-take-le (c .before .before .before .before .before .before .before .before .args .h .kept) (c .before .before .before .before .before .before .before .before .args .line .now) (c .before .before .before .before .before .before .before .before .pre .0))
+slice-aggregate-answered c =
+    let before8 = c .before .before .before .before .before .before .before .before in
+    sym (length-take-le (before8 .args .h .kept) (before8 .args .line .now) (before8 .pre .0))
 
 answered-requires : tie.Need-answered-requires
-answered-requires c κs = let p = c .before .before .before .before .before .before .before .before .before .before .before .before .pre in
-    (omega (arith, length-take-le (c .before .before .before .before .before .before .before .before .before .before .before .before .args .h .kept) (c .before .before .before .before .before .before .before .before .before .before .before .before .args .line .now) (p .0), p .0, p .1), p .2, p .3, p .4)
+answered-requires c κs =
+    let before12 = c .before .before .before .before .before .before .before .before .before .before .before .before in
+    let p = before12 .pre in (
+      omega (arith, length-take-le (before12 .args .h .kept) (before12 .args .line .now) (p .0), p .0, p .1),
+      p .2,
+      p .3,
+      p .4,
+    )
 
 same-length : tie.Need-same-length
 same-length c = search needs
@@ -31,10 +39,12 @@ same-length-4 c = search needs
 
 returns : tie.Need-returns
 unfolding nextNumber
-returns c = let a = c .before .before .before .before .before .before .before .before .before .before .before .before .before .before .before .before .before .before .before .before .before .before .args in
+returns c =
+    let before9 = c .before .before .before .before .before .before .before .before .before in
+    let a = before9 .before .before .before .before .before .before .before .before .before .before .before .before .before .args in
     let g = heardOf (a .h) (a .line .now) (a .store .now) (a .memory .now) in
-    let e = c .before .before .before .before .before .before .before .before .before .before .before .before .before .before .before .before .wrapping-add-u64 .ensures in
-    (ended-made g e (c .before .before .before .before .before .before .before .before .before .answered .ensures .console), (turn-told g e (c .before .before .before .before .before .before .before .before .before .answered .ensures .told), refl))
+    let e = before9 .before .before .before .before .before .before .before .wrapping-add-u64 .ensures in
+    (ended-made g e (before9 .answered .ensures .console), (turn-told g e (before9 .answered .ensures .told), refl))
 
 pub answer-spec : {M : Type 1} → statement M
 answer-spec =

@@ -23,7 +23,13 @@ same-length : tie.Need-same-length
 same-length c = search needs
 
 returns : tie.Need-returns
-returns c = let a = c .before .before .before .before .before .before .before .before .args in (kept-more (a .line .now) (a .part .now) (c .before .before .lay .last .0) (a .kept) (c .before .before .before .before .before .fit .result) (c .before .before .before .before .before .before .before .before .pre) (c .before .before .before .before .before .fit .ensures .1) (c .before .before .lay .ensures), omega (arith, c .before .before .before .before .before .fit .ensures .1, c .before .before .before .before .before .before .before .before .pre))
+returns c =
+    let before5 = c .before .before .before .before .before in
+    let a = before5 .before .before .before .args in (
+      kept-more (a .line .now) (a .part .now) (c .before .before .lay .last .0) (a .kept) (before5 .fit .result)
+          (before5 .before .before .before .pre) (before5 .fit .ensures .1) (c .before .before .lay .ensures),
+      omega (arith, before5 .fit .ensures .1, before5 .before .before .before .pre),
+    )
 
 pub keep-spec : {M : Type 1} → statement M
 keep-spec =

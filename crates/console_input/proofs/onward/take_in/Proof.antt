@@ -33,7 +33,11 @@ answer-requires : tie.Need-answer-requires
 answer-requires c κs = search needs
 
 add-t33 : tie.Need-add-t33
-add-t33 c = omega (arith, c .before .before .before .before .before .before .before .before .before .before .before .before .before .before .before .if1 .taken, c .before .before .before .before .before .before .before .before .before .before .before .before .before .before .before .before .before .before .before .before .before .before .before .before .before .before .before .before, c .before .before .before .before .before .before .before .before .before .before .before .before .before .before .before .before .before .before .before .before .before .before .before .before .before .before .before)
+add-t33 c =
+    let before7 = c .before .before .before .before .before .before .before in
+    let before15 = before7 .before .before .before .before .before .before .before .before in
+    let before27 = before15 .before .before .before .before .before .before .before .before .before .before .before .before in
+    omega (arith, before15 .if1 .taken, before27 .before, before27)
 
 same-length : tie.Need-same-length
 same-length c = search needs
@@ -52,19 +56,25 @@ same-length-5 c = search needs
 
 returns : tie.Need-returns
 unfolding wordOf
-returns c = let a = c .before .before .before .before .before .before .before .before .before .before .before .before .before .before .before .before .before .before .before .before .before .before .before .before .before .before .before .before .before .args in
-    let p = c .before .before .before .before .before .before .before .before .before .before .before .before .before .before .before .before .before .before .before .before .before .before .before .before .before .before .before .before .before .pre in
+returns c =
+    let before7 = c .before .before .before .before .before .before .before in
+    let before15 = before7 .before .before .before .before .before .before .before .before in
+    let before19 = before15 .before .before .before .before in
+    let before21 = before19 .before .before in
+    let x = before21 .word .result .now in
+    let a = before21 .before .before .before .before .before .before .before .before .args in
+    let p = before21 .before .before .before .before .before .before .before .before .pre in
     let r = a .read .now in
-    let x = c .before .before .before .before .before .before .before .before .before .before .before .before .before .before .before .before .before .before .before .before .before .word .result .now in
     let g = heardOf (a .h) (a .line .now) (a .store .now) (a .memory .now) in
     let small : length (g .line) ≤ 131201 = omega (arith, length-take (a .h .kept) (a .line .now), p .1, p .2) in
-    let s = c .before .before .before .before .before .before .before .before .before .before .before .before .before .before .before .before .before .before .before .before .before .word .ensures .0 ∙ ap (λ (l : List ℕ). untilMark 10 l) (rest-lent r (a .at)) in
-    let m = longer-made g x (untilMark 10 (drop (a .at) r)) (take (c .before .before .before .before .before .before .before .before .before .before .before .before .before .before .before .before .before .before .before .keep .result) (c .before .before .before .before .before .before .before .before .before .before .before .before .before .before .before .before .before .before .before .keep .last .0)) (length (a .line .now)) s (p .2) (c .before .before .before .before .before .before .before .before .before .before .before .before .before .before .before .before .before .before .before .keep .ensures .0) in
-    let t = c .before .before .before .before .before .before .before .before .before .answer .ensures in (
-      heard-line g small r (a .at) x s (omega arith) _ m (t .0) (c .before .before .before .before .before .before .before .before .before .before .before .before .before .before .before .if1 .taken),
+    let s = before21 .word .ensures .0 ∙ ap (λ (l : List ℕ). untilMark 10 l) (rest-lent r (a .at)) in
+    let m = longer-made g x (untilMark 10 (drop (a .at) r)) (take (before19 .keep .result) (before19 .keep .last .0))
+    (length (a .line .now)) s (p .2) (before19 .keep .ensures .0) in
+    let t = before7 .before .before .answer .ensures in (
+      heard-line g small r (a .at) x s (omega arith) _ m (t .0) (before15 .if1 .taken),
       (
-        said-line g small r (a .at) x s (omega arith) _ m (t .0) (t .1 .0 .text) (c .before .before .before .before .before .before .before .before .before .before .before .before .before .before .before .if1 .taken),
-        (omega arith, omega (arith, c .before .before .before .before .before .before .before .before .before .before .before .before .before .before .before .if1 .taken), omega (arith, t .1 .1), text-within (t .1 .0)),
+        said-line g small r (a .at) x s (omega arith) _ m (t .0) (t .1 .0 .text) (before15 .if1 .taken),
+        (omega arith, omega (arith, before15 .if1 .taken), omega (arith, t .1 .1), text-within (t .1 .0)),
       ),
     )
 
@@ -73,15 +83,25 @@ same-length-6 c = search needs
 
 returns-2 : tie.Need-returns-2
 unfolding wordOf
-returns-2 c = let a = c .before .before .before .before .before .before .before .before .before .before .before .before .before .before .args in
-    let p = c .before .before .before .before .before .before .before .before .before .before .before .before .before .before .pre in
+returns-2 c =
+    let before4 = c .before .before .before .before in
+    let word = before4 .before .before .word in
+    let x = word .result .now in
+    let before14 = before4 .before .before .before .before .before .before .before .before .before .before in
+    let a = before14 .args in
+    let p = before14 .pre in
     let r = a .read .now in
-    let x = c .before .before .before .before .before .before .word .result .now in
     let g = heardOf (a .h) (a .line .now) (a .store .now) (a .memory .now) in
     let small : length (g .line) ≤ 131201 = omega (arith, length-take (a .h .kept) (a .line .now), p .1, p .2) in
-    let s = c .before .before .before .before .before .before .word .ensures .0 ∙ ap (λ (l : List ℕ). untilMark 10 l) (rest-lent r (a .at)) in
-    let m = longer-made g x (untilMark 10 (drop (a .at) r)) (take (c .before .before .before .before .keep .result) (c .before .before .before .before .keep .last .0)) (length (a .line .now)) s (p .2) (c .before .before .before .before .keep .ensures .0) in
-    (heard-part g small r (a .at) x s (omega arith) _ m (c .if1 .left), (said-part g small r (a .at) x s (omega arith) _ m (c .if1 .left), (p .0, omega arith, c .before .before .before .before .keep .ensures .1, omega arith)))
+    let s = word .ensures .0 ∙ ap (λ (l : List ℕ). untilMark 10 l) (rest-lent r (a .at)) in
+    let m = longer-made g x (untilMark 10 (drop (a .at) r)) (take (before4 .keep .result) (before4 .keep .last .0))
+    (length (a .line .now)) s (p .2) (before4 .keep .ensures .0) in (
+      heard-part g small r (a .at) x s (omega arith) _ m (c .if1 .left),
+      (
+        said-part g small r (a .at) x s (omega arith) _ m (c .if1 .left),
+        (p .0, omega arith, before4 .keep .ensures .1, omega arith),
+      ),
+    )
 
 pub take-in-spec : {M : Type 1} → statement M
 take-in-spec =

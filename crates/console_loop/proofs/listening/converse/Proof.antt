@@ -23,7 +23,14 @@ slice-aggregate-go-on-5 c = search needs
 
 go-on-requires : tie.Need-go-on-requires
 unfolding storeAtStart
-go-on-requires c κs = (refl, simp length-replicate (omega arith), simp length-replicate (omega arith), simp length-replicate (omega arith), simp length-replicate (omega arith), simp length-replicate (omega arith))
+go-on-requires c κs = (
+  refl,
+  simp length-replicate (omega arith),
+  simp length-replicate (omega arith),
+  simp length-replicate (omega arith),
+  simp length-replicate (omega arith),
+  simp length-replicate (omega arith),
+)
 
 returns : tie.Need-returns
 returns c = search needs

@@ -11,7 +11,13 @@ use Rattle.console_loop.proofs.listening.go_on.Tie as tie
 
 abbrev Inv-loop : tie.InvT-loop
 Inv-loop line₀ store₀ memory₀ room₀ out₀ h₀ more₀ turns₀ line store memory room out h more turns =
-    (length line ≡ length line₀) × (length store ≡ length store₀) × (length memory ≡ length memory₀) × (length room ≡ length room₀) × (length out ≡ length out₀) × (h .kept ≤ length line₀) × Reached (heardOf h line store memory)
+    (length line ≡ length line₀)
+    × (length store ≡ length store₀)
+    × (length memory ≡ length memory₀)
+    × (length room ≡ length room₀)
+    × (length out ≡ length out₀)
+    × (h .kept ≤ length line₀)
+    × Reached (heardOf h line store memory)
 
 abbrev μ-loop : tie.MeasureT-loop
 μ-loop line₀ store₀ memory₀ room₀ out₀ h₀ more₀ turns₀ line store memory room out h more turns = turns
@@ -20,7 +26,17 @@ start-requires : tie.Need-start-requires Inv-loop μ-loop
 start-requires c κs = search needs
 
 loop-holds : tie.Need-loop-holds Inv-loop μ-loop
-loop-holds c = (refl, refl, refl, refl, refl, omega arith, reached-start (start-made (c .before .before .before .before .before .before .args .line .now) (c .before .before .before .before .before .before .args .memory .now) (c .start .ensures) (c .before .before .before .before .before .before .pre .0)))
+loop-holds c =
+    let before6 = c .before .before .before .before .before .before in (
+      refl,
+      refl,
+      refl,
+      refl,
+      refl,
+      omega arith,
+      reached-start
+          (start-made (before6 .args .line .now) (before6 .args .memory .now) (c .start .ensures) (before6 .pre .0)),
+    )
 
 listen-requires : tie.Need-listen-requires Inv-loop μ-loop
 listen-requires c κs = let i = c .before .before .before .before .before .before .before .loop .inv in
@@ -34,9 +50,18 @@ loop-less : tie.Need-loop-less Inv-loop μ-loop
 loop-less c = omega arith
 
 loop-again : tie.Need-loop-again Inv-loop μ-loop
-loop-again c = let t = c .before .before .before .before .before .before .before .before .before .before .before .listen in
-    let i = c .before .before .before .before .before .before .before .before .before .before .before .before .before .before .before .before .before .before .before .loop .inv in
-    (t .kept .1 .0 ∙ i .0, t .kept .1 .1 .0 ∙ i .1, t .kept .1 .1 .1 .0 ∙ i .2, t .kept .1 .1 .1 .1 .0 ∙ i .3, t .kept .1 .1 .1 .1 .1 .0 ∙ i .4, omega (arith, t .ensures .1, i .0), t .ensures .0 (i .6))
+loop-again c =
+    let before11 = c .before .before .before .before .before .before .before .before .before .before .before in
+    let t = before11 .listen in
+    let i = before11 .before .before .before .before .before .before .before .before .loop .inv in (
+      t .kept .1 .0 ∙ i .0,
+      t .kept .1 .1 .0 ∙ i .1,
+      t .kept .1 .1 .1 .0 ∙ i .2,
+      t .kept .1 .1 .1 .1 .0 ∙ i .3,
+      t .kept .1 .1 .1 .1 .1 .0 ∙ i .4,
+      omega (arith, t .ensures .1, i .0),
+      t .ensures .0 (i .6),
+    )
 
 same-length : tie.Need-same-length Inv-loop μ-loop
 same-length c = c .before .before .loop .inv .0

@@ -47,16 +47,24 @@ same-length-5 : tie.Need-same-length-5
 same-length-5 c = search needs
 
 returns : tie.Need-returns
-returns c = (λ r. reached-more _ (c .before .before .before .before .before .before .before .before .before .before .take-all .ensures .0) r, c .before .before .before .before .before .before .before .before .before .before .take-all .ensures .1)
+returns c =
+    let take-all-ensures = c .before .before .before .before .before .before .before .before .before .before .take-all .ensures in
+    (λ r. reached-more _ (take-all-ensures .0) r, take-all-ensures .1)
 
 answer-requires : tie.Need-answer-requires
 answer-requires c κs = search needs
 
 slice-reshare-prefix-write-all : tie.Need-slice-reshare-prefix-write-all
-slice-reshare-prefix-write-all c = omega (arith, text-within (c .before .before .before .before .before .before .before .before .answer .ensures .1 .0), c .before .before .before .before .before .before .before .before .answer .ensures .1 .0 .room)
+slice-reshare-prefix-write-all c =
+    let answer-ensures-1-0 = c .before .before .before .before .before .before .before .before .answer .ensures .1 .0 in
+    omega (arith, text-within answer-ensures-1-0, answer-ensures-1-0 .room)
 
 slice-aggregate-write-all : tie.Need-slice-aggregate-write-all
-slice-aggregate-write-all c = sym (length-take-le (c .before .before .before .before .before .before .before .before .before .answer .result .end) (c .before .before .before .before .before .before .before .before .before .answer .last .1 .1 .1 .1 .1 .0) (omega (arith, text-within (c .before .before .before .before .before .before .before .before .before .answer .ensures .1 .0), c .before .before .before .before .before .before .before .before .before .answer .ensures .1 .0 .room)))
+slice-aggregate-write-all c =
+    let answer = c .before .before .before .before .before .before .before .before .before .answer in
+    sym
+    (length-take-le (answer .result .end) (answer .last .1 .1 .1 .1 .1 .0)
+    (omega (arith, text-within (answer .ensures .1 .0), answer .ensures .1 .0 .room)))
 
 write-all-requires : tie.Need-write-all-requires
 write-all-requires c κs = search needs
@@ -77,7 +85,9 @@ same-length-10 : tie.Need-same-length-10
 same-length-10 c = search needs
 
 returns-2 : tie.Need-returns-2
-returns-2 c = (λ r. reached-ended (c .before .before .before .before .before .before .before .before .before .before .before .answer .ensures .0) r, omega (arith, c .before .before .before .before .before .before .before .before .before .before .before .answer .ensures .1 .1))
+returns-2 c =
+    let answer-ensures = c .before .before .before .before .before .before .before .before .before .before .before .answer .ensures in
+    (λ r. reached-ended (answer-ensures .0) r, omega (arith, answer-ensures .1 .1))
 
 pub listen-spec : {M : Type 1} → statement M
 listen-spec =

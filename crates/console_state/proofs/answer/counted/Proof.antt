@@ -13,7 +13,10 @@ same-length c = search needs
 
 returns : tie.Need-returns
 unfolding countLine
-returns c = told-refused (c .before .before .before .before .before .before .before .args .v) (oneLine (c .before .before .before .before .before .before .before .args .v .count)) (c .before .before .before .before .if1 .taken) (c .before .before .refusal .ensures .0)
+returns c =
+    let v = c .before .before .before .before .before .before .before .args .v in
+    told-refused v (oneLine (v .count)) (c .before .before .before .before .if1 .taken)
+    (c .before .before .refusal .ensures .0)
 
 one-requires : tie.Need-one-requires
 one-requires c κs = search needs
@@ -23,7 +26,10 @@ same-length-2 c = search needs
 
 returns-2 : tie.Need-returns-2
 unfolding countLine
-returns-2 c = told-accepted (c .before .before .before .before .before .before .before .args .v) (oneLine (c .before .before .before .before .before .before .before .args .v .count)) (c .before .before .before .before .if1 .left) (c .before .before .one .ensures .0)
+returns-2 c =
+    let v = c .before .before .before .before .before .before .before .args .v in
+    told-accepted v (oneLine (v .count)) (c .before .before .before .before .if1 .left)
+    (c .before .before .one .ensures .0)
 
 pub counted-spec : {M : Type 1} → statement M
 counted-spec =

@@ -62,7 +62,9 @@ with-pce-requires : tie.Need-with-pce-requires
 with-pce-requires c κs = tt
 
 opened-requires-2 : tie.Need-opened-requires-2
-opened-requires-2 c κs = omega (arith, c .before .before .before .before .before .before .before .before .before .before .before .before .before .before .before .before .before .before .before .pre .2)
+opened-requires-2 c κs =
+    let before10 = c .before .before .before .before .before .before .before .before .before .before in
+    omega (arith, before10 .before .before .before .before .before .before .before .before .before .pre .2)
 
 ended-requires-4 : tie.Need-ended-requires-4
 ended-requires-4 c κs = tt
@@ -107,7 +109,12 @@ enum-told-9 : tie.Need-enum-told-9
 enum-told-9 c = search needs
 
 begun-requires : tie.Need-begun-requires
-begun-requires c κs = let h = begin-size (c .before .before .before .before .before .before .before .before .before .before .before .before .before .before .before .args .line .now) (c .before .before .before .before .before .before .before .before .before .parse .ensures) (c .before .before .enum-told9 .given .1) in (omega (arith, c .before .before .before .before .before .before .before .before .before .before .before .before .before .before .before .pre .1), omega (arith, c .before .before .before .before .before .before .before .before .before .before .before .before .before .before .before .pre .3))
+begun-requires c κs =
+    let before7 = c .before .before .before .before .before .before .before in
+    let before15 = before7 .before .before .before .before .before .before .before .before in
+    let h = begin-size (before15 .args .line .now) (before7 .before .before .parse .ensures)
+    (c .before .before .enum-told9 .given .1) in
+    (omega (arith, before15 .pre .1), omega (arith, before15 .pre .3))
 
 composed-requires : tie.Need-composed-requires
 composed-requires c κs = tt
@@ -116,7 +123,14 @@ enum-told-10 : tie.Need-enum-told-10
 enum-told-10 c = search needs
 
 added-requires : tie.Need-added-requires
-added-requires c κs = (omega (arith, c .before .before .before .before .before .before .before .before .before .before .before .before .before .before .before .before .pre .0), add-form (c .before .before .before .before .before .before .before .before .before .before .before .before .before .before .before .before .args .line .now) (c .before .before .before .before .before .before .before .before .before .before .parse .ensures) (c .before .before .before .enum-told10 .given .1), omega (arith, c .before .before .before .before .before .before .before .before .before .before .before .before .before .before .before .before .pre .3))
+added-requires c κs =
+    let before10 = c .before .before .before .before .before .before .before .before .before .before in
+    let before16 = before10 .before .before .before .before .before .before in (
+      omega (arith, before16 .pre .0),
+      add-form (before16 .args .line .now) (before10 .parse .ensures)
+          (c .before .before .before .enum-told10 .given .1),
+      omega (arith, before16 .pre .3),
+    )
 
 composed-requires-2 : tie.Need-composed-requires-2
 composed-requires-2 c κs = tt
@@ -203,19 +217,27 @@ ended-requires-13 : tie.Need-ended-requires-13
 ended-requires-13 c κs = tt
 
 returns : tie.Need-returns
-returns c = let a = c .before .before .before .before .before .before .before .before .before .before .before .before .before .before .args in
+returns c =
+    let before8 = c .before .before .before .before .before .before .before .before in
+    let a = before8 .before .before .before .before .before .before .args in
     let k = consoleOf (a .state) (a .store .now) (a .memory .now) in
-    by-verb k (c .before .before .before .before .before .before .before .before .parse .result) (a .line .now) (a .n) v.Skip (c .before .before .before .before .before .before .before .before .parse .ensures) (c .before .enum-told .given .1)
-    (stays-does (a .state) (a .store .now) (a .memory .now) (c .ended .ensures .1) (c .ended .ensures .0) (behind-none (a .out .now) 0))
+    by-verb k (before8 .parse .result) (a .line .now) (a .n) v.Skip (before8 .parse .ensures)
+    (c .before .enum-told .given .1)
+    (stays-does (a .state) (a .store .now) (a .memory .now) (c .ended .ensures .1) (c .ended .ensures .0)
+    (behind-none (a .out .now) 0))
 
 same-length : tie.Need-same-length
 same-length c = search needs
 
 returns-2 : tie.Need-returns-2
-returns-2 c = let a = c .before .before .before .before .before .before .before .before .before .before .before .before .before .before .before .before .before .before .args in
+returns-2 c =
+    let before12 = c .before .before .before .before .before .before .before .before .before .before .before .before in
+    let a = before12 .before .before .before .before .before .before .args in
     let k = consoleOf (a .state) (a .store .now) (a .memory .now) in
-    by-verb k (c .before .before .before .before .before .before .before .before .before .before .before .before .parse .result) (a .line .now) (a .n) v.Bad (c .before .before .before .before .before .before .before .before .before .before .before .before .parse .ensures) (c .before .before .before .before .before .enum-told2 .given .1)
-    (stays-does (a .state) (a .store .now) (a .memory .now) (c .ended2 .ensures .1) (c .ended2 .ensures .0) (c .before .before .before .bad .ensures .0))
+    by-verb k (before12 .parse .result) (a .line .now) (a .n) v.Bad (before12 .parse .ensures)
+    (c .before .before .before .before .before .enum-told2 .given .1)
+    (stays-does (a .state) (a .store .now) (a .memory .now) (c .ended2 .ensures .1) (c .ended2 .ensures .0)
+    (c .before .before .before .bad .ensures .0))
 
 same-length-2 : tie.Need-same-length-2
 same-length-2 c = search needs
@@ -224,10 +246,16 @@ same-length-3 : tie.Need-same-length-3
 same-length-3 c = search needs
 
 returns-3 : tie.Need-returns-3
-returns-3 c = let a = c .before .before .before .before .before .before .before .before .before .before .before .before .before .before .before .before .before .before .before .before .before .before .before .args in
+returns-3 c =
+    let before8 = c .before .before .before .before .before .before .before .before in
+    let before17 = before8 .before .before .before .before .before .before .before .before .before in
+    let a = before17 .before .before .before .before .before .before .args in
     let k = consoleOf (a .state) (a .store .now) (a .memory .now) in
-    by-verb k (c .before .before .before .before .before .before .before .before .before .before .before .before .before .before .before .before .before .parse .result) (a .line .now) (a .n) v.Pcc (c .before .before .before .before .before .before .before .before .before .before .before .before .before .before .before .before .before .parse .ensures) (c .before .before .before .before .before .before .before .before .before .before .enum-told3 .given .1)
-    (pcc-does (a .state) (a .store .now) (a .memory .now) (c .ended3 .ensures .1) (a .line .now) (c .before .before .before .before .before .before .before .before .heard .ensures) (c .ended3 .ensures .0 ∙ c .before .before .before .before .before .with-pcc .ensures) (c .before .before .before .opened .ensures .0))
+    by-verb k (before17 .parse .result) (a .line .now) (a .n) v.Pcc (before17 .parse .ensures)
+    (before8 .before .before .enum-told3 .given .1)
+    (pcc-does (a .state) (a .store .now) (a .memory .now) (c .ended3 .ensures .1) (a .line .now)
+    (before8 .heard .ensures) (c .ended3 .ensures .0 ∙ c .before .before .before .before .before .with-pcc .ensures)
+    (c .before .before .before .opened .ensures .0))
 
 same-length-4 : tie.Need-same-length-4
 same-length-4 c = search needs
@@ -236,10 +264,16 @@ same-length-5 : tie.Need-same-length-5
 same-length-5 c = search needs
 
 returns-4 : tie.Need-returns-4
-returns-4 c = let a = c .before .before .before .before .before .before .before .before .before .before .before .before .before .before .before .before .before .before .before .before .before .before .before .args in
+returns-4 c =
+    let before8 = c .before .before .before .before .before .before .before .before in
+    let before17 = before8 .before .before .before .before .before .before .before .before .before in
+    let a = before17 .before .before .before .before .before .before .args in
     let k = consoleOf (a .state) (a .store .now) (a .memory .now) in
-    by-verb k (c .before .before .before .before .before .before .before .before .before .before .before .before .before .before .before .before .before .parse .result) (a .line .now) (a .n) v.Pce (c .before .before .before .before .before .before .before .before .before .before .before .before .before .before .before .before .before .parse .ensures) (c .before .before .before .before .before .before .before .before .before .before .enum-told4 .given .1)
-    (pce-does (a .state) (a .store .now) (a .memory .now) (c .ended4 .ensures .1) (a .line .now) (c .before .before .before .before .before .before .before .before .heard2 .ensures) (c .ended4 .ensures .0 ∙ c .before .before .before .before .before .with-pce .ensures) (c .before .before .before .opened2 .ensures .0))
+    by-verb k (before17 .parse .result) (a .line .now) (a .n) v.Pce (before17 .parse .ensures)
+    (before8 .before .before .enum-told4 .given .1)
+    (pce-does (a .state) (a .store .now) (a .memory .now) (c .ended4 .ensures .1) (a .line .now)
+    (before8 .heard2 .ensures) (c .ended4 .ensures .0 ∙ c .before .before .before .before .before .with-pce .ensures)
+    (c .before .before .before .opened2 .ensures .0))
 
 same-length-6 : tie.Need-same-length-6
 same-length-6 c = search needs
@@ -248,10 +282,17 @@ same-length-7 : tie.Need-same-length-7
 same-length-7 c = search needs
 
 returns-5 : tie.Need-returns-5
-returns-5 c = let a = c .before .before .before .before .before .before .before .before .before .before .before .before .before .before .before .before .before .before .before .before .before .args in
+returns-5 c =
+    let before12 = c .before .before .before .before .before .before .before .before .before .before .before .before in
+    let before15 = before12 .before .before .before in
+    let a = before15 .before .before .before .before .before .before .args in
     let k = consoleOf (a .state) (a .store .now) (a .memory .now) in
-    by-verb k (c .before .before .before .before .before .before .before .before .before .before .before .before .before .before .before .parse .result) (a .line .now) (a .n) v.Ero (c .before .before .before .before .before .before .before .before .before .before .before .before .before .before .before .parse .ensures) (c .before .before .before .before .before .before .before .before .enum-told5 .given .1)
-    (under (λ (x : Session). stays k (routeLine true x (c .before .before .before .before .before .before .before .before .before .before .before .before .before .before .before .parse .result) (a .line .now))) (c .before .before .before .before .before .before .before .before .before .before .before .before .agree .ensures) (stays-does (a .state) (a .store .now) (a .memory .now) (c .ended5 .ensures .1) (c .ended5 .ensures .0) (c .before .before .before .before .before .judged .ensures)))
+    by-verb k (before15 .parse .result) (a .line .now) (a .n) v.Ero (before15 .parse .ensures)
+    (c .before .before .before .before .before .before .before .before .enum-told5 .given .1)
+    (under (λ (x : Session). stays k (routeLine true x (before15 .parse .result) (a .line .now)))
+    (before12 .agree .ensures)
+    (stays-does (a .state) (a .store .now) (a .memory .now) (c .ended5 .ensures .1) (c .ended5 .ensures .0)
+    (c .before .before .before .before .before .judged .ensures)))
 
 same-length-8 : tie.Need-same-length-8
 same-length-8 c = search needs
@@ -260,10 +301,17 @@ same-length-9 : tie.Need-same-length-9
 same-length-9 c = search needs
 
 returns-6 : tie.Need-returns-6
-returns-6 c = let a = c .before .before .before .before .before .before .before .before .before .before .before .before .before .before .before .before .before .before .before .before .before .args in
+returns-6 c =
+    let before12 = c .before .before .before .before .before .before .before .before .before .before .before .before in
+    let before15 = before12 .before .before .before in
+    let a = before15 .before .before .before .before .before .before .args in
     let k = consoleOf (a .state) (a .store .now) (a .memory .now) in
-    by-verb k (c .before .before .before .before .before .before .before .before .before .before .before .before .before .before .before .parse .result) (a .line .now) (a .n) v.Rro (c .before .before .before .before .before .before .before .before .before .before .before .before .before .before .before .parse .ensures) (c .before .before .before .before .before .before .before .before .enum-told6 .given .1)
-    (under (λ (x : Session). stays k (routeLine false x (c .before .before .before .before .before .before .before .before .before .before .before .before .before .before .before .parse .result) (a .line .now))) (c .before .before .before .before .before .before .before .before .before .before .before .before .agree .ensures) (stays-does (a .state) (a .store .now) (a .memory .now) (c .ended6 .ensures .1) (c .ended6 .ensures .0) (c .before .before .before .before .before .judged2 .ensures)))
+    by-verb k (before15 .parse .result) (a .line .now) (a .n) v.Rro (before15 .parse .ensures)
+    (c .before .before .before .before .before .before .before .before .enum-told6 .given .1)
+    (under (λ (x : Session). stays k (routeLine false x (before15 .parse .result) (a .line .now)))
+    (before12 .agree .ensures)
+    (stays-does (a .state) (a .store .now) (a .memory .now) (c .ended6 .ensures .1) (c .ended6 .ensures .0)
+    (c .before .before .before .before .before .judged2 .ensures)))
 
 same-length-10 : tie.Need-same-length-10
 same-length-10 c = search needs
@@ -272,10 +320,17 @@ same-length-11 : tie.Need-same-length-11
 same-length-11 c = search needs
 
 returns-7 : tie.Need-returns-7
-returns-7 c = let a = c .before .before .before .before .before .before .before .before .before .before .before .before .before .before .before .before .before .before .before .before .before .args in
+returns-7 c =
+    let before12 = c .before .before .before .before .before .before .before .before .before .before .before .before in
+    let before15 = before12 .before .before .before in
+    let a = before15 .before .before .before .before .before .before .args in
     let k = consoleOf (a .state) (a .store .now) (a .memory .now) in
-    by-verb k (c .before .before .before .before .before .before .before .before .before .before .before .before .before .before .before .parse .result) (a .line .now) (a .n) v.EroSegment (c .before .before .before .before .before .before .before .before .before .before .before .before .before .before .before .parse .ensures) (c .before .before .before .before .before .before .before .before .enum-told7 .given .1)
-    (under (λ (x : Session). stays k (segmentAnswer true x (c .before .before .before .before .before .before .before .before .before .before .before .before .before .before .before .parse .result) (a .line .now))) (c .before .before .before .before .before .before .before .before .before .before .before .before .agree .ensures) (stays-does (a .state) (a .store .now) (a .memory .now) (c .ended7 .ensures .1) (c .ended7 .ensures .0) (c .before .before .before .before .before .picked .ensures)))
+    by-verb k (before15 .parse .result) (a .line .now) (a .n) v.EroSegment (before15 .parse .ensures)
+    (c .before .before .before .before .before .before .before .before .enum-told7 .given .1)
+    (under (λ (x : Session). stays k (segmentAnswer true x (before15 .parse .result) (a .line .now)))
+    (before12 .agree .ensures)
+    (stays-does (a .state) (a .store .now) (a .memory .now) (c .ended7 .ensures .1) (c .ended7 .ensures .0)
+    (c .before .before .before .before .before .picked .ensures)))
 
 same-length-12 : tie.Need-same-length-12
 same-length-12 c = search needs
@@ -284,10 +339,17 @@ same-length-13 : tie.Need-same-length-13
 same-length-13 c = search needs
 
 returns-8 : tie.Need-returns-8
-returns-8 c = let a = c .before .before .before .before .before .before .before .before .before .before .before .before .before .before .before .before .before .before .before .before .before .args in
+returns-8 c =
+    let before12 = c .before .before .before .before .before .before .before .before .before .before .before .before in
+    let before15 = before12 .before .before .before in
+    let a = before15 .before .before .before .before .before .before .args in
     let k = consoleOf (a .state) (a .store .now) (a .memory .now) in
-    by-verb k (c .before .before .before .before .before .before .before .before .before .before .before .before .before .before .before .parse .result) (a .line .now) (a .n) v.RroSegment (c .before .before .before .before .before .before .before .before .before .before .before .before .before .before .before .parse .ensures) (c .before .before .before .before .before .before .before .before .enum-told8 .given .1)
-    (under (λ (x : Session). stays k (segmentAnswer false x (c .before .before .before .before .before .before .before .before .before .before .before .before .before .before .before .parse .result) (a .line .now))) (c .before .before .before .before .before .before .before .before .before .before .before .before .agree .ensures) (stays-does (a .state) (a .store .now) (a .memory .now) (c .ended8 .ensures .1) (c .ended8 .ensures .0) (c .before .before .before .before .before .picked2 .ensures)))
+    by-verb k (before15 .parse .result) (a .line .now) (a .n) v.RroSegment (before15 .parse .ensures)
+    (c .before .before .before .before .before .before .before .before .enum-told8 .given .1)
+    (under (λ (x : Session). stays k (segmentAnswer false x (before15 .parse .result) (a .line .now)))
+    (before12 .agree .ensures)
+    (stays-does (a .state) (a .store .now) (a .memory .now) (c .ended8 .ensures .1) (c .ended8 .ensures .0)
+    (c .before .before .before .before .before .picked2 .ensures)))
 
 same-length-14 : tie.Need-same-length-14
 same-length-14 c = search needs
@@ -296,10 +358,17 @@ same-length-15 : tie.Need-same-length-15
 same-length-15 c = search needs
 
 returns-9 : tie.Need-returns-9
-returns-9 c = let a = c .before .before .before .before .before .before .before .before .before .before .before .before .before .before .before .before .before .before .before .before .before .args in
+returns-9 c =
+    let before5 = c .before .before .before .before .before in
+    let before15 = before5 .before .before .before .before .before .before .before .before .before .before in
+    let a = before15 .before .before .before .before .before .before .args in
     let k = consoleOf (a .state) (a .store .now) (a .memory .now) in
-    by-verb k (c .before .before .before .before .before .before .before .before .before .before .before .before .before .before .before .parse .result) (a .line .now) (a .n) v.Begin (c .before .before .before .before .before .before .before .before .before .before .before .before .before .before .before .parse .ensures) (c .before .before .before .before .before .before .before .before .enum-told9 .given .1)
-    (composes-does (a .state) (a .store .now) (a .memory .now) (c .composed .ensures .1) (beginTurn (a .state .writer) (take (a .state .size) (a .memory .now)) (c .before .before .before .before .before .before .before .before .before .before .before .before .before .before .before .parse .result)) (c .before .before .before .before .before .begun .last .1 .1 .1 .0) (c .composed .ensures .0) (c .before .before .before .before .before .begun .ensures .0) (c .before .before .before .before .before .begun .ensures .1 .0) (c .before .before .before .before .before .begun .ensures .1 .1))
+    by-verb k (before15 .parse .result) (a .line .now) (a .n) v.Begin (before15 .parse .ensures)
+    (before5 .before .before .before .enum-told9 .given .1)
+    (composes-does (a .state) (a .store .now) (a .memory .now) (c .composed .ensures .1)
+    (beginTurn (a .state .writer) (take (a .state .size) (a .memory .now)) (before15 .parse .result))
+    (before5 .begun .last .1 .1 .1 .0) (c .composed .ensures .0) (before5 .begun .ensures .0)
+    (before5 .begun .ensures .1 .0) (before5 .begun .ensures .1 .1))
 
 same-length-16 : tie.Need-same-length-16
 same-length-16 c = search needs
@@ -311,10 +380,17 @@ same-length-18 : tie.Need-same-length-18
 same-length-18 c = search needs
 
 returns-10 : tie.Need-returns-10
-returns-10 c = let a = c .before .before .before .before .before .before .before .before .before .before .before .before .before .before .before .before .before .before .before .before .before .before .before .before .args in
+returns-10 c =
+    let before7 = c .before .before .before .before .before .before .before in
+    let before18 = before7 .before .before .before .before .before .before .before .before .before .before .before in
+    let a = before18 .before .before .before .before .before .before .args in
     let k = consoleOf (a .state) (a .store .now) (a .memory .now) in
-    by-verb k (c .before .before .before .before .before .before .before .before .before .before .before .before .before .before .before .before .before .before .parse .result) (a .line .now) (a .n) v.Add (c .before .before .before .before .before .before .before .before .before .before .before .before .before .before .before .before .before .before .parse .ensures) (c .before .before .before .before .before .before .before .before .before .before .before .enum-told10 .given .1)
-    (composes-does (a .state) (a .store .now) (a .memory .now) (c .composed2 .ensures .1) (addTurn (a .state .writer) (take (a .state .size) (a .memory .now)) (c .before .before .before .before .before .before .before .before .before .before .before .before .before .before .before .before .before .before .parse .result) (a .line .now)) (c .before .before .before .before .before .before .before .added .last .1 .1 .1 .1 .0) (c .composed2 .ensures .0) (c .before .before .before .before .before .before .before .added .ensures .0) (c .before .before .before .before .before .before .before .added .ensures .1 .0) (c .before .before .before .before .before .before .before .added .ensures .1 .1))
+    by-verb k (before18 .parse .result) (a .line .now) (a .n) v.Add (before18 .parse .ensures)
+    (before7 .before .before .before .before .enum-told10 .given .1)
+    (composes-does (a .state) (a .store .now) (a .memory .now) (c .composed2 .ensures .1)
+    (addTurn (a .state .writer) (take (a .state .size) (a .memory .now)) (before18 .parse .result) (a .line .now))
+    (before7 .added .last .1 .1 .1 .1 .0) (c .composed2 .ensures .0) (before7 .added .ensures .0)
+    (before7 .added .ensures .1 .0) (before7 .added .ensures .1 .1))
 
 same-length-19 : tie.Need-same-length-19
 same-length-19 c = search needs
@@ -323,10 +399,17 @@ same-length-20 : tie.Need-same-length-20
 same-length-20 c = search needs
 
 returns-11 : tie.Need-returns-11
-returns-11 c = let a = c .before .before .before .before .before .before .before .before .before .before .before .before .before .before .before .before .before .before .before .before .before .args in
+returns-11 c =
+    let before5 = c .before .before .before .before .before in
+    let before15 = before5 .before .before .before .before .before .before .before .before .before .before in
+    let a = before15 .before .before .before .before .before .before .args in
     let k = consoleOf (a .state) (a .store .now) (a .memory .now) in
-    by-verb k (c .before .before .before .before .before .before .before .before .before .before .before .before .before .before .before .parse .result) (a .line .now) (a .n) v.Finish (c .before .before .before .before .before .before .before .before .before .before .before .before .before .before .before .parse .ensures) (c .before .before .before .before .before .before .before .before .enum-told11 .given .1)
-    (composes-does (a .state) (a .store .now) (a .memory .now) (c .composed3 .ensures .1) (finishTurn (a .state .writer) (take (a .state .size) (a .memory .now))) (c .before .before .before .before .before .finished .last .1 .1 .0) (c .composed3 .ensures .0) (c .before .before .before .before .before .finished .ensures .0) (c .before .before .before .before .before .finished .ensures .1 .0) (c .before .before .before .before .before .finished .ensures .1 .1))
+    by-verb k (before15 .parse .result) (a .line .now) (a .n) v.Finish (before15 .parse .ensures)
+    (before5 .before .before .before .enum-told11 .given .1)
+    (composes-does (a .state) (a .store .now) (a .memory .now) (c .composed3 .ensures .1)
+    (finishTurn (a .state .writer) (take (a .state .size) (a .memory .now))) (before5 .finished .last .1 .1 .0)
+    (c .composed3 .ensures .0) (before5 .finished .ensures .0) (before5 .finished .ensures .1 .0)
+    (before5 .finished .ensures .1 .1))
 
 same-length-21 : tie.Need-same-length-21
 same-length-21 c = search needs
@@ -335,10 +418,14 @@ same-length-22 : tie.Need-same-length-22
 same-length-22 c = search needs
 
 returns-12 : tie.Need-returns-12
-returns-12 c = let a = c .before .before .before .before .before .before .before .before .before .before .before .before .before .before .before .before .before .before .before .args in
+returns-12 c =
+    let before13 = c .before .before .before .before .before .before .before .before .before .before .before .before .before in
+    let a = before13 .before .before .before .before .before .before .args in
     let k = consoleOf (a .state) (a .store .now) (a .memory .now) in
-    by-verb k (c .before .before .before .before .before .before .before .before .before .before .before .before .before .parse .result) (a .line .now) (a .n) v.Lent (c .before .before .before .before .before .before .before .before .before .before .before .before .before .parse .ensures) (c .before .before .before .before .before .before .enum-told12 .given .1)
-    (stays-does (a .state) (a .store .now) (a .memory .now) (c .ended9 .ensures .1) (c .ended9 .ensures .0) (c .before .before .before .shown .ensures))
+    by-verb k (before13 .parse .result) (a .line .now) (a .n) v.Lent (before13 .parse .ensures)
+    (c .before .before .before .before .before .before .enum-told12 .given .1)
+    (stays-does (a .state) (a .store .now) (a .memory .now) (c .ended9 .ensures .1) (c .ended9 .ensures .0)
+    (c .before .before .before .shown .ensures))
 
 same-length-23 : tie.Need-same-length-23
 same-length-23 c = search needs
@@ -350,10 +437,20 @@ same-length-25 : tie.Need-same-length-25
 same-length-25 c = search needs
 
 returns-13 : tie.Need-returns-13
-returns-13 c = let a = c .before .before .before .before .before .before .before .before .before .before .before .before .before .before .before .before .before .before .before .before .before .before .before .before .args in
+returns-13 c =
+    let before7 = c .before .before .before .before .before .before .before in
+    let before15 = before7 .before .before .before .before .before .before .before .before in
+    let parse = before15 .before .before .before .parse in
+    let a = before15 .before .before .before .before .before .before .before .before .before .args in
     let k = consoleOf (a .state) (a .store .now) (a .memory .now) in
-    by-verb k (c .before .before .before .before .before .before .before .before .before .before .before .before .before .before .before .before .before .before .parse .result) (a .line .now) (a .n) v.Report (c .before .before .before .before .before .before .before .before .before .before .before .before .before .before .before .before .before .before .parse .ensures) (c .before .before .before .before .before .before .before .before .before .before .before .enum-told13 .given .1)
-    (under (λ (x : Session). boards k (reportTurn (a .state .board) (a .store .now) x (c .before .before .before .before .before .before .before .before .before .before .before .before .before .before .before .before .before .before .parse .result) (a .line .now))) (c .before .before .before .before .before .before .before .before .before .before .before .before .before .before .before .agree .ensures) (boards-does (a .state) (a .store .now) (a .memory .now) (c .boarded .ensures .1) (reportTurn (a .state .board) (a .store .now) (c .before .before .before .before .before .before .before .before .before .before .before .before .before .before .before .agree .result) (c .before .before .before .before .before .before .before .before .before .before .before .before .before .before .before .before .before .before .parse .result) (a .line .now)) (c .boarded .ensures .0) (c .before .before .before .before .before .before .before .reported .ensures .0) (c .before .before .before .before .before .before .before .reported .ensures .1 .0) (c .before .before .before .before .before .before .before .reported .ensures .1 .1)))
+    by-verb k (parse .result) (a .line .now) (a .n) v.Report (parse .ensures)
+    (before7 .before .before .before .before .enum-told13 .given .1)
+    (under (λ (x : Session). boards k (reportTurn (a .state .board) (a .store .now) x (parse .result) (a .line .now)))
+    (before15 .agree .ensures)
+    (boards-does (a .state) (a .store .now) (a .memory .now) (c .boarded .ensures .1)
+    (reportTurn (a .state .board) (a .store .now) (before15 .agree .result) (parse .result) (a .line .now))
+    (c .boarded .ensures .0) (before7 .reported .ensures .0) (before7 .reported .ensures .1 .0)
+    (before7 .reported .ensures .1 .1)))
 
 same-length-26 : tie.Need-same-length-26
 same-length-26 c = search needs
@@ -362,10 +459,15 @@ same-length-27 : tie.Need-same-length-27
 same-length-27 c = search needs
 
 returns-14 : tie.Need-returns-14
-returns-14 c = let a = c .before .before .before .before .before .before .before .before .before .before .before .before .before .before .before .before .before .before .before .args in
+returns-14 c =
+    let before13 = c .before .before .before .before .before .before .before .before .before .before .before .before .before in
+    let a = before13 .before .before .before .before .before .before .args in
     let k = consoleOf (a .state) (a .store .now) (a .memory .now) in
-    by-verb k (c .before .before .before .before .before .before .before .before .before .before .before .before .before .parse .result) (a .line .now) (a .n) v.Remove (c .before .before .before .before .before .before .before .before .before .before .before .before .before .parse .ensures) (c .before .before .before .before .before .before .enum-told14 .given .1)
-    (boards-does (a .state) (a .store .now) (a .memory .now) (c .boarded2 .ensures .1) (removeTurn (a .state .board) (a .store .now) (c .before .before .before .before .before .before .before .before .before .before .before .before .before .parse .result)) (c .boarded2 .ensures .0) (c .before .before .before .removed .ensures .0) (refl) (c .before .before .before .removed .ensures .1))
+    by-verb k (before13 .parse .result) (a .line .now) (a .n) v.Remove (before13 .parse .ensures)
+    (c .before .before .before .before .before .before .enum-told14 .given .1)
+    (boards-does (a .state) (a .store .now) (a .memory .now) (c .boarded2 .ensures .1)
+    (removeTurn (a .state .board) (a .store .now) (before13 .parse .result)) (c .boarded2 .ensures .0)
+    (c .before .before .before .removed .ensures .0) (refl) (c .before .before .before .removed .ensures .1))
 
 same-length-28 : tie.Need-same-length-28
 same-length-28 c = search needs
@@ -374,10 +476,15 @@ same-length-29 : tie.Need-same-length-29
 same-length-29 c = search needs
 
 returns-15 : tie.Need-returns-15
-returns-15 c = let a = c .before .before .before .before .before .before .before .before .before .before .before .before .before .before .before .before .before .before .before .args in
+returns-15 c =
+    let before13 = c .before .before .before .before .before .before .before .before .before .before .before .before .before in
+    let a = before13 .before .before .before .before .before .before .args in
     let k = consoleOf (a .state) (a .store .now) (a .memory .now) in
-    by-verb k (c .before .before .before .before .before .before .before .before .before .before .before .before .before .parse .result) (a .line .now) (a .n) v.Compact (c .before .before .before .before .before .before .before .before .before .before .before .before .before .parse .ensures) (c .before .before .before .before .before .before .enum-told15 .given .1)
-    (boards-does (a .state) (a .store .now) (a .memory .now) (c .boarded3 .ensures .1) (compactTurn (a .state .board) (a .store .now) (c .before .before .before .before .before .before .before .before .before .before .before .before .before .parse .result)) (c .boarded3 .ensures .0) (c .before .before .before .compacted .ensures .0) (refl) (c .before .before .before .compacted .ensures .1))
+    by-verb k (before13 .parse .result) (a .line .now) (a .n) v.Compact (before13 .parse .ensures)
+    (c .before .before .before .before .before .before .enum-told15 .given .1)
+    (boards-does (a .state) (a .store .now) (a .memory .now) (c .boarded3 .ensures .1)
+    (compactTurn (a .state .board) (a .store .now) (before13 .parse .result)) (c .boarded3 .ensures .0)
+    (c .before .before .before .compacted .ensures .0) (refl) (c .before .before .before .compacted .ensures .1))
 
 same-length-30 : tie.Need-same-length-30
 same-length-30 c = search needs
@@ -386,10 +493,14 @@ same-length-31 : tie.Need-same-length-31
 same-length-31 c = search needs
 
 returns-16 : tie.Need-returns-16
-returns-16 c = let a = c .before .before .before .before .before .before .before .before .before .before .before .before .before .before .before .before .before .before .before .args in
+returns-16 c =
+    let before13 = c .before .before .before .before .before .before .before .before .before .before .before .before .before in
+    let a = before13 .before .before .before .before .before .before .args in
     let k = consoleOf (a .state) (a .store .now) (a .memory .now) in
-    by-verb k (c .before .before .before .before .before .before .before .before .before .before .before .before .before .parse .result) (a .line .now) (a .n) v.Body (c .before .before .before .before .before .before .before .before .before .before .before .before .before .parse .ensures) (c .before .before .before .before .before .before .enum-told16 .given .1)
-    (stays-does (a .state) (a .store .now) (a .memory .now) (c .ended10 .ensures .1) (c .ended10 .ensures .0) (c .before .before .before .body .ensures))
+    by-verb k (before13 .parse .result) (a .line .now) (a .n) v.Body (before13 .parse .ensures)
+    (c .before .before .before .before .before .before .enum-told16 .given .1)
+    (stays-does (a .state) (a .store .now) (a .memory .now) (c .ended10 .ensures .1) (c .ended10 .ensures .0)
+    (c .before .before .before .body .ensures))
 
 same-length-32 : tie.Need-same-length-32
 same-length-32 c = search needs
@@ -398,28 +509,40 @@ same-length-33 : tie.Need-same-length-33
 same-length-33 c = search needs
 
 returns-17 : tie.Need-returns-17
-returns-17 c = let a = c .before .before .before .before .before .before .before .before .before .before .before .before .before .before .before .before .before .before .before .args in
+returns-17 c =
+    let before13 = c .before .before .before .before .before .before .before .before .before .before .before .before .before in
+    let a = before13 .before .before .before .before .before .before .args in
     let k = consoleOf (a .state) (a .store .now) (a .memory .now) in
-    by-verb k (c .before .before .before .before .before .before .before .before .before .before .before .before .before .parse .result) (a .line .now) (a .n) v.Next (c .before .before .before .before .before .before .before .before .before .before .before .before .before .parse .ensures) (c .before .before .before .before .before .before .enum-told17 .given .1)
-    (stays-does (a .state) (a .store .now) (a .memory .now) (c .ended11 .ensures .1) (c .ended11 .ensures .0) (c .before .before .before .next .ensures))
+    by-verb k (before13 .parse .result) (a .line .now) (a .n) v.Next (before13 .parse .ensures)
+    (c .before .before .before .before .before .before .enum-told17 .given .1)
+    (stays-does (a .state) (a .store .now) (a .memory .now) (c .ended11 .ensures .1) (c .ended11 .ensures .0)
+    (c .before .before .before .next .ensures))
 
 same-length-34 : tie.Need-same-length-34
 same-length-34 c = search needs
 
 returns-18 : tie.Need-returns-18
-returns-18 c = let a = c .before .before .before .before .before .before .before .before .before .before .before .before .before .before .before .before .before .before .args in
+returns-18 c =
+    let before12 = c .before .before .before .before .before .before .before .before .before .before .before .before in
+    let a = before12 .before .before .before .before .before .before .args in
     let k = consoleOf (a .state) (a .store .now) (a .memory .now) in
-    by-verb k (c .before .before .before .before .before .before .before .before .before .before .before .before .parse .result) (a .line .now) (a .n) v.Mark (c .before .before .before .before .before .before .before .before .before .before .before .before .parse .ensures) (c .before .before .before .before .before .enum-told18 .given .1)
-    (stays-does (a .state) (a .store .now) (a .memory .now) (c .ended12 .ensures .1) (c .ended12 .ensures .0) (c .before .before .before .mark .ensures))
+    by-verb k (before12 .parse .result) (a .line .now) (a .n) v.Mark (before12 .parse .ensures)
+    (c .before .before .before .before .before .enum-told18 .given .1)
+    (stays-does (a .state) (a .store .now) (a .memory .now) (c .ended12 .ensures .1) (c .ended12 .ensures .0)
+    (c .before .before .before .mark .ensures))
 
 same-length-35 : tie.Need-same-length-35
 same-length-35 c = search needs
 
 returns-19 : tie.Need-returns-19
-returns-19 c = let a = c .before .before .before .before .before .before .before .before .before .before .before .before .before .before .before .before .before .before .args in
+returns-19 c =
+    let before12 = c .before .before .before .before .before .before .before .before .before .before .before .before in
+    let a = before12 .before .before .before .before .before .before .args in
     let k = consoleOf (a .state) (a .store .now) (a .memory .now) in
-    by-verb k (c .before .before .before .before .before .before .before .before .before .before .before .before .parse .result) (a .line .now) (a .n) v.Board (c .before .before .before .before .before .before .before .before .before .before .before .before .parse .ensures) (c .before .before .before .before .before .enum-told19 .given .1)
-    (stays-does (a .state) (a .store .now) (a .memory .now) (c .ended13 .ensures .1) (c .ended13 .ensures .0) (c .before .before .before .numbers .ensures))
+    by-verb k (before12 .parse .result) (a .line .now) (a .n) v.Board (before12 .parse .ensures)
+    (c .before .before .before .before .before .enum-told19 .given .1)
+    (stays-does (a .state) (a .store .now) (a .memory .now) (c .ended13 .ensures .1) (c .ended13 .ensures .0)
+    (c .before .before .before .numbers .ensures))
 
 pub answered-spec : {M : Type 1} → statement M
 answered-spec =

@@ -35,16 +35,31 @@ same-length : tie.Need-same-length
 same-length c = search needs
 
 returns : tie.Need-returns
-returns c = let a = c .before .before .before .before .before .before .before .before .before .before .before .before .before .before .before .args in
-    let e = c .before .before .before .before .before .before .before .before .begin .ensures .0 ∙ begin-trial _ (a .c .two) (a .old) (a .c .ero) (omega (arith, c .before .before .before .before .before .before .before .before .before .before .fit .ensures .0 .1, c .before .before .before .before .before .before .before .before .before .before .fit .ensures .1, c .before .before .before .before .before .before .before .before .before .before .before .before .narrow .ensures)) in
-    let h = rw e at (c .before .before .before .before .if1 .taken) in
-    (begin-keeps (freshBuffer (a .c .two)) (a .old) (a .c .ero) h, (kept-old _ _ _ h, rw (← e) (c .before .before .placed .ensures)))
+returns c =
+    let before8 = c .before .before .before .before .before .before .before .before in
+    let a = before8 .before .before .before .before .before .before .before .args in
+    let e = before8 .begin .ensures .0
+    ∙ begin-trial _ (a .c .two) (a .old) (a .c .ero)
+    (omega (
+      arith,
+      before8 .before .before .fit .ensures .0 .1,
+      before8 .before .before .fit .ensures .1,
+      before8 .before .before .before .before .narrow .ensures,
+    )) in
+    let h = rw e at (c .before .before .before .before .if1 .taken) in (
+      begin-keeps (freshBuffer (a .c .two)) (a .old) (a .c .ero) h,
+      (kept-old _ _ _ h, rw (← e) (c .before .before .placed .ensures)),
+    )
 
 slice-relend-prefix-fresh : tie.Need-slice-relend-prefix-fresh
 slice-relend-prefix-fresh c = search needs
 
 slice-aggregate-fresh : tie.Need-slice-aggregate-fresh
-slice-aggregate-fresh c = let h : c .before .before .before .before .before .before .before .before .before .narrow .result ≤ length (c .before .before .before .before .before .before .before .before .before .before .before .before .args .memory .now) = omega (arith, c .before .before .before .before .before .before .before .before .before .narrow .ensures, c .before .before .before .before .before .before .before .before .before .before .before .before .pre .0) in sym (length-take-le (c .before .before .before .before .before .before .before .before .before .narrow .result) (c .before .before .before .before .before .before .before .before .before .before .before .before .args .memory .now) h)
+slice-aggregate-fresh c =
+    let before9 = c .before .before .before .before .before .before .before .before .before in
+    let h : before9 .narrow .result ≤ length (before9 .before .before .before .args .memory .now) = omega
+    (arith, before9 .narrow .ensures, before9 .before .before .before .pre .0) in
+    sym (length-take-le (before9 .narrow .result) (before9 .before .before .before .args .memory .now) h)
 
 fresh-requires : tie.Need-fresh-requires
 fresh-requires c κs = search needs
@@ -59,17 +74,28 @@ same-length-3 : tie.Need-same-length-3
 same-length-3 c = search needs
 
 returns-2 : tie.Need-returns-2
-returns-2 c = let a = c .before .before .before .before .before .before .before .before .before .before .before .before .before .before .before .before .before .before .before .before .args in
-    let new = c .before .before .before .before .before .before .before .before .before .before .before .before .before .before .before .before .before .narrow .result in
+returns-2 c =
+    let before7 = c .before .before .before .before .before .before .before in
+    let before15 = before7 .before .before .before .before .before .before .before .before in
+    let narrow = before15 .before .before .narrow in
+    let new = narrow .result in
+    let a = before15 .before .before .before .before .before .args in
     let m = a .memory .now in
-    let k : new ≤ length m = omega (arith, c .before .before .before .before .before .before .before .before .before .before .before .before .before .before .before .before .before .narrow .ensures, c .before .before .before .before .before .before .before .before .before .before .before .before .before .before .before .before .before .before .before .before .pre .0) in
+    let k : new ≤ length m = omega (arith, narrow .ensures, before15 .before .before .before .before .before .pre .0) in
     let l = length-take-le new m k in
-    let n = l ∙ c .before .before .before .before .before .before .before .before .before .before .before .before .before .before .before .before .before .narrow .ensures in
-    let t = c .before .before .before .before .before .before .before .before .before .before .before .before .before .begin .ensures .0 ∙ begin-trial _ (a .c .two) (a .old) (a .c .ero) (omega (arith, c .before .before .before .before .before .before .before .before .before .before .before .before .before .before .before .fit .ensures .0 .1, c .before .before .before .before .before .before .before .before .before .before .before .before .before .before .before .fit .ensures .1, c .before .before .before .before .before .before .before .before .before .before .before .before .before .before .before .before .before .narrow .ensures)) in
-    let z = rw t at (c .before .before .before .before .before .before .before .before .before .if1 .left) in
-    let e = c .before .before .before .before .before .before .before .fresh .ensures .0 ∙ ap (λ (x : ℕ). beginAnswer (freshBuffer x) (a .old) (a .c .ero)) n in
-    let b = c .before .before .before .before .before .before .before .fresh .ensures .1 ∙ ap (λ (x : ℕ). beginBuffer (freshBuffer x) (a .old) (a .c .ero)) n in
-    (rw (← e), (take-at (c .before .before .before .before .before .before .before .fresh .last .0) (drop new m) new (c .before .before .before .before .before .before .before .fresh .kept .0 ∙ l) ∙ (b ∙ kept-new _ _ _ z), rw (← e) (c .before .before .placed2 .ensures)))
+    let n = l ∙ narrow .ensures in
+    let t = before7 .before .before .before .before .before .before .begin .ensures .0
+    ∙ begin-trial _ (a .c .two) (a .old) (a .c .ero)
+    (omega (arith, before15 .fit .ensures .0 .1, before15 .fit .ensures .1, narrow .ensures)) in
+    let z = rw t at (before7 .before .before .if1 .left) in
+    let e = before7 .fresh .ensures .0 ∙ ap (λ (x : ℕ). beginAnswer (freshBuffer x) (a .old) (a .c .ero)) n in
+    let b = before7 .fresh .ensures .1 ∙ ap (λ (x : ℕ). beginBuffer (freshBuffer x) (a .old) (a .c .ero)) n in (
+      rw (← e),
+      (
+        take-at (before7 .fresh .last .0) (drop new m) new (before7 .fresh .kept .0 ∙ l) ∙ (b ∙ kept-new _ _ _ z),
+        rw (← e) (c .before .before .placed2 .ensures),
+      ),
+    )
 
 pub begun-spec : {M : Type 1} → statement M
 begun-spec =

@@ -20,8 +20,16 @@ same-length-2 c = search needs
 
 returns : tie.Need-returns
 unfolding finishLine
-returns c = let w = c .before .before .before .before .before .before .before .before .before .before .finish in
-    (rw (← w .ensures .0), (w .ensures .1, rw (← w .ensures .0, ← w .ensures .1) (told-refused (w .result .verdict) (octetsLine (take (w .result .writer .at) (w .last .0))) (c .before .before .before .before .if1 .taken) (c .before .before .refusal .ensures .0))))
+returns c =
+    let w = c .before .before .before .before .before .before .before .before .before .before .finish in (
+      rw (← w .ensures .0),
+      (
+        w .ensures .1,
+        rw (← w .ensures .0, ← w .ensures .1)
+            (told-refused (w .result .verdict) (octetsLine (take (w .result .writer .at) (w .last .0)))
+            (c .before .before .before .before .if1 .taken) (c .before .before .refusal .ensures .0)),
+      ),
+    )
 
 fit-requires : tie.Need-fit-requires
 fit-requires c κs = search needs
@@ -43,8 +51,21 @@ same-length-4 c = search needs
 
 returns-2 : tie.Need-returns-2
 unfolding finishLine
-returns-2 c = let w = c .before .before .before .before .before .before .before .before .before .before .before .before .before .finish in
-    (rw (← w .ensures .0), (w .ensures .1, rw (← w .ensures .0, ← w .ensures .1, ← take-fit (w .result .writer .at) (w .last .0) (c .before .before .before .before .before .fit .ensures .1)) (told-accepted (w .result .verdict) (octetsLine (take (c .before .before .before .before .before .fit .result) (w .last .0))) (c .before .before .before .before .before .before .before .if1 .left) (c .before .before .octets .ensures .0))))
+returns-2 c =
+    let before5 = c .before .before .before .before .before in
+    let w = before5 .before .before .before .before .before .before .before .before .finish in (
+      rw (← w .ensures .0),
+      (
+        w .ensures .1,
+        rw (
+          ← w .ensures .0,
+          ← w .ensures .1,
+          ← take-fit (w .result .writer .at) (w .last .0) (before5 .fit .ensures .1),
+        )
+            (told-accepted (w .result .verdict) (octetsLine (take (before5 .fit .result) (w .last .0)))
+            (before5 .before .before .if1 .left) (c .before .before .octets .ensures .0)),
+      ),
+    )
 
 pub close-spec : {M : Type 1} → statement M
 close-spec =

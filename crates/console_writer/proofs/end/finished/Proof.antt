@@ -27,11 +27,18 @@ same-length-2 : tie.Need-same-length-2
 same-length-2 c = search needs
 
 returns : tie.Need-returns
-returns c = let a = c .before .before .before .before .before .before .before .before .before .before .before .before .args in
-    let f = c .before .before .before .before .before .before .before .before .fit .ensures in
+returns c =
     let r = c .before .before .before .before .before .close in
-    let s = take-fit (a .size) (a .memory .now) (f .1) in
-    (rw (← s) (r .ensures .0), (lent-back (a .size) (a .memory .now) (r .last .0) (f .1) (r .kept .0 ∙ sym (f .0 .1)) ∙ (r .ensures .1 .0 ∙ ap (λ (x : List ℕ). finishBuffer x (a .old)) s), rw (← s) (r .ensures .1 .1)))
+    let f = c .before .before .before .before .before .before .before .before .fit .ensures in
+    let a = c .before .before .before .before .before .before .before .before .before .before .before .before .args in
+    let s = take-fit (a .size) (a .memory .now) (f .1) in (
+      rw (← s) (r .ensures .0),
+      (
+        lent-back (a .size) (a .memory .now) (r .last .0) (f .1) (r .kept .0 ∙ sym (f .0 .1))
+            ∙ (r .ensures .1 .0 ∙ ap (λ (x : List ℕ). finishBuffer x (a .old)) s),
+        rw (← s) (r .ensures .1 .1),
+      ),
+    )
 
 pub finished-spec : {M : Type 1} → statement M
 finished-spec =

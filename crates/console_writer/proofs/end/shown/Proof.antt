@@ -16,7 +16,10 @@ same-length : tie.Need-same-length
 same-length c = search needs
 
 returns : tie.Need-returns
-returns c = let a = c .before .before .before .before .before .before .before .before .args in rw (← take-fit (a .size) (a .memory .now) (c .before .before .before .before .before .fit .ensures .1)) (c .before .before .octets .ensures .0)
+returns c =
+    let a = c .before .before .before .before .before .before .before .before .args in
+    rw (← take-fit (a .size) (a .memory .now) (c .before .before .before .before .before .fit .ensures .1))
+    (c .before .before .octets .ensures .0)
 
 pub shown-spec : {M : Type 1} → statement M
 shown-spec =

@@ -38,13 +38,26 @@ same-length-3 : tie.Need-same-length-3
 same-length-3 c = search needs
 
 returns : tie.Need-returns
-returns c = let a = c .before .before .before .before .before .before .before .before .before .before .before .before .before .before .before .before .before .before .before .args in
-    let f = c .before .before .before .before .before .before .before .before .before .before .before .before .before .fit .ensures in
+returns c =
+    let before7 = c .before .before .before .before .before .before .before in
+    let before11 = before7 .before .before .before .before in
+    let f = before11 .before .before .fit .ensures in
+    let a = before11 .before .before .before .before .before .before .before .before .args in
     let s = take-fit (a .size) (a .memory .now) (f .1) in
-    let g = c .before .before .before .before .before .before .before .before .before .before .before .segment-in .ensures .0 in
-    let e = c .before .before .before .before .before .before .before .add .ensures .0 ∙ (ap (λ (x : List ℕ). addAnswer x (a .old) (c .before .before .before .before .before .before .before .before .before .before .before .segment-in .result)) s ∙ ap (λ (x : Segment). addAnswer (take (a .size) (a .memory .now)) (a .old) x) g) in
-    let b = c .before .before .before .before .before .before .before .add .ensures .1 ∙ (ap (λ (x : List ℕ). addBuffer x (a .old) (c .before .before .before .before .before .before .before .before .before .before .before .segment-in .result)) s ∙ ap (λ (x : Segment). addBuffer (take (a .size) (a .memory .now)) (a .old) x) g) in
-    (rw (← e), (lent-back (a .size) (a .memory .now) (c .before .before .before .before .before .before .before .add .last .0) (f .1) (c .before .before .before .before .before .before .before .add .kept .0 ∙ sym (f .0 .1)) ∙ b, rw (← e) (c .before .before .placed .ensures)))
+    let g = before11 .segment-in .ensures .0 in
+    let e = before7 .add .ensures .0
+    ∙ (ap (λ (x : List ℕ). addAnswer x (a .old) (before11 .segment-in .result)) s
+    ∙ ap (λ (x : Segment). addAnswer (take (a .size) (a .memory .now)) (a .old) x) g) in
+    let b = before7 .add .ensures .1
+    ∙ (ap (λ (x : List ℕ). addBuffer x (a .old) (before11 .segment-in .result)) s
+    ∙ ap (λ (x : Segment). addBuffer (take (a .size) (a .memory .now)) (a .old) x) g) in (
+      rw (← e),
+      (
+        lent-back (a .size) (a .memory .now) (before7 .add .last .0) (f .1) (before7 .add .kept .0 ∙ sym (f .0 .1))
+            ∙ b,
+        rw (← e) (c .before .before .placed .ensures),
+      ),
+    )
 
 pub added-spec : {M : Type 1} → statement M
 added-spec =

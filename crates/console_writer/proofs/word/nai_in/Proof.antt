@@ -20,7 +20,12 @@ same-length c = search needs
 
 returns : tie.Need-returns
 unfolding partOf part naiIn
-returns c = (c .part40 .ensures ∙ ap (λ (x : List ℕ). over x (replicate 40 0)) (spelled _ _ (c .before .before .before .before .octets-at .ensures .0)), c .before .before .before .before .octets-at .ensures .1 .1)
+returns c = (
+  c .part40 .ensures
+      ∙ ap (λ (x : List ℕ). over x (replicate 40 0))
+      (spelled _ _ (c .before .before .before .before .octets-at .ensures .0)),
+  c .before .before .before .before .octets-at .ensures .1 .1,
+)
 
 pub nai-in-spec : {M : Type 1} → statement M
 nai-in-spec = tie.close (tie.spec octets-at-requires part40-requires same-length returns)

@@ -37,14 +37,23 @@ is-none-requires-2 : tie.Need-is-none-requires-2
 is-none-requires-2 c κs = search needs
 
 same-length : tie.Need-same-length
-same-length c = c .before .before .before .before .before .before .before .before .before .before .before .before .nai-in .ensures .1 ∙ c .before .before .before .before .before .before .before .before .before .before .before .before .before .before .before .before .sid-in .ensures .1
+same-length c =
+    let before12 = c .before .before .before .before .before .before .before .before .before .before .before .before in
+    before12 .nai-in .ensures .1 ∙ before12 .before .before .before .before .sid-in .ensures .1
 
 returns : tie.Need-returns
-returns c = (
-  segment-made (c .before .before .before .before .before .before .before .before .before .before .before .before .before .before .before .before .before .before .before .before .args .c) (c .before .before .before .before .before .before .before .before .before .before .before .before .before .before .before .before .before .before .before .before .args .line .now) (c .before .before .before .before .before .before .before .before .before .before .before .before .before .before .before .before .sid-in .ensures .0) (c .before .before .before .before .before .before .before .before .before .before .before .before .nai-in .ensures .0)
-      (c .before .before .is-none .ensures ∙ ap isNone (c .before .before .before .word2 .ensures .0)) (c .is-none2 .ensures ∙ ap isNone (c .before .word3 .ensures .0)) (c .before .before .before .before .before .before .before .before .structure .ensures ∙ ap structureOf (c .before .before .before .before .before .before .before .before .before .word .ensures .0)),
-  c .before .before .before .before .before .before .before .before .before .before .before .before .nai-in .ensures .1 ∙ c .before .before .before .before .before .before .before .before .before .before .before .before .before .before .before .before .sid-in .ensures .1,
-)
+returns c =
+    let before8 = c .before .before .before .before .before .before .before .before in
+    let before12 = before8 .before .before .before .before in
+    let before16 = before12 .before .before .before .before in (
+      segment-made (before16 .before .before .before .before .args .c)
+          (before16 .before .before .before .before .args .line .now) (before16 .sid-in .ensures .0)
+          (before12 .nai-in .ensures .0)
+          (c .before .before .is-none .ensures ∙ ap isNone (c .before .before .before .word2 .ensures .0))
+          (c .is-none2 .ensures ∙ ap isNone (c .before .word3 .ensures .0))
+          (before8 .structure .ensures ∙ ap structureOf (before8 .before .word .ensures .0)),
+      before12 .nai-in .ensures .1 ∙ before16 .sid-in .ensures .1,
+    )
 
 pub segment-in-spec : {M : Type 1} → statement M
 segment-in-spec =

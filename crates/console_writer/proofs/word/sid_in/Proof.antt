@@ -20,7 +20,12 @@ same-length c = search needs
 
 returns : tie.Need-returns
 unfolding partOf part sidIn
-returns c = (c .part16 .ensures ∙ ap (λ (x : List ℕ). over x (replicate 16 0)) (spelled _ _ (c .before .before .before .before .octets-at .ensures .0)), c .before .before .before .before .octets-at .ensures .1 .1)
+returns c = (
+  c .part16 .ensures
+      ∙ ap (λ (x : List ℕ). over x (replicate 16 0))
+      (spelled _ _ (c .before .before .before .before .octets-at .ensures .0)),
+  c .before .before .before .before .octets-at .ensures .1 .1,
+)
 
 pub sid-in-spec : {M : Type 1} → statement M
 sid-in-spec = tie.close (tie.spec octets-at-requires part16-requires same-length returns)

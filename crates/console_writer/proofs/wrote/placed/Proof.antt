@@ -13,7 +13,10 @@ same-length c = search needs
 
 returns : tie.Need-returns
 unfolding placeLine
-returns c = let w = c .before .before .before .before .before .before .before .before .args .w in told-refused (w .verdict) (oneLine (w .writer .at)) (c .before .before .before .before .if1 .taken) (c .before .before .refusal .ensures .0)
+returns c =
+    let w = c .before .before .before .before .before .before .before .before .args .w in
+    told-refused (w .verdict) (oneLine (w .writer .at)) (c .before .before .before .before .if1 .taken)
+    (c .before .before .refusal .ensures .0)
 
 one-requires : tie.Need-one-requires
 one-requires c κs = search needs
@@ -23,7 +26,10 @@ same-length-2 c = search needs
 
 returns-2 : tie.Need-returns-2
 unfolding placeLine
-returns-2 c = let w = c .before .before .before .before .before .before .before .before .before .args .w in told-accepted (w .verdict) (oneLine (w .writer .at)) (c .before .before .before .before .before .if1 .left) (c .before .before .one .ensures .0)
+returns-2 c =
+    let w = c .before .before .before .before .before .before .before .before .before .args .w in
+    told-accepted (w .verdict) (oneLine (w .writer .at)) (c .before .before .before .before .before .if1 .left)
+    (c .before .before .one .ensures .0)
 
 pub placed-spec : {M : Type 1} → statement M
 placed-spec =

@@ -32,20 +32,41 @@ wide-requires-2 c κs = search needs
 
 returns-3 : tie.Need-returns-3
 unfolding headed octetOf
-returns-3 c = simp
-    (le-ltb _ _ (c .before .before .before .before .before .before .before .if1 .left), ← c .before .before .before .before .before .wide .ensures .0, ← c .before .before .before .before .pick .ensures .0, eq-eqb _ _ (c .before .before .before .if2 .left), ← c .before .wide2 .ensures .0, ne-eqb _ _ (c .if3 .taken))
+returns-3 c =
+    simp (
+      le-ltb _ _ (c .before .before .before .before .before .before .before .if1 .left),
+      ← c .before .before .before .before .before .wide .ensures .0,
+      ← c .before .before .before .before .pick .ensures .0,
+      eq-eqb _ _ (c .before .before .before .if2 .left),
+      ← c .before .wide2 .ensures .0,
+      ne-eqb _ _ (c .if3 .taken),
+    )
 
 read16-requires : tie.Need-read16-requires
 read16-requires c κs = search needs
 
 returns-4 : tie.Need-returns-4
 unfolding headed octetOf
-returns-4 c = simp
-    (le-ltb _ _ (c .before .before .before .before .before .before .before .before .before .if1 .left), ← c .before .before .before .before .before .before .before .wide .ensures .0, ← c .before .before .before .before .before .before .pick .ensures .0, eq-eqb _ _ (c .before .before .before .before .before .if2 .left), ← c .before .before .before .wide2 .ensures .0, eq-eqb _ _ (c .before .before .if3 .left), ← c .before .read16 .ensures .0, ne-eqb _ _ (c .if4 .taken))
+returns-4 c =
+    let before5 = c .before .before .before .before .before in
+    simp (
+      le-ltb _ _ (before5 .before .before .before .before .if1 .left),
+      ← before5 .before .before .wide .ensures .0,
+      ← before5 .before .pick .ensures .0,
+      eq-eqb _ _ (before5 .if2 .left),
+      ← c .before .before .before .wide2 .ensures .0,
+      eq-eqb _ _ (c .before .before .if3 .left),
+      ← c .before .read16 .ensures .0,
+      ne-eqb _ _ (c .if4 .taken),
+    )
 
 returns-5 : tie.Need-returns-5
-returns-5 c = headed-last (c .before .before .before .before .before .before .before .before .before .before .before .args .ero) (c .before .before .before .before .before .before .before .before .before .before .before .args .s .now) (c .before .before .before .before .before .before .before .before .before .if1 .left)
-    (sym (c .before .before .before .before .before .before .before .wide .ensures .0) ∙ c .before .before .before .before .before .if2 .left ∙ c .before .before .before .before .before .before .pick .ensures .0)
+returns-5 c =
+    let before5 = c .before .before .before .before .before in
+    headed-last (before5 .before .before .before .before .before .before .args .ero)
+    (before5 .before .before .before .before .before .before .args .s .now)
+    (before5 .before .before .before .before .if1 .left)
+    (sym (before5 .before .before .wide .ensures .0) ∙ before5 .if2 .left ∙ before5 .before .pick .ensures .0)
     (rw (← c .before .before .before .wide2 .ensures .0) (c .before .before .if3 .left))
     (sym (c .before .read16 .ensures .0) ∙ c .if4 .left)
 

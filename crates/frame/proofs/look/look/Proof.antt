@@ -36,7 +36,10 @@ fits-requires : tie.Need-fits-requires Inv-loop μ-loop
 fits-requires c κs = search needs
 
 returns : tie.Need-returns Inv-loop μ-loop
-returns c = look-cut (c .before .before .before .before .before .loop .inv .4) (c .before .before .before .before .loop-test .taken) (c .before .before .wide .ensures .0) (c .before .fits2 .ensures) (c .if1 .taken)
+returns c =
+    look-cut (c .before .before .before .before .before .loop .inv .4)
+    (c .before .before .before .before .loop-test .taken) (c .before .before .wide .ensures .0)
+    (c .before .fits2 .ensures) (c .if1 .taken)
 
 shared-slice-read-wide-2 : tie.Need-shared-slice-read-wide-2 Inv-loop μ-loop
 shared-slice-read-wide-2 c = omega arith
@@ -48,7 +51,9 @@ kind-requires : tie.Need-kind-requires Inv-loop μ-loop
 kind-requires c κs = search needs
 
 seen-requires : tie.Need-seen-requires Inv-loop μ-loop
-seen-requires c κs = omega (arith, c .before .before .before .before .before .before .before .before .loop .inv .3, c .before .before .before .before .before .before .before .before .loop .inv .1, c .before .before .before .before .before .before .before .before .before .before .before .pre .2)
+seen-requires c κs =
+    let before8 = c .before .before .before .before .before .before .before .before in
+    omega (arith, before8 .loop .inv .3, before8 .loop .inv .1, before8 .before .before .before .pre .2)
 
 add-at : tie.Need-add-at Inv-loop μ-loop
 add-at c = let h = now-fits _ _ _ (c .before .before .before .before .before .fits2 .ensures) (c .before .before .before .before .if1 .left) in omega arith
@@ -57,14 +62,19 @@ loop-less : tie.Need-loop-less Inv-loop μ-loop
 loop-less c = let h = now-fits _ _ _ (c .before .before .before .before .before .fits2 .ensures) (c .before .before .before .before .if1 .left) in omega arith
 
 loop-again : tie.Need-loop-again Inv-loop μ-loop
-loop-again c = let h = now-fits _ _ _ (c .before .before .before .before .before .fits2 .ensures) (c .before .before .before .before .if1 .left) in
-    let q = seen-count (c .before .before .before .before .before .before .before .before .before .loop .g) (c .seen .result) _ _ _ _ (c .seen .ensures) in (
-      omega (arith, c .before .before .before .before .before .before .before .before .before .loop .inv .0),
-      omega (arith, c .before .before .before .before .before .before .before .before .before .loop .inv .1),
-      omega (arith, c .before .before .before .before .before .before .before .before .before .loop .inv .2),
-      omega (arith, c .before .before .before .before .before .before .before .before .before .loop .inv .3),
-      look-next (c .before .before .before .before .before .before .before .before .before .loop .inv .4) (omega (arith, c .before .before .before .before .before .before .before .before .before .loop .inv .0)) (omega (arith, c .before .before .before .before .before .before .before .before .before .loop .inv .1, c .before .before .before .before .before .before .before .before .loop-test .taken))
-          (c .before .before .before .before .before .before .wide .ensures .0) (c .before .before .before .before .before .fits2 .ensures) (c .before .before .before .before .if1 .left) (c .before .before .wide2 .ensures .0) (c .before .kind .ensures) (c .seen .ensures),
+loop-again c =
+    let before4 = c .before .before .before .before in
+    let loop = before4 .before .before .before .before .before .loop in
+    let h = now-fits _ _ _ (before4 .before .fits2 .ensures) (before4 .if1 .left) in
+    let q = seen-count (loop .g) (c .seen .result) _ _ _ _ (c .seen .ensures) in (
+      omega (arith, loop .inv .0),
+      omega (arith, loop .inv .1),
+      omega (arith, loop .inv .2),
+      omega (arith, loop .inv .3),
+      look-next (loop .inv .4) (omega (arith, loop .inv .0))
+          (omega (arith, loop .inv .1, before4 .before .before .before .before .loop-test .taken))
+          (before4 .before .before .wide .ensures .0) (before4 .before .fits2 .ensures) (before4 .if1 .left)
+          (c .before .before .wide2 .ensures .0) (c .before .kind .ensures) (c .seen .ensures),
     )
 
 returns-2 : tie.Need-returns-2 Inv-loop μ-loop

@@ -38,8 +38,13 @@ loop-less : tie.Need-loop-less Inv-loop μ-loop
 loop-less c = let h = going-room (c .before .before .before .before .loop .inv .1) (c .before .before .before .loop-test .taken) in omega (arith, c .wide .ensures .0)
 
 loop-again : tie.Need-loop-again Inv-loop μ-loop
-loop-again c = let h = going-room (c .before .before .before .before .loop .inv .1) (c .before .before .before .loop-test .taken) in
-    (omega (arith, c .wide .ensures .0), going-on (c .before .before .before .before .loop .inv .1) (omega (arith, c .before .before .before .before .loop .inv .0, c .before .before .before .loop-test .taken)) (c .before .before .if1 .left) (c .wide .ensures .0))
+loop-again c =
+    let loop-inv = c .before .before .before .before .loop .inv in
+    let h = going-room (loop-inv .1) (c .before .before .before .loop-test .taken) in (
+      omega (arith, c .wide .ensures .0),
+      going-on (loop-inv .1) (omega (arith, loop-inv .0, c .before .before .before .loop-test .taken))
+          (c .before .before .if1 .left) (c .wide .ensures .0),
+    )
 
 returns-2 : tie.Need-returns-2 Inv-loop μ-loop
 returns-2 c = going-ends (c .before .loop .inv .1) (omega arith)

@@ -215,8 +215,10 @@ walked t c =
     let r = c .before .before .before .before .before .before .before .before in
     let v = r .before .kind .given .0 in
     let b = within t r in
-    Laws.inside-found (r .before .before .before .before .before .before .before .args .s .now) (r .before .before .before .before .before .before .before .args .want) (v .1 .0) (v .1 .1 .0) (c .before .before .list-size .result)
-    (size-same t (c .before .before)) (c .before .if3 .left) (omega arith) (c .walk .ensures .0)
+    Laws.inside-found (r .before .before .before .before .before .before .before .args .s .now)
+    (r .before .before .before .before .before .before .before .args .want) (v .1 .0) (v .1 .1 .0)
+    (c .before .before .list-size .result) (size-same t (c .before .before)) (c .before .if3 .left) (omega arith)
+    (c .walk .ensures .0)
 
 walk-loop-holds : (t : ℕ) → walk-lts.Need-loop-holds (
   item-at-reads.Asked,
@@ -400,11 +402,19 @@ walk-returns-2 : (t : ℕ) → walk-lts.Need-returns-2 (
   walk-below t,
   walk.Post,
 ) (walk-at t) walk.Post walk-Inv-loop walk-μ-loop
-walk-returns-2 t c = let r = c .before .before .before .before .before .before .before in
+walk-returns-2 t c =
+    let r = c .before .before .before .before .before .before .before in
     let a = r .before .before .before .before .before .before .before .args in
     let v = part (a .s .now) (r .before .kind .given .0 .1 .0) (r .before .kind .given .0 .1 .1 .0) in
-    let e : holdsList v ≡ false = lt-leb (listSize v) (length v) (omega (arith, size-same t (c .before), value-long t (c .before), c .if3 .taken)) in
-    (stopped t r (λ rest. entered t (c .before .before .before) rest ∙ Laws.inside-unheld (a .want) (valueAt (a .s .now) (r .before .before .before .before .before .loop .sub)) v (wholeOf rest) e), tt)
+    let e : holdsList v ≡ false = lt-leb (listSize v) (length v)
+    (omega (arith, size-same t (c .before), value-long t (c .before), c .if3 .taken)) in (
+      stopped t r
+          (λ rest.
+          entered t (c .before .before .before) rest
+          ∙ Laws.inside-unheld (a .want) (valueAt (a .s .now) (r .before .before .before .before .before .loop .sub)) v
+          (wholeOf rest) e),
+      tt,
+    )
 
 walk-add-walk : (t : ℕ) → walk-lts.Need-add-walk (
   item-at-reads.Asked,
@@ -432,7 +442,10 @@ walk-walk-requires : (t : ℕ) → walk-lts.Need-walk-requires (
   walk-below t,
   walk.Post,
 ) (walk-at t) walk.Post walk-Inv-loop walk-μ-loop
-walk-walk-requires t c κs = let b = within t (c .before .before .before .before .before .before .before) in (rw (← c .before .before .before .before .before .before .before .before .before .before .before .before .before .before .pre .0) (omega arith), omega arith)
+walk-walk-requires t c κs =
+    let before8 = c .before .before .before .before .before .before .before .before in
+    let b = within t (c .before .before .before .before .before .before .before) in
+    (rw (← before8 .before .before .before .before .before .before .pre .0) (omega arith), omega arith)
 
 walk-enum-told-2 : (t : ℕ) → walk-lts.Need-enum-told-2 (
   item-at-reads.Asked,
@@ -460,11 +473,19 @@ walk-returns-3 : (t : ℕ) → walk-lts.Need-returns-3 (
   walk-below t,
   walk.Post,
 ) (walk-at t) walk.Post walk-Inv-loop walk-μ-loop
-walk-returns-3 t c = let r = c .before .before .before .before .before .before .before .before .before .before in
+walk-returns-3 t c =
+    let before6 = c .before .before .before .before .before .before in
+    let r = before6 .before .before .before .before in
     let a = r .before .before .before .before .before .before .before .args in
     let v = part (a .s .now) (r .before .kind .given .0 .1 .0) (r .before .kind .given .0 .1 .1 .0) in
-    let w = rw (c .enum-told2 .given .1) at (walked t (c .before .before)) in
-    (stopped t r (λ rest. entered t (c .before .before .before .before .before .before) rest ∙ Laws.inside-torn (a .want) (valueAt (a .s .now) (r .before .before .before .before .before .loop .sub)) v (wholeOf rest) (held t (c .before .before .before)) w), tt)
+    let w = rw (c .enum-told2 .given .1) at (walked t (c .before .before)) in (
+      stopped t r
+          (λ rest.
+          entered t before6 rest
+          ∙ Laws.inside-torn (a .want) (valueAt (a .s .now) (r .before .before .before .before .before .loop .sub)) v
+          (wholeOf rest) (held t (c .before .before .before)) w),
+      tt,
+    )
 
 walk-enum-known-outer : (t : ℕ) → walk-lts.Need-enum-known-outer (
   item-at-reads.Asked,

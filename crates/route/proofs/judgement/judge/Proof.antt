@@ -9,7 +9,10 @@ framed-requires : tie.Need-framed-requires
 framed-requires c κs = search needs
 
 returns : tie.Need-returns
-returns c = frame-stops (c .before .before .before .before .args .s .now) (c .before .before .before .before .args .ero) (c .before .before .before .before .args .session) (c .before .before .before .before .args .pst) _ (c .before .before .framed .ensures) (c .if1 .taken)
+returns c =
+    let args = c .before .before .before .before .args in
+    frame-stops (args .s .now) (args .ero) (args .session) (args .pst) _ (c .before .before .framed .ensures)
+    (c .if1 .taken)
 
 not-agreed-requires : tie.Need-not-agreed-requires
 not-agreed-requires c κs = search needs
@@ -18,25 +21,54 @@ refused-requires : tie.Need-refused-requires
 refused-requires c κs = search needs
 
 returns-2 : tie.Need-returns-2
-returns-2 c = c .refused .ensures
-    ∙ agreed-stops (c .before .before .before .before .before .before .before .args .s .now) (c .before .before .before .before .before .before .before .args .ero) (c .before .before .before .before .before .before .before .args .session) (c .before .before .before .before .before .before .before .args .pst) (frame-none (c .before .before .before .before .before .before .before .args .s .now) (c .before .before .before .before .before .before .before .args .ero) (c .before .before .before .before .before .before .before .args .session) (c .before .before .before .before .before .before .before .args .pst) _ (c .before .before .before .before .before .framed .ensures) (c .before .before .before .if1 .left)) (sym (c .before .before .not-agreed .ensures) ∙ c .before .if2 .taken)
+returns-2 c =
+    let args = c .before .before .before .before .before .before .before .args in
+    c .refused .ensures
+    ∙ agreed-stops (args .s .now) (args .ero) (args .session) (args .pst)
+    (frame-none (args .s .now) (args .ero) (args .session) (args .pst) _
+    (c .before .before .before .before .before .framed .ensures) (c .before .before .before .if1 .left))
+    (sym (c .before .before .not-agreed .ensures) ∙ c .before .if2 .taken)
 
 walk-requires : tie.Need-walk-requires
-walk-requires c κs = frame-bounds (c .before .before .before .before .before .before .args .ero) (c .before .before .before .before .before .before .args .s .now) (frame-none (c .before .before .before .before .before .before .args .s .now) (c .before .before .before .before .before .before .args .ero) (c .before .before .before .before .before .before .args .session) (c .before .before .before .before .before .before .args .pst) _ (c .before .before .before .before .framed .ensures) (c .before .before .if1 .left) .0)
-    (omega (arith, c .before .before .before .before .before .shared-slice-known .given 2)) (omega (arith, c .before .before .before .before .before .shared-slice-known .given 3))
+walk-requires c κs =
+    let before4 = c .before .before .before .before in
+    let args = before4 .before .before .args in
+    frame-bounds (args .ero) (args .s .now)
+    (frame-none (args .s .now) (args .ero) (args .session) (args .pst) _ (before4 .framed .ensures)
+    (c .before .before .if1 .left) .0) (omega (arith, before4 .before .shared-slice-known .given 2))
+    (omega (arith, before4 .before .shared-slice-known .given 3))
 
 returns-3 : tie.Need-returns-3
-returns-3 c = walk-stops (c .before .before .before .before .before .before .before .before .before .args .s .now) (c .before .before .before .before .before .before .before .before .before .args .ero) (c .before .before .before .before .before .before .before .before .before .args .session) (c .before .before .before .before .before .before .before .before .before .args .pst) (frame-none (c .before .before .before .before .before .before .before .before .before .args .s .now) (c .before .before .before .before .before .before .before .before .before .args .ero) (c .before .before .before .before .before .before .before .before .before .args .session) (c .before .before .before .before .before .before .before .before .before .args .pst) _ (c .before .before .before .before .before .before .before .framed .ensures) (c .before .before .before .before .before .if1 .left)) _ _
-    (sym (c .before .before .before .before .not-agreed .ensures) ∙ c .before .before .before .if2 .left) (c .before .before .walk .ensures) (c .if3 .taken)
+returns-3 c =
+    let before4 = c .before .before .before .before in
+    let args = before4 .before .before .before .before .before .args in
+    walk-stops (args .s .now) (args .ero) (args .session) (args .pst)
+    (frame-none (args .s .now) (args .ero) (args .session) (args .pst) _
+    (before4 .before .before .before .framed .ensures) (before4 .before .if1 .left)) _ _
+    (sym (before4 .not-agreed .ensures) ∙ c .before .before .before .if2 .left) (c .before .before .walk .ensures)
+    (c .if3 .taken)
 
 limited-requires : tie.Need-limited-requires
-limited-requires c κs = frame-bounds (c .before .before .before .before .before .before .before .before .before .args .ero) (c .before .before .before .before .before .before .before .before .before .args .s .now) (frame-none (c .before .before .before .before .before .before .before .before .before .args .s .now) (c .before .before .before .before .before .before .before .before .before .args .ero) (c .before .before .before .before .before .before .before .before .before .args .session) (c .before .before .before .before .before .before .before .before .before .args .pst) _ (c .before .before .before .before .before .before .before .framed .ensures) (c .before .before .before .before .before .if1 .left) .0)
-    (omega (arith, c .before .before .before .before .before .before .before .before .shared-slice-known .given 2)) (omega (arith, c .before .before .before .before .before .before .before .before .shared-slice-known .given 3))
+limited-requires c κs =
+    let before8 = c .before .before .before .before .before .before .before .before in
+    let args = before8 .before .args in
+    frame-bounds (args .ero) (args .s .now)
+    (frame-none (args .s .now) (args .ero) (args .session) (args .pst) _
+    (c .before .before .before .before .before .before .before .framed .ensures)
+    (c .before .before .before .before .before .if1 .left) .0) (omega (arith, before8 .shared-slice-known .given 2))
+    (omega (arith, before8 .shared-slice-known .given 3))
 
 returns-4 : tie.Need-returns-4
-returns-4 c = limit-ends (c .before .before .before .before .before .before .before .before .before .before .args .s .now) (c .before .before .before .before .before .before .before .before .before .before .args .ero) (c .before .before .before .before .before .before .before .before .before .before .args .session) (c .before .before .before .before .before .before .before .before .before .before .args .pst) (frame-none (c .before .before .before .before .before .before .before .before .before .before .args .s .now) (c .before .before .before .before .before .before .before .before .before .before .args .ero) (c .before .before .before .before .before .before .before .before .before .before .args .session) (c .before .before .before .before .before .before .before .before .before .before .args .pst) _ (c .before .before .before .before .before .before .before .before .framed .ensures) (c .before .before .before .before .before .before .if1 .left)) _ _ _
-    (sym (c .before .before .before .before .before .not-agreed .ensures) ∙ c .before .before .before .before .if2 .left) (c .before .before .before .walk .ensures) (c .before .if3 .left)
-    (frame-count (c .before .before .before .before .before .before .before .before .before .before .args .s .now) (c .before .before .before .before .before .before .before .before .before .before .args .ero) (c .before .before .before .before .before .before .before .before .before .before .args .session) (c .before .before .before .before .before .before .before .before .before .before .args .pst) _ (c .before .before .before .before .before .before .before .before .framed .ensures) (c .before .before .before .before .before .before .if1 .left)) (c .limited .ensures)
+returns-4 c =
+    let before5 = c .before .before .before .before .before in
+    let args = before5 .before .before .before .before .before .args in
+    limit-ends (args .s .now) (args .ero) (args .session) (args .pst)
+    (frame-none (args .s .now) (args .ero) (args .session) (args .pst) _
+    (before5 .before .before .before .framed .ensures) (before5 .before .if1 .left)) _ _ _
+    (sym (before5 .not-agreed .ensures) ∙ c .before .before .before .before .if2 .left)
+    (c .before .before .before .walk .ensures) (c .before .if3 .left)
+    (frame-count (args .s .now) (args .ero) (args .session) (args .pst) _
+    (before5 .before .before .before .framed .ensures) (before5 .before .if1 .left)) (c .limited .ensures)
 
 pub judge-spec : {M : Type 1} → statement M
 judge-spec =

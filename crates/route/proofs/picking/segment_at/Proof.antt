@@ -40,7 +40,12 @@ add-part16 : tie.Need-add-part16
 add-part16 c = search needs
 
 part16-requires : tie.Need-part16-requires
-part16-requires c κs = let h = parts-room _ _ _ _ (c .before .before .before .before .before .before .head-at .ensures .0) (c .before .before .before .before .before .before .before .before .pre) in (omega (arith, c .before .before .before .pick .ensures .0), omega (arith, c .before .before .before .pick .ensures .1))
+part16-requires c κs =
+    let h = parts-room _ _ _ _ (c .before .before .before .before .before .before .head-at .ensures .0)
+    (c .before .before .before .before .before .before .before .before .pre) in (
+      omega (arith, c .before .before .before .pick .ensures .0),
+      omega (arith, c .before .before .before .pick .ensures .1),
+    )
 
 add-part40 : tie.Need-add-part40
 add-part40 c = search needs
@@ -49,8 +54,16 @@ add-part40-2 : tie.Need-add-part40-2
 add-part40-2 c = search needs
 
 part40-requires : tie.Need-part40-requires
-part40-requires c κs = let h = parts-room _ _ _ _ (c .before .before .before .before .before .before .before .head-at .ensures .0) (c .before .before .before .before .before .before .before .before .before .pre) in
-    (omega (arith, c .before .before .before .before .pick .ensures .0, c .before .before .before .nai-length .ensures .0), c .before .before .before .nai-length .ensures .1)
+part40-requires c κs =
+    let h = parts-room _ _ _ _ (c .before .before .before .before .before .before .before .head-at .ensures .0)
+    (c .before .before .before .before .before .before .before .before .before .pre) in (
+      omega (
+        arith,
+        c .before .before .before .before .pick .ensures .0,
+        c .before .before .before .nai-length .ensures .0,
+      ),
+      c .before .before .before .nai-length .ensures .1,
+    )
 
 add-part4 : tie.Need-add-part4
 add-part4 c = search needs
@@ -65,13 +78,28 @@ pick-requires-2 : tie.Need-pick-requires-2
 pick-requires-2 c κs = search needs
 
 part4-requires : tie.Need-part4-requires
-part4-requires c κs = let h = parts-room _ _ _ _ (c .before .before .before .before .before .before .before .before .before .head-at .ensures .0) (c .before .before .before .before .before .before .before .before .before .before .before .pre) in
-    let q = rw (c .before .before .before .before .before .before .before .before .structured .ensures) at (c .pick2 .ensures .0) in
-    (omega (arith, c .before .before .before .before .before .before .pick .ensures .0, c .before .before .before .before .before .nai-length .ensures .0, bits-room (hasStructure (c .before .before .before .before .before .before .before .before .before .head-at .result))), omega (arith, c .pick2 .ensures .1))
+part4-requires c κs =
+    let before8 = c .before .before .before .before .before .before .before .before in
+    let h = parts-room _ _ _ _ (before8 .before .head-at .ensures .0) (before8 .before .before .before .pre) in
+    let q = rw (before8 .structured .ensures) at (c .pick2 .ensures .0) in (
+      omega (
+        arith,
+        c .before .before .before .before .before .before .pick .ensures .0,
+        c .before .before .before .before .before .nai-length .ensures .0,
+        bits-room (hasStructure (before8 .before .head-at .result)),
+      ),
+      omega (arith, c .pick2 .ensures .1),
+    )
 
 returns : tie.Need-returns
-returns c = segment-made _ _ _ _ _ _ _ _ _ _ _ _ (c .before .before .before .before .before .before .before .before .before .before .before .before .before .head-at .ensures .0) (c .before .before .before .before .before .before .before .before .before .before .before .before .structured .ensures) (c .before .before .before .before .before .before .before .before .before .before .pick .ensures .0)
-    (c .before .before .before .before .before .before .before .before .before .nai-length .ensures .0) (c .before .before .before .before .pick2 .ensures .0) (c .before .before .before .before .before .before .before .before .read16 .ensures .0) (c .before .before .before .before .before .before .part16 .ensures) (c .before .before .before .before .before .part40 .ensures) (c .before .before .before .part4 .ensures)
+returns c =
+    let before4 = c .before .before .before .before in
+    let before8 = before4 .before .before .before .before in
+    segment-made _ _ _ _ _ _ _ _ _ _ _ _ (before8 .before .before .before .before .before .head-at .ensures .0)
+    (before8 .before .before .before .before .structured .ensures) (before8 .before .before .pick .ensures .0)
+    (before8 .before .nai-length .ensures .0) (before4 .pick2 .ensures .0) (before8 .read16 .ensures .0)
+    (before4 .before .before .part16 .ensures) (before4 .before .part40 .ensures)
+    (c .before .before .before .part4 .ensures)
 
 pub segment-at-spec : {M : Type 1} → statement M
 segment-at-spec =

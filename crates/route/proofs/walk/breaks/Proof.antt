@@ -30,14 +30,26 @@ ten-requires c κs = search needs
 
 returns-4 : tie.Need-returns-4
 unfolding brokenBy
-returns-4 c = rw (ne-eqb _ _ (c .before .before .before .before .if1 .left), ne-eqb _ _ (c .before .before .before .if2 .left), ne-eqb _ _ (c .before .before .if3 .left), eq-eqb _ _ (c .before .if4 .taken)) (c .ten .ensures)
+returns-4 c =
+    rw (
+      ne-eqb _ _ (c .before .before .before .before .if1 .left),
+      ne-eqb _ _ (c .before .before .before .if2 .left),
+      ne-eqb _ _ (c .before .before .if3 .left),
+      eq-eqb _ _ (c .before .if4 .taken),
+    ) (c .ten .ensures)
 
 too-long-requires : tie.Need-too-long-requires
 too-long-requires c κs = search needs
 
 returns-5 : tie.Need-returns-5
 unfolding brokenBy
-returns-5 c = rw (ne-eqb _ _ (c .before .before .before .before .if1 .left), ne-eqb _ _ (c .before .before .before .if2 .left), ne-eqb _ _ (c .before .before .if3 .left), ne-eqb _ _ (c .before .if4 .left)) (c .too-long .ensures)
+returns-5 c =
+    rw (
+      ne-eqb _ _ (c .before .before .before .before .if1 .left),
+      ne-eqb _ _ (c .before .before .before .if2 .left),
+      ne-eqb _ _ (c .before .before .if3 .left),
+      ne-eqb _ _ (c .before .if4 .left),
+    ) (c .too-long .ensures)
 
 pub breaks-spec : {M : Type 1} → statement M
 breaks-spec =

@@ -61,7 +61,9 @@ loop-less c = omega arith
 loop-again : tie.Need-loop-again Inv-loop μ-loop Inv-walk μ-walk
 loop-again c = (
   omega arith,
-  passes (c .before .before .before .loop .inv .1) (c .before .before .loop-test .taken) (asked _ _ _ _ _ _ _ (c .before .before .before .before .before .head-at .ensures .0) (c .before .breaks .ensures) ∙ c .if2 .left),
+  passes (c .before .before .before .loop .inv .1) (c .before .before .loop-test .taken)
+      (asked _ _ _ _ _ _ _ (c .before .before .before .before .before .head-at .ensures .0) (c .before .breaks .ensures)
+      ∙ c .if2 .left),
 )
 
 walk-less : tie.Need-walk-less Inv-loop μ-loop Inv-walk μ-walk
@@ -77,7 +79,12 @@ returns : tie.Need-returns Inv-loop μ-loop Inv-walk μ-walk
 returns c = c .accepted .ensures ∙ left-ends (c .before .before .walk .inv .1) (c .before .if1 .taken)
 
 returns-2 : tie.Need-returns-2 Inv-loop μ-loop Inv-walk μ-walk
-returns-2 c = c .refused .ensures ∙ stops (c .before .before .before .before .loop .inv .1) (c .before .before .before .loop-test .taken) (asked _ _ _ _ _ _ _ (c .before .before .before .before .before .before .head-at .ensures .0) (c .before .before .breaks .ensures) ∙ c .before .if2 .taken)
+returns-2 c =
+    c .refused .ensures
+    ∙ stops (c .before .before .before .before .loop .inv .1) (c .before .before .before .loop-test .taken)
+    (asked _ _ _ _ _ _ _ (c .before .before .before .before .before .before .head-at .ensures .0)
+    (c .before .before .breaks .ensures)
+    ∙ c .before .if2 .taken)
 
 pub walk-spec : {M : Type 1} → statement M
 walk-spec =

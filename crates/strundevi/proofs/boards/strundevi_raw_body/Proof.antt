@@ -10,19 +10,31 @@ body-number-requires : tie.Need-body-number-requires
 body-number-requires c κs = search needs
 
 returns : tie.Need-returns
-returns c = part-none (boardOf (c .before .before .before .before .args .keys .now) (c .before .before .before .before .args .versions .now) (c .before .before .before .before .args .lengths .now) (c .before .before .before .before .args .version) (c .before .before .before .before .args .floor)) (c .before .before .before .before .args .store .now) (c .before .before .before .before .args .key) _ (c .before .before .body-number .ensures) (c .if1 .taken)
+returns c =
+    let args = c .before .before .before .before .args in
+    part-none (boardOf (args .keys .now) (args .versions .now) (args .lengths .now) (args .version) (args .floor))
+    (args .store .now) (args .key) _ (c .before .before .body-number .ensures) (c .if1 .taken)
 
 place-of-requires : tie.Need-place-of-requires
 place-of-requires c κs = search needs
 
 mul-t11 : tie.Need-mul-t11
-mul-t11 c = let h = body-here (boardOf (c .before .before .before .before .before .args .keys .now) (c .before .before .before .before .before .args .versions .now) (c .before .before .before .before .before .args .lengths .now) (c .before .before .before .before .before .args .version) (c .before .before .before .before .before .args .floor)) (c .before .before .before .before .before .args .store .now) (c .before .before .before .before .before .args .key) _ (c .before .before .before .body-number .ensures) (c .before .if1 .left) in omega (arith, c .place-of .ensures)
+mul-t11 c =
+    let args = c .before .before .before .before .before .args in
+    let h = body-here
+    (boardOf (args .keys .now) (args .versions .now) (args .lengths .now) (args .version) (args .floor))
+    (args .store .now) (args .key) _ (c .before .before .before .body-number .ensures) (c .before .if1 .left) in
+    omega (arith, c .place-of .ensures)
 
 length-at-requires : tie.Need-length-at-requires
 length-at-requires c κs = search needs
 
 returns-2 : tie.Need-returns-2
-returns-2 c = part-here (boardOf (c .before .before .before .before .before .before .args .keys .now) (c .before .before .before .before .before .before .args .versions .now) (c .before .before .before .before .before .before .args .lengths .now) (c .before .before .before .before .before .before .args .version) (c .before .before .before .before .before .before .args .floor)) (c .before .before .before .before .before .before .args .store .now) (c .before .before .before .before .before .before .args .key) _ _ _ (c .before .before .before .before .body-number .ensures) (c .before .before .if1 .left) (c .before .place-of .ensures) (c .length-at .ensures)
+returns-2 c =
+    let args = c .before .before .before .before .before .before .args in
+    part-here (boardOf (args .keys .now) (args .versions .now) (args .lengths .now) (args .version) (args .floor))
+    (args .store .now) (args .key) _ _ _ (c .before .before .before .before .body-number .ensures)
+    (c .before .before .if1 .left) (c .before .place-of .ensures) (c .length-at .ensures)
 
 pub strundevi-raw-body-spec : {M : Type 1} → statement M
 strundevi-raw-body-spec =

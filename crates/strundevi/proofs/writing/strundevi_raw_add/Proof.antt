@@ -27,15 +27,20 @@ same-length c = search needs
 returns : tie.Need-returns
 returns c =
     let e = c .before .before .before .add-parts .ensures in
-    let g : Outline → Segment = λ o. segmentWith o (c .before .before .before .before .before .before .before .before .before .before .before .args .sid .now) (c .before .before .before .before .before .before .before .before .before .before .before .args .nai .now) (c .before .before .before .before .before .before .before .before .before .before .before .args .structure .now) in
-    let b = c .before .before .before .before .before .before .before .before .before .before .before .args .buffer .now in
-    let w = c .before .before .before .before .before .before .before .before .writer-in .result in
-    let o = c .before .before .before .before .before .before .before .outline-in .result in (
+    let before7 = c .before .before .before .before .before .before .before in
+    let args = before7 .before .before .before .before .args in
+    let g : Outline → Segment = λ o. segmentWith o (args .sid .now) (args .nai .now) (args .structure .now) in
+    let b = args .buffer .now in
+    let w = before7 .before .writer-in .result in
+    let o = before7 .outline-in .result in (
       c .written-out .ensures
-          ∙ ap writtenOut (e .0 ∙ ap (λ (x : Writer). addAnswer b x (g o)) (c .before .before .before .before .before .before .before .before .writer-in .ensures)
-          ∙ ap (λ (x : Outline). addAnswer b (writerIn (c .before .before .before .before .before .before .before .before .before .before .before .args .writer)) (g x)) (c .before .before .before .before .before .before .before .outline-in .ensures .0)),
-      e .1 ∙ ap (λ (x : Writer). addBuffer b x (g o)) (c .before .before .before .before .before .before .before .before .writer-in .ensures)
-          ∙ ap (λ (x : Outline). addBuffer b (writerIn (c .before .before .before .before .before .before .before .before .before .before .before .args .writer)) (g x)) (c .before .before .before .before .before .before .before .outline-in .ensures .0),
+          ∙ ap writtenOut
+          (e .0
+          ∙ ap (λ (x : Writer). addAnswer b x (g o)) (before7 .before .writer-in .ensures)
+          ∙ ap (λ (x : Outline). addAnswer b (writerIn (args .writer)) (g x)) (before7 .outline-in .ensures .0)),
+      e .1
+          ∙ ap (λ (x : Writer). addBuffer b x (g o)) (before7 .before .writer-in .ensures)
+          ∙ ap (λ (x : Outline). addBuffer b (writerIn (args .writer)) (g x)) (before7 .outline-in .ensures .0),
     )
 
 pub strundevi-raw-add-spec : {M : Type 1} → statement M

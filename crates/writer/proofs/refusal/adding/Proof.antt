@@ -29,14 +29,25 @@ nine-requires c κs = search needs
 
 returns-2 : tie.Need-returns-2
 unfolding addNumber
-returns-2 c = simp (← head (c .before .before .before .before .before .before .before), sym (c .before .before .before .eight .ensures) ∙ c .before .before .if1 .left, sym (c .before .nine .ensures) ∙ c .if2 .taken)
+returns-2 c =
+    simp (
+      ← head (c .before .before .before .before .before .before .before),
+      sym (c .before .before .before .eight .ensures) ∙ c .before .before .if1 .left,
+      sym (c .before .nine .ensures) ∙ c .if2 .taken,
+    )
 
 misfit-requires : tie.Need-misfit-requires
 misfit-requires c κs = search needs
 
 returns-3 : tie.Need-returns-3
 unfolding addNumber
-returns-3 c = simp (← head (c .before .before .before .before .before .before .before .before .before), sym (c .before .before .before .before .before .eight .ensures) ∙ c .before .before .before .before .if1 .left, sym (c .before .before .before .nine .ensures) ∙ c .before .before .if2 .left, sym (c .before .misfit .ensures) ∙ c .if3 .taken)
+returns-3 c =
+    simp (
+      ← head (c .before .before .before .before .before .before .before .before .before),
+      sym (c .before .before .before .before .before .eight .ensures) ∙ c .before .before .before .before .if1 .left,
+      sym (c .before .before .before .nine .ensures) ∙ c .before .before .if2 .left,
+      sym (c .before .misfit .ensures) ∙ c .if3 .taken,
+    )
 
 sum-at-requires : tie.Need-sum-at-requires
 sum-at-requires c κs = search needs
@@ -72,8 +83,13 @@ returns-5 c = simp (
 
 add-past : tie.Need-add-past
 add-past c =
-    let p = proper (c .before .before .before .before .before .before .before .before .before .before .before .before .before .before .before .before .args .writer .at) (c .before .before .before .before .before .before .before .before .before .before .before .before .before .before .before .before .args .room) (sym (c .before .before .before .misplaced .ensures) ∙ c .before .before .if5 .left) in
-    let s = small-head (segmentWith (c .before .before .before .before .before .before .before .before .before .before .before .before .before .before .before .before .args .o) (c .before .before .before .before .before .before .before .before .before .before .before .before .before .before .before .before .args .sid .now) (c .before .before .before .before .before .before .before .before .before .before .before .before .before .before .before .before .args .nai .now) (c .before .before .before .before .before .before .before .before .before .before .before .before .before .before .before .before .args .bits .now)) (c .before .before .before .before .before .before .before .before .before .before .before .before .before .before .before .before .args .h) (head (c .before .before .before .before .before .before .before .before .before .before .before .before .before .before .before .before)) (sym (c .before .before .before .before .before .before .before .before .before .before .before .before .eight .ensures) ∙ c .before .before .before .before .before .before .before .before .before .before .before .if1 .left) in
+    let before11 = c .before .before .before .before .before .before .before .before .before .before .before in
+    let before16 = before11 .before .before .before .before .before in
+    let p = proper (before16 .args .writer .at) (before16 .args .room)
+    (sym (c .before .before .before .misplaced .ensures) ∙ c .before .before .if5 .left) in
+    let s = small-head
+    (segmentWith (before16 .args .o) (before16 .args .sid .now) (before16 .args .nai .now) (before16 .args .bits .now))
+    (before16 .args .h) (head before16) (sym (before11 .before .eight .ensures) ∙ before11 .if1 .left) in
     omega arith
 
 past-requires : tie.Need-past-requires
@@ -81,31 +97,39 @@ past-requires c κs = search needs
 
 returns-6 : tie.Need-returns-6
 unfolding addNumber bitsOf noRoom
-returns-6 c = simp (
-  sized (c .before .before .before .before .before .before .before .before .before .before .before .before .before .before .before .before .before .before),
-  ← head (c .before .before .before .before .before .before .before .before .before .before .before .before .before .before .before .before .before .before),
-  sym (c .before .before .before .before .before .before .before .before .before .before .before .before .before .before .eight .ensures) ∙ c .before .before .before .before .before .before .before .before .before .before .before .before .before .if1 .left,
-  sym (c .before .before .before .before .before .before .before .before .before .before .before .before .nine .ensures) ∙ c .before .before .before .before .before .before .before .before .before .before .before .if2 .left,
-  sym (c .before .before .before .before .before .before .before .before .before .before .misfit .ensures) ∙ c .before .before .before .before .before .before .before .before .before .if3 .left,
-  ← c .before .before .before .before .before .before .before .before .sum-at .ensures .0,
-  sym (c .before .before .before .before .before .before .before .eleven .ensures) ∙ c .before .before .before .before .before .before .if4 .left,
-  sym (c .before .before .before .before .before .misplaced .ensures) ∙ c .before .before .before .before .if5 .left,
-  sym (c .before .past .ensures) ∙ c .if6 .taken,
-)
+returns-6 c =
+    let before4 = c .before .before .before .before in
+    let before8 = before4 .before .before .before .before in
+    let before12 = before8 .before .before .before .before in
+    simp (
+      sized (before12 .before .before .before .before .before .before),
+      ← head (before12 .before .before .before .before .before .before),
+      sym (before12 .before .before .eight .ensures) ∙ before12 .before .if1 .left,
+      sym (before12 .nine .ensures) ∙ before8 .before .before .before .if2 .left,
+      sym (before8 .before .before .misfit .ensures) ∙ before8 .before .if3 .left,
+      ← before8 .sum-at .ensures .0,
+      sym (before4 .before .before .before .eleven .ensures) ∙ before4 .before .before .if4 .left,
+      sym (before4 .before .misplaced .ensures) ∙ before4 .if5 .left,
+      sym (c .before .past .ensures) ∙ c .if6 .taken,
+    )
 
 returns-7 : tie.Need-returns-7
 unfolding addNumber bitsOf noRoom
-returns-7 c = simp (
-  sized (c .before .before .before .before .before .before .before .before .before .before .before .before .before .before .before .before .before .before),
-  ← head (c .before .before .before .before .before .before .before .before .before .before .before .before .before .before .before .before .before .before),
-  sym (c .before .before .before .before .before .before .before .before .before .before .before .before .before .before .eight .ensures) ∙ c .before .before .before .before .before .before .before .before .before .before .before .before .before .if1 .left,
-  sym (c .before .before .before .before .before .before .before .before .before .before .before .before .nine .ensures) ∙ c .before .before .before .before .before .before .before .before .before .before .before .if2 .left,
-  sym (c .before .before .before .before .before .before .before .before .before .before .misfit .ensures) ∙ c .before .before .before .before .before .before .before .before .before .if3 .left,
-  ← c .before .before .before .before .before .before .before .before .sum-at .ensures .0,
-  sym (c .before .before .before .before .before .before .before .eleven .ensures) ∙ c .before .before .before .before .before .before .if4 .left,
-  sym (c .before .before .before .before .before .misplaced .ensures) ∙ c .before .before .before .before .if5 .left,
-  sym (c .before .past .ensures) ∙ c .if6 .left,
-)
+returns-7 c =
+    let before4 = c .before .before .before .before in
+    let before8 = before4 .before .before .before .before in
+    let before12 = before8 .before .before .before .before in
+    simp (
+      sized (before12 .before .before .before .before .before .before),
+      ← head (before12 .before .before .before .before .before .before),
+      sym (before12 .before .before .eight .ensures) ∙ before12 .before .if1 .left,
+      sym (before12 .nine .ensures) ∙ before8 .before .before .before .if2 .left,
+      sym (before8 .before .before .misfit .ensures) ∙ before8 .before .if3 .left,
+      ← before8 .sum-at .ensures .0,
+      sym (before4 .before .before .before .eleven .ensures) ∙ before4 .before .before .if4 .left,
+      sym (before4 .before .misplaced .ensures) ∙ before4 .if5 .left,
+      sym (c .before .past .ensures) ∙ c .if6 .left,
+    )
 
 pub adding-spec : {M : Type 1} → statement M
 adding-spec =

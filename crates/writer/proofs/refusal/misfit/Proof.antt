@@ -23,7 +23,15 @@ either-requires-3 c κs = search needs
 
 returns : tie.Need-returns
 unfolding unfit
-returns c = rw (c .either3 .ensures, c .before .either2 .ensures, c .before .before .tidy .ensures, c .before .before .before .both2 .ensures, c .before .before .before .before .either .ensures, c .before .before .before .before .before .both .ensures)
+returns c =
+    rw (
+      c .either3 .ensures,
+      c .before .either2 .ensures,
+      c .before .before .tidy .ensures,
+      c .before .before .before .both2 .ensures,
+      c .before .before .before .before .either .ensures,
+      c .before .before .before .before .before .both .ensures,
+    )
 
 pub misfit-spec : {M : Type 1} → statement M
 misfit-spec =

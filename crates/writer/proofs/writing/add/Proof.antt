@@ -25,10 +25,13 @@ same-length c = search needs
 
 returns : tie.Need-returns
 returns c =
-    let g = c .before .before .before .before .before .before .before .before .before .before .before .before .args .segment in
-    let e : segmentWith (c .before .before .before .before .before .before .outline-of .result) (g .sid) (g .nai) (g .structure) ≡ g = rw (c .before .before .before .before .before .before .outline-of .ensures .0) in (
-      c .before .before .add-parts .ensures .0 ∙ ap (addAnswer (c .before .before .before .before .before .before .before .before .before .before .before .before .args .buf .now) (c .before .before .before .before .before .before .before .before .before .before .before .before .args .writer)) e,
-      c .before .before .add-parts .ensures .1 ∙ ap (addBuffer (c .before .before .before .before .before .before .before .before .before .before .before .before .args .buf .now) (c .before .before .before .before .before .before .before .before .before .before .before .before .args .writer)) e,
+    let before6 = c .before .before .before .before .before .before in
+    let args = before6 .before .before .before .before .before .before .args in
+    let g = args .segment in
+    let e : segmentWith (before6 .outline-of .result) (g .sid) (g .nai) (g .structure) ≡ g = rw
+    (before6 .outline-of .ensures .0) in (
+      c .before .before .add-parts .ensures .0 ∙ ap (addAnswer (args .buf .now) (args .writer)) e,
+      c .before .before .add-parts .ensures .1 ∙ ap (addBuffer (args .buf .now) (args .writer)) e,
     )
 
 pub add-spec : {M : Type 1} → statement M

@@ -13,18 +13,52 @@ use Rattle.writer.proofs.Laws.{Taken, taken, size-subobject, answered-r
 use Rattle.writer.proofs.writing.add_parts.Statement.{statement}
 use Rattle.writer.proofs.writing.add_parts.Tie as tie
 
-free : (c : tie.Else1) → addNumber (length (c .before .before .before .before .before .before .before .args .buf .now)) (c .before .before .before .before .before .before .before .args .writer) (segmentWith (c .before .before .before .before .before .before .before .args .o) (c .before .before .before .before .before .before .before .args .sid .now) (c .before .before .before .before .before .before .before .args .nai .now) (c .before .before .before .before .before .before .before .args .bits .now)) ≡ 0
+free : (c : tie.Else1)
+    → addNumber (length (c .before .before .before .before .before .before .before .args .buf .now))
+    (c .before .before .before .before .before .before .before .args .writer)
+    (segmentWith (c .before .before .before .before .before .before .before .args .o)
+    (c .before .before .before .before .before .before .before .args .sid .now)
+    (c .before .before .before .before .before .before .before .args .nai .now)
+    (c .before .before .before .before .before .before .before .args .bits .now))
+    ≡ 0
 free c = sym (c .before .adding .ensures) ∙ c .if1 .left
 
-fits : (c : tie.Else1) → Taken (length (c .before .before .before .before .before .before .before .args .buf .now)) (c .before .before .before .before .before .before .before .args .writer) (segmentWith (c .before .before .before .before .before .before .before .args .o) (c .before .before .before .before .before .before .before .args .sid .now) (c .before .before .before .before .before .before .before .args .nai .now) (c .before .before .before .before .before .before .before .args .bits .now))
-fits c = taken (length (c .before .before .before .before .before .before .before .args .buf .now)) (c .before .before .before .before .before .before .before .args .writer) (segmentWith (c .before .before .before .before .before .before .before .args .o) (c .before .before .before .before .before .before .before .args .sid .now) (c .before .before .before .before .before .before .before .args .nai .now) (c .before .before .before .before .before .before .before .args .bits .now)) (free c)
+fits : (c : tie.Else1)
+    → Taken (length (c .before .before .before .before .before .before .before .args .buf .now))
+    (c .before .before .before .before .before .before .before .args .writer)
+    (segmentWith (c .before .before .before .before .before .before .before .args .o)
+    (c .before .before .before .before .before .before .before .args .sid .now)
+    (c .before .before .before .before .before .before .before .args .nai .now)
+    (c .before .before .before .before .before .before .before .args .bits .now))
+fits c =
+    let args = c .before .before .before .before .before .before .before .args in
+    taken (length (args .buf .now)) (args .writer)
+    (segmentWith (args .o) (args .sid .now) (args .nai .now) (args .bits .now)) (free c)
 
-head : (c : tie.After-head-of) → c .head-of .result ≡ headOfSegment (segmentWith (c .before .before .before .before .before .args .o) (c .before .before .before .before .before .args .sid .now) (c .before .before .before .before .before .args .nai .now) (c .before .before .before .before .before .args .bits .now))
+head : (c : tie.After-head-of)
+    → c .head-of .result
+    ≡ headOfSegment
+    (segmentWith (c .before .before .before .before .before .args .o)
+    (c .before .before .before .before .before .args .sid .now)
+    (c .before .before .before .before .before .args .nai .now)
+    (c .before .before .before .before .before .args .bits .now))
 unfolding headOfSegment
 head c = c .head-of .ensures .0
 
-sized : (c : tie.After-head-of) → c .head-of .result .size ≡ length (subobjectOf (segmentWith (c .before .before .before .before .before .args .o) (c .before .before .before .before .before .args .sid .now) (c .before .before .before .before .before .args .nai .now) (c .before .before .before .before .before .args .bits .now)))
-sized c = ap (λ (h : Head). h .size) (head c) ∙ size-subobject (segmentWith (c .before .before .before .before .before .args .o) (c .before .before .before .before .before .args .sid .now) (c .before .before .before .before .before .args .nai .now) (c .before .before .before .before .before .args .bits .now)) (c .before .before .before .before .before .pre)
+sized : (c : tie.After-head-of)
+    → c .head-of .result .size
+    ≡ length
+    (subobjectOf
+    (segmentWith (c .before .before .before .before .before .args .o)
+    (c .before .before .before .before .before .args .sid .now)
+    (c .before .before .before .before .before .args .nai .now)
+    (c .before .before .before .before .before .args .bits .now)))
+sized c =
+    let before5 = c .before .before .before .before .before in
+    ap (λ (h : Head). h .size) (head c)
+    ∙ size-subobject
+    (segmentWith (before5 .args .o) (before5 .args .sid .now) (before5 .args .nai .now) (before5 .args .bits .now))
+    (before5 .pre)
 
 head-of-requires : tie.Need-head-of-requires
 head-of-requires c κs = search needs
@@ -53,8 +87,12 @@ part-write-end c = search needs
 
 write-requires : tie.Need-write-requires
 write-requires c κs =
-    let t = fits (c .before) in
-    (c .before .before .before .before .before .before .before .before .pre, c .before .before .before .head-of .ensures .0, ap rule8 (head (c .before .before .before)) ∙ t .r8, simp (rest-lent, length-drop) (omega (arith, t .place .inside, t .end .inside)))
+    let t = fits (c .before) in (
+      c .before .before .before .before .before .before .before .before .pre,
+      c .before .before .before .head-of .ensures .0,
+      ap rule8 (head (c .before .before .before)) ∙ t .r8,
+      simp (rest-lent, length-drop) (omega (arith, t .place .inside, t .end .inside)),
+    )
 
 add-t10 : tie.Need-add-t10
 add-t10 c = let t = fits (c .before .before .before .before .before) in omega (arith, sized (c .before .before .before .before .before .before .before), t .end .most)
@@ -68,11 +106,18 @@ same-length c = search needs
 returns-2 : tie.Need-returns-2
 unfolding addAnswer addBuffer
 returns-2 c =
-    let w = c .before .before .before .before .before .before .before .before .before .before .before .before .before .args .writer in
-    let e : _≡_ {A = Writer} (record { ero = w .ero; at = w .at + c .before .before .before .before .before .before .before .before .head-of .result .size }) (record { ero = w .ero; at = w .at + length (subobjectOf (segmentWith (c .before .before .before .before .before .before .before .before .before .before .before .before .before .args .o) (c .before .before .before .before .before .before .before .before .before .before .before .before .before .args .sid .now) (c .before .before .before .before .before .before .before .before .before .before .before .before .before .args .nai .now) (c .before .before .before .before .before .before .before .before .before .before .before .before .before .args .bits .now))) })
-    = rw (sized (c .before .before .before .before .before .before .before .before)) in (
-      answered-accepted _ _ _ (c .accept .ensures ∙ ap acceptedAs e) (free (c .before .before .before .before .before .before)),
-      buffer-accepted _ _ _ (placed-back _ _ _ _ (c .before .before .before .before .write .ensures)) (free (c .before .before .before .before .before .before)),
+    let before4 = c .before .before .before .before in
+    let before6 = before4 .before .before in
+    let args = before6 .before .before .before .before .before .before .before .args in
+    let w = args .writer in
+    let e : _≡_ {A = Writer} (record { ero = w .ero; at = w .at + before6 .before .before .head-of .result .size })
+    (record {
+      ero = w .ero;
+      at = w .at + length (subobjectOf (segmentWith (args .o) (args .sid .now) (args .nai .now) (args .bits .now)));
+    })
+    = rw (sized (before6 .before .before)) in (
+      answered-accepted _ _ _ (c .accept .ensures ∙ ap acceptedAs e) (free before6),
+      buffer-accepted _ _ _ (placed-back _ _ _ _ (before4 .write .ensures)) (free before6),
     )
 
 pub add-parts-spec : {M : Type 1} → statement M

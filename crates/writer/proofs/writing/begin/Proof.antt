@@ -44,7 +44,12 @@ same-length c = search needs
 
 returns-2 : tie.Need-returns-2
 unfolding beginNumber beginAnswer beginBuffer
-returns-2 c = (simp (le-ltb _ _ (c .before .before .if1 .left)) (c .accept .ensures), simp (le-ltb _ _ (c .before .before .if1 .left)) (header-stored (c .before .before .before .before .args .buf .now) (c .before .before .before .before .args .ero) (c .before .pick .result) (c .before .pick .ensures .0) (c .before .before .if1 .left)))
+returns-2 c = (
+  simp (le-ltb _ _ (c .before .before .if1 .left)) (c .accept .ensures),
+  simp (le-ltb _ _ (c .before .before .if1 .left))
+      (header-stored (c .before .before .before .before .args .buf .now) (c .before .before .before .before .args .ero)
+      (c .before .pick .result) (c .before .pick .ensures .0) (c .before .before .if1 .left)),
+)
 
 pub begin-spec : {M : Type 1} → statement M
 begin-spec =

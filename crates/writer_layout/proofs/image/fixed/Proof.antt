@@ -81,7 +81,9 @@ same-length c = simp length-set
 
 returns : tie.Need-returns
 unfolding fixedOctets over
-returns c = sets-eq (fixedOctets (c .before .before .before .before .before .before .before .before .args .h) (c .before .before .before .before .before .before .before .before .args .behaviour)) (c .before .before .before .before .before .before .before .before .args .out .now) 0 (omega arith)
+returns c =
+    let args = c .before .before .before .before .before .before .before .before .args in
+    sets-eq (fixedOctets (args .h) (args .behaviour)) (args .out .now) 0 (omega arith)
 
 pub fixed-spec : {M : Type 1} → statement M
 fixed-spec =

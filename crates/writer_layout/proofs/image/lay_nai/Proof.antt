@@ -18,65 +18,98 @@ array-share-prefix-whole c = search needs
 
 slice-aggregate-lay : tie.Need-slice-aggregate-lay
 slice-aggregate-lay c =
-    let e = ap length (own (c .before .before .before .before .before .before .args .nai .now) (c .before .before .before .part40 .result) 40 (c .before .before .before .before .before .before .pre .0) (c .before .before .before .part40 .ensures)) in
-    sym (length-take-le 16 (c .before .before .before .part40 .result) (omega (arith, c .before .before .before .before .before .before .pre .0)))
+    let before3 = c .before .before .before in
+    let e = ap length
+    (own (before3 .before .before .before .args .nai .now) (before3 .part40 .result) 40
+    (before3 .before .before .before .pre .0) (before3 .part40 .ensures)) in
+    sym (length-take-le 16 (before3 .part40 .result) (omega (arith, before3 .before .before .before .pre .0)))
 
 lay-requires : tie.Need-lay-requires
 lay-requires c κs =
-    let e = ap length (own (c .before .before .before .before .before .before .args .nai .now) (c .before .before .before .part40 .result) 40 (c .before .before .before .before .before .before .pre .0) (c .before .before .before .part40 .ensures)) in
-    room-nai (c .before .before .before .before .before .before .args .nt) 16 (c .before .before .before .before .before .before .args .at) _ (c .before .before .before .part40 .result) (nai-node (c .before .before .before .before .before .before .args .nt) (c .before .before .if1 .taken)) (omega (arith, c .before .before .before .before .before .before .pre .0)) (c .before .before .before .before .before .before .pre .1)
+    let before6 = c .before .before .before .before .before .before in
+    let e = ap length
+    (own (before6 .args .nai .now) (c .before .before .before .part40 .result) 40 (before6 .pre .0)
+    (c .before .before .before .part40 .ensures)) in
+    room-nai (before6 .args .nt) 16 (before6 .args .at) _ (c .before .before .before .part40 .result)
+    (nai-node (before6 .args .nt) (c .before .before .if1 .taken)) (omega (arith, before6 .pre .0)) (before6 .pre .1)
 
 same-length : tie.Need-same-length
 same-length c = search needs
 
 returns : tie.Need-returns
 returns c =
-    let e = own (c .before .before .before .before .before .before .before .before .before .args .nai .now) (c .before .before .before .before .before .before .part40 .result) 40 (c .before .before .before .before .before .before .before .before .before .pre .0) (c .before .before .before .before .before .before .part40 .ensures) in
-    laid-nai (c .before .before .before .before .before .before .before .before .before .args .nt) 16 (c .before .before .before .before .before .before .before .before .before .args .at) (c .before .before .before .before .before .before .before .before .before .args .out .now) (c .before .before .before .before .before .before .before .before .before .args .nai .now) _ (nai-node (c .before .before .before .before .before .before .before .before .before .args .nt) (c .before .before .before .before .before .if1 .taken))
-    (c .before .before .lay .ensures ∙ ap (λ (l : List ℕ). placed (c .before .before .before .before .before .before .before .before .before .args .out .now) (c .before .before .before .before .before .before .before .before .before .args .at) (take 16 l)) e)
+    let before5 = c .before .before .before .before .before in
+    let before9 = before5 .before .before .before .before in
+    let e = own (before9 .args .nai .now) (before5 .before .part40 .result) 40 (before9 .pre .0)
+    (before5 .before .part40 .ensures) in
+    laid-nai (before9 .args .nt) 16 (before9 .args .at) (before9 .args .out .now) (before9 .args .nai .now) _
+    (nai-node (before9 .args .nt) (before5 .if1 .taken))
+    (c .before .before .lay .ensures
+    ∙ ap (λ (l : List ℕ). placed (before9 .args .out .now) (before9 .args .at) (take 16 l)) e)
 
 array-share-prefix-whole-2 : tie.Need-array-share-prefix-whole-2
 array-share-prefix-whole-2 c = search needs
 
 slice-aggregate-lay-2 : tie.Need-slice-aggregate-lay-2
 slice-aggregate-lay-2 c =
-    let e = ap length (own (c .before .before .before .before .before .before .before .args .nai .now) (c .before .before .before .before .part40 .result) 40 (c .before .before .before .before .before .before .before .pre .0) (c .before .before .before .before .part40 .ensures)) in
-    sym (length-take-le 32 (c .before .before .before .before .part40 .result) (omega (arith, c .before .before .before .before .before .before .before .pre .0)))
+    let before4 = c .before .before .before .before in
+    let e = ap length
+    (own (before4 .before .before .before .args .nai .now) (before4 .part40 .result) 40
+    (before4 .before .before .before .pre .0) (before4 .part40 .ensures)) in
+    sym (length-take-le 32 (before4 .part40 .result) (omega (arith, before4 .before .before .before .pre .0)))
 
 lay-requires-2 : tie.Need-lay-requires-2
 lay-requires-2 c κs =
-    let e = ap length (own (c .before .before .before .before .before .before .before .args .nai .now) (c .before .before .before .before .part40 .result) 40 (c .before .before .before .before .before .before .before .pre .0) (c .before .before .before .before .part40 .ensures)) in
-    room-nai (c .before .before .before .before .before .before .before .args .nt) 32 (c .before .before .before .before .before .before .before .args .at) _ (c .before .before .before .before .part40 .result) (nai-adjacency (c .before .before .before .before .before .before .before .args .nt) (c .before .before .if2 .taken)) (omega (arith, c .before .before .before .before .before .before .before .pre .0)) (c .before .before .before .before .before .before .before .pre .1)
+    let before4 = c .before .before .before .before in
+    let before7 = before4 .before .before .before in
+    let e = ap length
+    (own (before7 .args .nai .now) (before4 .part40 .result) 40 (before7 .pre .0) (before4 .part40 .ensures)) in
+    room-nai (before7 .args .nt) 32 (before7 .args .at) _ (before4 .part40 .result)
+    (nai-adjacency (before7 .args .nt) (c .before .before .if2 .taken)) (omega (arith, before7 .pre .0))
+    (before7 .pre .1)
 
 same-length-2 : tie.Need-same-length-2
 same-length-2 c = search needs
 
 returns-2 : tie.Need-returns-2
 returns-2 c =
-    let e = own (c .before .before .before .before .before .before .before .before .before .before .args .nai .now) (c .before .before .before .before .before .before .before .part40 .result) 40 (c .before .before .before .before .before .before .before .before .before .before .pre .0) (c .before .before .before .before .before .before .before .part40 .ensures) in
-    laid-nai (c .before .before .before .before .before .before .before .before .before .before .args .nt) 32 (c .before .before .before .before .before .before .before .before .before .before .args .at) (c .before .before .before .before .before .before .before .before .before .before .args .out .now) (c .before .before .before .before .before .before .before .before .before .before .args .nai .now) _ (nai-adjacency (c .before .before .before .before .before .before .before .before .before .before .args .nt) (c .before .before .before .before .before .if2 .taken))
-    (c .before .before .lay2 .ensures ∙ ap (λ (l : List ℕ). placed (c .before .before .before .before .before .before .before .before .before .before .args .out .now) (c .before .before .before .before .before .before .before .before .before .before .args .at) (take 32 l)) e)
+    let before5 = c .before .before .before .before .before in
+    let before10 = before5 .before .before .before .before .before in
+    let e = own (before10 .args .nai .now) (before5 .before .before .part40 .result) 40 (before10 .pre .0)
+    (before5 .before .before .part40 .ensures) in
+    laid-nai (before10 .args .nt) 32 (before10 .args .at) (before10 .args .out .now) (before10 .args .nai .now) _
+    (nai-adjacency (before10 .args .nt) (before5 .if2 .taken))
+    (c .before .before .lay2 .ensures
+    ∙ ap (λ (l : List ℕ). placed (before10 .args .out .now) (before10 .args .at) (take 32 l)) e)
 
 slice-aggregate-lay-3 : tie.Need-slice-aggregate-lay-3
 slice-aggregate-lay-3 c = search needs
 
 lay-requires-3 : tie.Need-lay-requires-3
 lay-requires-3 c κs =
-    let e = ap length (own (c .before .before .before .before .before .before .before .before .args .nai .now) (c .before .before .before .before .before .part40 .result) 40 (c .before .before .before .before .before .before .before .before .pre .0) (c .before .before .before .before .before .part40 .ensures)) in
-    omega (arith, c .before .before .before .before .before .before .before .before .pre .0, c .before .before .before .before .before .before .before .before .pre .1, nai-link (c .before .before .before .before .before .before .before .before .args .nt) (c .before .before .if3 .taken))
+    let before8 = c .before .before .before .before .before .before .before .before in
+    let e = ap length
+    (own (before8 .args .nai .now) (c .before .before .before .before .before .part40 .result) 40 (before8 .pre .0)
+    (c .before .before .before .before .before .part40 .ensures)) in
+    omega (arith, before8 .pre .0, before8 .pre .1, nai-link (before8 .args .nt) (c .before .before .if3 .taken))
 
 same-length-3 : tie.Need-same-length-3
 same-length-3 c = search needs
 
 returns-3 : tie.Need-returns-3
 returns-3 c =
-    let e = own (c .before .before .before .before .before .before .before .before .before .before .before .args .nai .now) (c .before .before .before .before .before .before .before .before .part40 .result) 40 (c .before .before .before .before .before .before .before .before .before .before .before .pre .0) (c .before .before .before .before .before .before .before .before .part40 .ensures) in
-    laid-nai-whole (c .before .before .before .before .before .before .before .before .before .before .before .args .nt) (c .before .before .before .before .before .before .before .before .before .before .before .args .at) (c .before .before .before .before .before .before .before .before .before .before .before .args .out .now) (c .before .before .before .before .before .before .before .before .before .before .before .args .nai .now) _ (c .before .before .before .before .before .before .before .before .before .before .before .pre .0) (nai-link (c .before .before .before .before .before .before .before .before .before .before .before .args .nt) (c .before .before .before .before .before .if3 .taken))
-    (c .before .before .lay3 .ensures ∙ ap (λ (l : List ℕ). placed (c .before .before .before .before .before .before .before .before .before .before .before .args .out .now) (c .before .before .before .before .before .before .before .before .before .before .before .args .at) l) e)
+    let before8 = c .before .before .before .before .before .before .before .before in
+    let before11 = before8 .before .before .before in
+    let e = own (before11 .args .nai .now) (before8 .part40 .result) 40 (before11 .pre .0) (before8 .part40 .ensures) in
+    laid-nai-whole (before11 .args .nt) (before11 .args .at) (before11 .args .out .now) (before11 .args .nai .now) _
+    (before11 .pre .0) (nai-link (before11 .args .nt) (c .before .before .before .before .before .if3 .taken))
+    (c .before .before .lay3 .ensures ∙ ap (λ (l : List ℕ). placed (before11 .args .out .now) (before11 .args .at) l) e)
 
 returns-4 : tie.Need-returns-4
 returns-4 c =
-    laid-nai-none (c .before .before .before .before .before .before .args .nt) (c .before .before .before .before .before .before .args .at) (c .before .before .before .before .before .before .args .out .now) (c .before .before .before .before .before .before .args .nai .now) (nai-none (c .before .before .before .before .before .before .args .nt) (c .before .before .if1 .left) (c .before .if2 .left) (c .if3 .left))
+    let args = c .before .before .before .before .before .before .args in
+    laid-nai-none (args .nt) (args .at) (args .out .now) (args .nai .now)
+    (nai-none (args .nt) (c .before .before .if1 .left) (c .before .if2 .left) (c .if3 .left))
 
 pub lay-nai-spec : {M : Type 1} → statement M
 lay-nai-spec =

@@ -18,17 +18,23 @@ slice-aggregate-lay c = search needs
 
 lay-requires : tie.Need-lay-requires
 lay-requires c κs =
-    let e = own (c .before .before .before .before .before .before .args .sid .now) (c .before .before .part16 .result) 16 (c .before .before .before .before .before .before .pre .0) (c .before .before .part16 .ensures) in
-    room-there (c .before .before .before .before .before .before .args .there) (c .before .before .part16 .result) (c .before .before .before .before .before .before .args .at) 16 _ (ap length e ∙ c .before .before .before .before .before .before .pre .0) (c .before .before .before .if1 .taken) (c .before .before .before .before .before .before .pre .1)
+    let before6 = c .before .before .before .before .before .before in
+    let e = own (before6 .args .sid .now) (c .before .before .part16 .result) 16 (before6 .pre .0)
+    (c .before .before .part16 .ensures) in
+    room-there (before6 .args .there) (c .before .before .part16 .result) (before6 .args .at) 16 _
+    (ap length e ∙ before6 .pre .0) (c .before .before .before .if1 .taken) (before6 .pre .1)
 
 same-length : tie.Need-same-length
 same-length c = search needs
 
 returns : tie.Need-returns
 returns c =
-    let e = own (c .before .before .before .before .before .before .before .before .before .args .sid .now) (c .before .before .before .before .before .part16 .result) 16 (c .before .before .before .before .before .before .before .before .before .pre .0) (c .before .before .before .before .before .part16 .ensures) in
-    laid-there (c .before .before .before .before .before .before .before .before .before .args .there) (c .before .before .before .before .before .before .before .before .before .args .out .now) (c .before .before .before .before .before .before .before .before .before .args .sid .now) _ (c .before .before .before .before .before .before .before .before .before .args .at) 16 (c .before .before .before .before .before .before .before .before .before .pre .0) (c .before .before .before .before .before .before .if1 .taken)
-    (c .before .before .lay .ensures ∙ ap (λ (l : List ℕ). placed (c .before .before .before .before .before .before .before .before .before .args .out .now) (c .before .before .before .before .before .before .before .before .before .args .at) l) e)
+    let before5 = c .before .before .before .before .before in
+    let before9 = before5 .before .before .before .before in
+    let e = own (before9 .args .sid .now) (before5 .part16 .result) 16 (before9 .pre .0) (before5 .part16 .ensures) in
+    laid-there (before9 .args .there) (before9 .args .out .now) (before9 .args .sid .now) _ (before9 .args .at) 16
+    (before9 .pre .0) (before5 .before .if1 .taken)
+    (c .before .before .lay .ensures ∙ ap (λ (l : List ℕ). placed (before9 .args .out .now) (before9 .args .at) l) e)
 
 returns-2 : tie.Need-returns-2
 returns-2 c =
