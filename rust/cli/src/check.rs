@@ -1,0 +1,62 @@
+//! A PCC OPEN, a PCE OPEN and an ERO, one behind the other, judged by the proved library as the checking program does: each cut by its own length
+//! field (too little left, or a length under 4: all the rest), setup type 3, octets behind the ERO ignored.
+
+use strundevi::{judge, read_open, segment, Kind, Refusal, Segment, Session};
+
+const PST_SRV6: u64 = 3;
+
+/// The object that a refusal is about, and the octet of the input where it begins.
+#[derive(Clone, Copy)]
+pub struct Object {
+    pub name: &'static str,
+    pub start: usize,
+}
+
+pub enum Checked<'a> {
+    Refused(Object, Refusal),
+    Accepted(Route<'a>),
+}
+
+/// An accepted route.
+pub struct Route<'a> {
+    pub count: usize,
+    ero: &'a [u8],
+    session: Session,
+}
+
+impl Route<'_> {
+    pub fn segments(&self) -> impl Iterator<Item = Segment> + '_ {
+        (0..self.count as u64).map_while(|i| segment(self.ero, Kind::Ero, &self.session, PST_SRV6, i).ok())
+    }
+}
+
+fn cut(octets: &[u8]) -> (&[u8], &[u8]) {
+    let size = match octets {
+        [_, _, high, low, ..] => u16::from_be_bytes([*high, *low]) as usize,
+        _ => 0,
+    };
+    if size < 4 || size > octets.len() {
+        return (octets, &[]);
+    }
+    octets.split_at(size)
+}
+
+pub fn check(octets: &[u8]) -> Checked<'_> {
+    let (pcc_octets, rest) = cut(octets);
+    let (pce_octets, rest) = cut(rest);
+    let (ero, _) = cut(rest);
+    let pce_start = pcc_octets.len();
+    let pcc = read_open(pcc_octets);
+    let pce = read_open(pce_octets);
+    if let Err(refusal) = pcc {
+        return Checked::Refused(Object { name: "PCC's OPEN", start: 0 }, refusal);
+    }
+    if let Err(refusal) = pce {
+        return Checked::Refused(Object { name: "PCE's OPEN", start: pce_start }, refusal);
+    }
+    let session = Session::agree(&pcc, &pce);
+    match judge(ero, Kind::Ero, &session, PST_SRV6) {
+        Err(refusal) => Checked::Refused(Object { name: "ERO", start: pce_start + pce_octets.len() }, refusal),
+        Ok(count) => Checked::Accepted(Route { count, ero, session }),
+    }
+}

@@ -1,0 +1,100 @@
+//! Answers as people read them.
+
+use crate::behaviour;
+use crate::check::{Checked, Object};
+use crate::numbers::{self, Pcerr, Row};
+use std::net::Ipv6Addr;
+use strundevi::{Refusal, Segment};
+
+/// One line: accepted with so many segments, or the rule, the place and the PCErr.
+pub fn verdict(checked: &Checked) -> String {
+    match checked {
+        Checked::Accepted(route) => format!("accepted, {}", counted(route.count)),
+        Checked::Refused(object, refusal) => refused(object, refusal),
+    }
+}
+
+/// The checking program's line.
+pub fn plain(checked: &Checked) -> String {
+    match checked {
+        Checked::Accepted(route) => format!("0 0 {}", route.count),
+        Checked::Refused(_, refusal) => format!("{} {} 0", refusal.number as u64, refusal.place),
+    }
+}
+
+fn counted(count: usize) -> String {
+    match count {
+        1 => "1 segment".to_string(),
+        _ => format!("{count} segments"),
+    }
+}
+
+fn refused(object: &Object, refusal: &Refusal) -> String {
+    let number = refusal.number as u64;
+    let row = numbers::row(number);
+    let name = row.as_ref().map_or("", |row| row.name);
+    let place = match refusal.place {
+        0 => format!("in the {}, which begins at octet {} of the input", object.name, object.start),
+        place => format!("at octet {place} of the {}, octet {} of the input", object.name, object.start + place),
+    };
+    let pcerr = match row.and_then(|row| row.ero.with_name()) {
+        Some(pcerr) => format!("PCErr {pcerr}"),
+        None => "no PCErr".to_string(),
+    };
+    format!("refused by {number}, {name}, {place}; {pcerr}")
+}
+
+/// A segment: what it has, and nothing of what it has not.
+pub fn segment(segment: &Segment) -> String {
+    let mut parts = Vec::new();
+    match segment.sid() {
+        Some(sid) => parts.push(format!("SID {}", Ipv6Addr::from(*sid))),
+        None => parts.push("no SID".to_string()),
+    }
+    parts.push(format!("behaviour {} ({})", segment.behaviour(), behaviour::name(segment.behaviour())));
+    if let Some(nai) = nai(segment.nai()) {
+        parts.push(nai);
+    }
+    if let Some([block, node, function, argument]) = segment.structure() {
+        parts.push(format!("structure of {block} bits of block, {node} of node, {function} of function, {argument} of argument"));
+    }
+    if segment.loose() {
+        parts.push("loose (L)".to_string());
+    }
+    if segment.verify() {
+        parts.push("to be verified (V)".to_string());
+    }
+    parts.join("; ")
+}
+
+/// The NAI by its length: a node, an adjacency, or a link-local adjacency with its interfaces.
+fn nai(octets: &[u8]) -> Option<String> {
+    let address = |at: usize| octets.get(at..)?.first_chunk::<16>().map(|a| Ipv6Addr::from(*a));
+    let interface = |at: usize| octets.get(at..)?.first_chunk::<4>().map(|i| u32::from_be_bytes(*i));
+    match octets.len() {
+        16 => Some(format!("node {}", address(0)?)),
+        32 => Some(format!("adjacency from {} to {}", address(0)?, address(16)?)),
+        40 => Some(format!("adjacency from {} on interface {} to {} on interface {}", address(0)?, interface(16)?, address(20)?, interface(36)?)),
+        _ => None,
+    }
+}
+
+/// A number of docs/NUMBERS.md, in four lines.
+pub fn explained(number: u64, row: &Row) -> String {
+    let advice = row.advice.replace("**", "");
+    format!("{number}: {}\n  means: {}\n  do: {advice}\n  PCErr: {}\n", row.name, row.says, pcerrs(row))
+}
+
+fn pcerrs(row: &Row) -> String {
+    let side = |pcerr: Pcerr, of: &str| match pcerr.with_name() {
+        Some(pcerr) => format!("{pcerr} for an {of}"),
+        None if pcerr.word() == "-" => format!("none for an {of}"),
+        None => format!("{} to an {of}", pcerr.word()),
+    };
+    match (row.ero.figures(), row.rro.figures()) {
+        (None, None) => "none".to_string(),
+        (Some(_), None) if row.rro.word().is_empty() => side(row.ero, "OPEN"),
+        (ero, rro) if ero == rro => side(row.ero, "ERO or RRO"),
+        _ => format!("{}; {}", side(row.ero, "ERO"), side(row.rro, "RRO")),
+    }
+}
