@@ -31,3 +31,6 @@ rust/target/release/examples/route | diff - rust/strundevi/examples/route.out
 echo "library: the Rust example and the reference are as they should be"
 
 rust/target/release/differ "$seed"
+tests/follow.sh
+tests/pages.sh
+tests/program.sh
