@@ -2,7 +2,7 @@
 # The examples of a follower, in C and in Rust, tell what their stored outputs tell. tests/library.sh has built the archive and the Rust examples.
 set -eu
 cd "$(dirname "$0")/.."
-out=target/follow
+out=target/library
 mkdir -p "$out"
 cc -std=c99 -pedantic -Wall -Wextra -Werror -O2 -I include examples/follow.c target/staticlib/libstrundevi.a -o "$out/follow"
 "$out/follow" | diff - examples/follow.out

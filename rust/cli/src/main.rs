@@ -22,9 +22,9 @@ strundevi --help                     this text
 FILE     octets as they are, or text of hexadecimal digits with spaces and line ends; - is standard input. The first 65,536
          octets count, and what stands behind the ERO does not.
 --plain  prints the line of the checking program: number, place, count
---       no option behind it
+--       what follows is a FILE or a NUMBER, whatever it begins with
 
-One line is written for each file, with its name; of --plain the line is alone. Faults of the command and files that cannot be
+One line is written for each file, with its name; with --plain the line alone. Faults of the command and files that cannot be
 read are told on standard error.
 
 status   0 accepted, 1 refused, 2 bad usage or an input that cannot be read; of several files the largest
@@ -144,7 +144,7 @@ fn explain(names: &[&OsStr], out: &mut impl Write) -> io::Result<u8> {
             Some((number, row)) => out.write_all(text::explained(number, &row).as_bytes())?,
             None => {
                 out.flush()?;
-                complain(&format!("{} is no number that is answered; these are 0 to {}", name.to_string_lossy(), numbers::last()));
+                complain(&format!("{} is no number that is answered; docs/NUMBERS.md has them all", name.to_string_lossy()));
                 status = UNREADABLE;
             }
         }

@@ -49,8 +49,3 @@ pub fn row(number: u64) -> Option<Row> {
         _ => None,
     }
 }
-
-/// The largest number on the page.
-pub fn last() -> u64 {
-    rows().filter(|cells| cells.len() == 6).filter_map(|cells| cells.first()?.parse().ok()).max().unwrap_or(0)
-}
