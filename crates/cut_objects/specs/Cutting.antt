@@ -6,11 +6,11 @@ use mathlib.Core.List.{List}
 use lib.Dec.{leb}
 use lib.ListN.{length, take, drop}
 use Rattle.octets.specs.Octets.{be16}
-use Rattle.objects.specs.Objects.{header, lengthAt}
+use Rattle.objects.specs.Objects.{header, lengthPlace}
 
 -- What an object's length field says.
 abbrev pub saidLength : List ℕ → ℕ
-saidLength s = be16 s lengthAt
+saidLength s = be16 s lengthPlace
 
 -- How many octets the first object has: its length, where there is a header, the length is at least 4 and that much is there; else all.
 unfoldable pub cutOf : List ℕ → ℕ

@@ -6,7 +6,7 @@ ghost use Prim.Native.Nat.{_≤_};
 ghost use lib.ListN.{length, take, drop};
 ghost use Rattle.cut_objects.specs.Cutting.{cutOf};
 use objects::HEADER;
-use objects::LENGTH_AT;
+use objects::LENGTH_PLACE;
 
 // How many octets the first object has.
 pub fn cut(s: &[u8]) -> usize
@@ -15,7 +15,7 @@ pub fn cut(s: &[u8]) -> usize
     if s.len() < HEADER {
         return s.len();
     }
-    let n = octets::read16(s, LENGTH_AT);
+    let n = octets::read16(s, LENGTH_PLACE);
     if n < HEADER {
         return s.len();
     }

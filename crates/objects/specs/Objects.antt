@@ -6,14 +6,14 @@ use Prim.Native.Nat.{ℕ}
 abbrev pub header : ℕ
 header = 4
 
-abbrev pub classAt : ℕ
-classAt = 0
+abbrev pub classPlace : ℕ
+classPlace = 0
 
-abbrev pub typeAt : ℕ
-typeAt = 1
+abbrev pub typePlace : ℕ
+typePlace = 1
 
-abbrev pub lengthAt : ℕ
-lengthAt = 2
+abbrev pub lengthPlace : ℕ
+lengthPlace = 2
 
 -- What the lowest bit of the type is worth in its octet.
 abbrev pub typeWorth : ℕ

@@ -9,11 +9,11 @@ pub const HEADER: usize = 4;
 pub const UNIT: usize = 4;
 
 // where class, type and length stand
-pub const CLASS_AT: usize = 0;
+pub const CLASS_PLACE: usize = 0;
 
-pub const TYPE_AT: usize = 1;
+pub const TYPE_PLACE: usize = 1;
 
-pub const LENGTH_AT: usize = 2;
+pub const LENGTH_PLACE: usize = 2;
 
 // what the lowest bit of the type is worth in its octet
 pub const TYPE_WORTH: usize = 16;
