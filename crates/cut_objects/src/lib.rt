@@ -3,8 +3,8 @@
 // all the rest (document 01, the checking program).
 ghost use mathlib.Core.Path.{_≡_};
 ghost use Prim.Native.Nat.{_≤_};
-ghost use lib.ListN.{length, take, drop};
-ghost use Rattle.cut_objects.specs.Cutting.{cutOf};
+ghost use lib.ListN.{length};
+ghost use Rattle.cut_objects.specs.Cutting.{cutOf, firstObject, restObjects};
 use objects::HEADER;
 use objects::LENGTH_PLACE;
 
@@ -27,7 +27,7 @@ pub fn cut(s: &[u8]) -> usize
 
 // The first object.
 pub fn first(s: &[u8]) -> &[u8]
-    ensures first { λ r. ⌜ now r ≡ take (cutOf (now (s .entry))) (now (s .entry)) ⌝ }
+    ensures first { λ r. ⌜ now r ≡ firstObject (now (s .entry)) ⌝ }
 {
     let n = cut(s);
     &s[..n]
@@ -35,7 +35,7 @@ pub fn first(s: &[u8]) -> &[u8]
 
 // What lies behind it.
 pub fn rest(s: &[u8]) -> &[u8]
-    ensures rest { λ r. ⌜ now r ≡ drop (cutOf (now (s .entry))) (now (s .entry)) ⌝ }
+    ensures rest { λ r. ⌜ now r ≡ restObjects (now (s .entry)) ⌝ }
 {
     let n = cut(s);
     &s[n..]

@@ -1,5 +1,7 @@
 -- The numbers that objects have in common (document 01, "The OPEN object" and "The route object"), by the names that the code uses.
-use Prim.Native.Nat.{ℕ}
+use Prim.Native.Nat.{ℕ, _/_}
+use mathlib.Core.List.{List}
+use Rattle.octets.specs.Octets.{octetOf, be16}
 
 -- "An object starts with class (1 octet), type in the high 4 bits of the next octet (the low 4 are ignored), and a 2-octet length that counts
 -- the 4 header octets."
@@ -18,6 +20,15 @@ lengthPlace = 2
 -- What the lowest bit of the type is worth in its octet.
 abbrev pub typeWorth : ℕ
 typeWorth = 16
+
+abbrev pub objectClass : List ℕ → ℕ
+objectClass s = octetOf s classPlace
+
+abbrev pub objectKind : List ℕ → ℕ
+objectKind s = octetOf s typePlace / typeWorth
+
+abbrev pub objectLength : List ℕ → ℕ
+objectLength s = be16 s lengthPlace
 
 -- Lengths of objects, and of what lies in them, are multiples of this.
 abbrev pub unit : ℕ

@@ -1,4 +1,5 @@
--- What the walk over the TLVs answers, by places in the octets and by the values that lie there.
+-- No promise to a caller rests on this file: what the walk inside this library finds, by places in the octets and by the values that lie
+-- there. That the answer made of it is the one of specs/Open is proved (proofs/Laws, `answered`).
 use Prim.Native.Nat.{ℕ, _+_, _≤_}
 use mathlib.Core.Path.{_≡_}
 use mathlib.Core.List.{List}
@@ -7,12 +8,12 @@ use mathlib.Core.Option.{Option, none, some}
 use lib.ListN.{length}
 use lib.Dec.{eqb}
 use Rattle.octets.specs.Octets.{part}
+use Rattle.objects.specs.Objects.{srv6Setup}
 use Rattle.answers.specs.Numbers.{capabilityMissing}
-use Rattle.session.specs.declared.Limit.the-variants.{Free}
 use Rattle.session.specs.declared.Opened.{Opened}
-use Rattle.session.specs.Sessions.{openRefused, openCarries}
-use Rattle.tlvs.specs.Tlvs.{Tlvs, tlvsOf, wholeOf, firstOf}
-use Rattle.capability.specs.SetupTypes.{pathSetup, listSize, holdsList, subsOf, listsSrv6}
+use Rattle.session.specs.Sessions.{openRefused, withoutSrv6}
+use Rattle.tlvs.specs.Tlvs.{Tlvs, tlvsOf, tlvsWhole, firstTlv}
+use Rattle.capability.specs.SetupTypes.{pathSetup, listSize, holdsList, subsOf, listsType}
 use Rattle.capability.specs.Srv6.{announcedOf}
 use Rattle.open.specs.declared.walk.Place.{Place}
 use Rattle.open.specs.declared.walk.Found.{Found}
@@ -64,20 +65,20 @@ orElse none o = o
 -- What the first TLV 34 gives, if there is one.
 abbrev pub insideOf : ℕ → Option (List ℕ) → Option (List ℕ) → Sight
 insideOf want sub none = seen none sub
-insideOf want sub (some v) = cond (holdsList v && wholeOf (subsOf v)) (seen (some v) (firstOf want (subsOf v))) torn
+insideOf want sub (some v) = cond (holdsList v && tlvsWhole (subsOf v)) (seen (some v) (firstTlv want (subsOf v))) torn
 
 -- What TLVs that all fit give, after `list` and `sub` were found before them.
 abbrev pub levelOf : Bool → ℕ → Option (List ℕ) → Option (List ℕ) → Tlvs → Sight
-levelOf true want list sub ts = seen list (orElse sub (firstOf want ts))
+levelOf true want list sub ts = seen list (orElse sub (firstTlv want ts))
 levelOf false want (some v) sub ts = seen (some v) sub
-levelOf false want none sub ts = insideOf want sub (firstOf pathSetup ts)
+levelOf false want none sub ts = insideOf want sub (firstTlv pathSetup ts)
 
-abbrev pub onward : Bool → ℕ → Option (List ℕ) → Option (List ℕ) → Tlvs → Sight
-onward inner want list sub ts = cond (wholeOf ts) (levelOf inner want list sub ts) torn
+abbrev pub openOnward : Bool → ℕ → Option (List ℕ) → Option (List ℕ) → Tlvs → Sight
+openOnward inner want list sub ts = cond (tlvsWhole ts) (levelOf inner want list sub ts) torn
 
 -- The walk over the octets given.
-unfoldable pub walkOf : Bool → ℕ → List ℕ → Sight
-walkOf inner want s = onward inner want none none (tlvsOf inner s)
+unfoldable pub openWalk : Bool → ℕ → List ℕ → Sight
+openWalk inner want s = openOnward inner want none none (tlvsOf inner s)
 
 -- what the values found carry ----------------------------------------------------------------------------------
 
@@ -86,5 +87,5 @@ announcedBy none = openRefused capabilityMissing
 announcedBy (some w) = announcedOf w
 
 abbrev pub carriedBy : Option (List ℕ) → Option (List ℕ) → Opened
-carriedBy none sub = openCarries false false Free
-carriedBy (some v) sub = cond (listsSrv6 v) (announcedBy sub) (openCarries false false Free)
+carriedBy none sub = withoutSrv6
+carriedBy (some v) sub = cond (listsType srv6Setup v) (announcedBy sub) (withoutSrv6)

@@ -7,7 +7,7 @@ ghost use mathlib.Core.Path.{_≡_};
 ghost use Prim.Native.Nat.{_-_, _≤_, _<_};
 ghost use lib.ListN.{length};
 ghost use Rattle.octets.specs.Octets.{part};
-ghost use Rattle.open.specs.Walk.{keepOf, sightOf, walkOf, Bounds};
+ghost use Rattle.open.specs.Walk.{keepOf, sightOf, openWalk, Bounds};
 use capability::PATH_SETUP;
 use tlvs::Item;
 
@@ -39,7 +39,7 @@ fn keep(got: Place, hit: bool, from: usize, len: usize) -> Place
 // The TLVs from `start` to `end`, or with `inner` the sub-TLVs there.
 pub fn walk(s: &[u8], start: usize, end: usize, inner: bool, want: usize) -> Found
     requires { ⌜ (start ≤ end) × (end ≤ length (now s)) × (end < 65536) ⌝ }
-    ensures found { λ r. ⌜ sightOf (now (s .entry)) r ≡ walkOf inner want (part (now (s .entry)) start (end - start)) ⌝ }
+    ensures found { λ r. ⌜ sightOf (now (s .entry)) r ≡ openWalk inner want (part (now (s .entry)) start (end - start)) ⌝ }
     ensures within { λ r. ⌜ Bounds (now (s .entry)) r ⌝ }
 {
     let mut at = start;

@@ -34,7 +34,7 @@ fn needed(short: bool, len: usize, padded: usize) -> usize
 // The TLV at `at` of those that end at `end`. With `short` its padding may be missing or cut at the end.
 pub fn item_at(s: &[u8], at: usize, end: usize, short: bool) -> Item
     requires { ⌜ (at ≤ end) × (end ≤ length (now s)) × (end < 65536) ⌝ }
-    ensures exact { λ r. ⌜ r ≡ itemAt (now (s .entry)) at end short ⌝ }
+    ensures exact { λ r. ⌜ r ≡ itemAt short (now (s .entry)) at end ⌝ }
     ensures within { λ r. ⌜ Within at end r ⌝ }
 {
     let room = end - at;

@@ -1,11 +1,12 @@
 use Rattle.open.proofs.Laws
-use Rattle.open.specs.Walk.{Sight, torn, nowhere, valueAt, missingOf, keepOf, Inside, Listed, sightOf, insideOf, onward, walkOf}
+use Rattle.open.specs.Walk.{Sight, torn, nowhere, valueAt, missingOf, keepOf, Inside, Listed, sightOf, insideOf, openOnward, openWalk}
 use Rattle.open.specs.declared.walk.Place.{Place}
 use Rattle.capability.specs.SetupTypes.{pathSetup, listSize, holdsList}
 use Rattle.tlvs.specs.declared.Item.the-variants.{Whole}
 use Rattle.tlvs.specs.Places.{Within}
-use Rattle.tlvs.specs.Tlvs.{Tlvs, tlv, wholeOf}
+use Rattle.tlvs.specs.Tlvs.{Tlvs, tlv, tlvsWhole}
 use Rattle.octets.proofs.Laws.{length-part}
+use Rattle.octets.proofs.Said.{both-true}
 use Rattle.octets.specs.Octets.{part}
 use lib.Dec.{eqb}
 use lib.ListN.{length, drop}
@@ -40,7 +41,7 @@ walk-below t = and 1 walk-kinds.ps (falls 1 walk-kinds.ps _<_ μ-walk t) walk.Pr
 
 abbrev walk-Inv-loop : walk-lts.InvT-loop
 walk-Inv-loop s start end inner want at₀ list₀ sub₀ at list sub = (start ≤ at) × Listed s list × Inside (length s) sub
-    × Laws.Left inner want s at end (valueAt s list) (valueAt s sub) (walkOf inner want (part s start (end - start)))
+    × Laws.Left inner want s at end (valueAt s list) (valueAt s sub) (openWalk inner want (part s start (end - start)))
 
 abbrev walk-μ-loop : walk-lts.MeasureT-loop
 walk-μ-loop s start end inner want at₀ list₀ sub₀ at list sub = end - at
@@ -79,13 +80,13 @@ Here t c rest =
     let a = c .before .before .before .before .before .before .before .args in
     let l = c .before .before .before .before .before .loop in
     let v = c .before .kind .given .0 in
-    onward (a .inner) (a .want) (valueAt (a .s .now) (l .list)) (valueAt (a .s .now) (l .sub)) (tlv (v .0) (part (a .s .now) (v .1 .0) (v .1 .1 .0)) rest)
+    openOnward (a .inner) (a .want) (valueAt (a .s .now) (l .list)) (valueAt (a .s .now) (l .sub)) (tlv (v .0) (part (a .s .now) (v .1 .0) (v .1 .1 .0)) rest)
 
 stepped : (t : ℕ) (c : Read t) (list sub : Place)
     → (let a = c .before .before .before .before .before .before .before .args in
     let v = c .before .kind .given .0 in
     Listed (a .s .now) list → Inside (length (a .s .now)) sub
-    → ((rest : Tlvs) → Here t c rest ≡ onward (a .inner) (a .want) (valueAt (a .s .now) list) (valueAt (a .s .now) sub) rest)
+    → ((rest : Tlvs) → Here t c rest ≡ openOnward (a .inner) (a .want) (valueAt (a .s .now) list) (valueAt (a .s .now) sub) rest)
     → walk-Inv-loop (a .s .now) (a .start) (a .end) (a .inner) (a .want) (a .start) lost lost (v .1 .1 .1 .0) list sub)
 stepped t c list sub i j e =
     let l = c .before .before .before .before .before .loop in
@@ -99,7 +100,7 @@ stepped t c list sub i j e =
 
 stopped : (t : ℕ) (c : Read t)
     → (let a = c .before .before .before .before .before .before .before .args in
-    ((rest : Tlvs) → Here t c rest ≡ torn) → torn ≡ walkOf (a .inner) (a .want) (part (a .s .now) (a .start) (a .end - a .start)))
+    ((rest : Tlvs) → Here t c rest ≡ torn) → torn ≡ openWalk (a .inner) (a .want) (part (a .s .now) (a .start) (a .end - a .start)))
 stopped t c e =
     let l = c .before .before .before .before .before .loop in
     Laws.left-torn (l .inv .3) (c .before .before .before .before .loop-test .taken) (omega arith)
@@ -125,18 +126,18 @@ entered : (t : ℕ) (c : Enter t) (rest : Tlvs)
     let a = r .before .before .before .before .before .before .before .args in
     let l = r .before .before .before .before .before .loop in
     let v = r .before .kind .given .0 in
-    Here t r rest ≡ cond (wholeOf rest) (insideOf (a .want) (valueAt (a .s .now) (l .sub)) (some (part (a .s .now) (v .1 .0) (v .1 .1 .0)))) torn)
+    Here t r rest ≡ cond (tlvsWhole rest) (insideOf (a .want) (valueAt (a .s .now) (l .sub)) (some (part (a .s .now) (v .1 .0) (v .1 .1 .0)))) torn)
 entered t c rest =
     let r = c .before .before .before .before in
     let a = r .before .before .before .before .before .before .before .args in
     let l = r .before .before .before .before .before .loop in
     let v = r .before .kind .given .0 in
     let f = sym (c .before .both .ensures) ∙ c .if2 .taken in
-    let m = Laws.and-left (missingOf (l .list)) (eqb (v .0) pathSetup) f in
+    let m = both-true (missingOf (l .list)) (eqb (v .0) pathSetup) f .0 in
     rw (c .before .before .before .if1 .left)
     (Laws.onward-enter (a .want) (v .0) (part (a .s .now) (v .1 .0) (v .1 .1 .0)) rest (valueAt (a .s .now) (l .list)) (valueAt (a .s .now) (l .sub))
     (Laws.value-missing (a .s .now) (l .list) m)
-    (Laws.and-right (missingOf (l .list)) (eqb (v .0) pathSetup) f))
+    (both-true (missingOf (l .list)) (eqb (v .0) pathSetup) f .1))
 
 -- where its list has been measured
 abbrev Sized : ℕ → Type 0
@@ -210,7 +211,7 @@ walked : (t : ℕ) (c : Walked t)
     → (let r = c .before .before .before .before .before .before .before .before in
     let a = r .before .before .before .before .before .before .before .args in
     let v = part (a .s .now) (r .before .kind .given .0 .1 .0) (r .before .kind .given .0 .1 .1 .0) in
-    sightOf (a .s .now) (c .walk .result) ≡ walkOf true (a .want) (drop (listSize v) v))
+    sightOf (a .s .now) (c .walk .result) ≡ openWalk true (a .want) (drop (listSize v) v))
 walked t c =
     let r = c .before .before .before .before .before .before .before .before in
     let v = r .before .kind .given .0 in
@@ -412,7 +413,7 @@ walk-returns-2 t c =
           (λ rest.
           entered t (c .before .before .before) rest
           ∙ Laws.inside-unheld (a .want) (valueAt (a .s .now) (r .before .before .before .before .before .loop .sub)) v
-          (wholeOf rest) e),
+          (tlvsWhole rest) e),
       tt,
     )
 
@@ -483,7 +484,7 @@ walk-returns-3 t c =
           (λ rest.
           entered t before6 rest
           ∙ Laws.inside-torn (a .want) (valueAt (a .s .now) (r .before .before .before .before .before .loop .sub)) v
-          (wholeOf rest) (held t (c .before .before .before)) w),
+          (tlvsWhole rest) (held t (c .before .before .before)) w),
       tt,
     )
 
@@ -576,7 +577,7 @@ walk-loop-again-2 t c = let r = c .before .before .before .before .before .befor
     stepped t r here inside (omega arith, λ _. rw (← size-same t (c .before .before .before .before .before)) (c .before .before .before .before .if3 .left)) (i .1)
     (λ rest. rw (Laws.value-there (a .s .now) here (there t r))
     (entered t (c .before .before .before .before .before .before .before) rest
-    ∙ Laws.inside-seen (a .want) (valueAt (a .s .now) (r .before .before .before .before .before .loop .sub)) p (wholeOf rest) (held t (c .before .before .before .before)) w
+    ∙ Laws.inside-seen (a .want) (valueAt (a .s .now) (r .before .before .before .before .before .loop .sub)) p (tlvsWhole rest) (held t (c .before .before .before .before)) w
     ∙ Laws.onward-found (a .inner) (a .want) p (valueAt (a .s .now) inside) rest (c .before .before .before .before .before .before .before .before .before .before .if1 .left)))
 
 walk-loop-less-3 : (t : ℕ) → walk-lts.Need-loop-less-3 (
