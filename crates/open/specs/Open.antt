@@ -10,7 +10,7 @@ use Rattle.objects.specs.Objects.{header, unit, openClass, objectType, srv6Setu
 use Rattle.answers.specs.Numbers.{openMalformed, capabilityMissing, wrongMsd}
 use Rattle.session.specs.declared.Opened.{Opened}
 use Rattle.session.specs.Sessions.{openRefused, withoutSrv6}
-use Rattle.tlvs.specs.Tlvs.{Tlvs, tlvsOf, tlvsWhole, firstTlv}
+use Rattle.tlvs.specs.Tlvs.{Tlvs, tlvsOf, tlvsWhole, firstTlv, absent}
 use Rattle.capability.specs.SetupTypes.{pathSetup, holdsList, subsOf, listsType}
 use Rattle.capability.specs.Srv6.{srv6Capability, sizedOf, wrongOf, carriesBy}
 
@@ -94,10 +94,6 @@ unfoldable pub breaks1 : List ℕ → Bool
 breaks1 s = not (framed s && (fitting s && (holding s && subSized s)))
 
 -- rule 2 -------------------------------------------------------------------------------------------------------
-
-abbrev pub absent : Option (List ℕ) → Bool
-absent none = true
-absent (some w) = false
 
 -- "Type 3 listed and no sub-TLV 27: 2. Sub-TLV 27 without type 3 is ignored."
 unfoldable pub breaks2 : List ℕ → Bool

@@ -9,11 +9,10 @@ ghost use mathlib.Core.Path.{_≡_};
 ghost use mathlib.Core.Bool.{true};
 ghost use Prim.Native.Nat.{_<_};
 ghost use lib.ListN.{length};
-ghost use Rattle.open.specs.Walk.{Listed, Inside, valueAt, carriedBy};
+ghost use Rattle.tlvs.specs.Places.{Inside, valueAt};
+ghost use Rattle.open_walk.specs.Walk.{Listed};
+ghost use Rattle.open.specs.Carried.{carriedBy};
 ghost use Rattle.open.specs.Open.{framed, openOf};
-use super::walk::Found;
-use super::walk::NOWHERE;
-use super::walk::Place;
 use answers::CAPABILITY_MISSING;
 use answers::OPEN_MALFORMED;
 use capability::SRV6_CAPABILITY;
@@ -26,7 +25,10 @@ use objects::SRV6_SETUP;
 use objects::TYPE_PLACE;
 use objects::TYPE_WORTH;
 use objects::UNIT;
+use open_walk::Found;
 use session::Opened;
+use tlvs::NOWHERE;
+use tlvs::Span;
 
 const OPEN_VERSION: usize = 1;
 
@@ -58,7 +60,7 @@ fn is_framed(s: &[u8]) -> bool
 }
 
 // What the values found carry: SRv6 only where setup type 3 is listed.
-fn carried_by(s: &[u8], list: Place, sub: Place) -> Opened
+fn carried_by(s: &[u8], list: Span, sub: Span) -> Opened
     requires { ⌜ Listed (now s) list × Inside (length (now s)) sub ⌝ }
     ensures carried { λ r. ⌜ r ≡ carriedBy (valueAt (now (s .entry)) list) (valueAt (now (s .entry)) sub) ⌝ }
 {
@@ -85,8 +87,8 @@ pub fn read_open(s: &[u8]) -> Opened
     if !is_framed(s) {
         return session::refused_open(OPEN_MALFORMED);
     }
-    match super::walk::walk(s, TLVS, s.len(), false, SRV6_CAPABILITY) {
+    match open_walk::walk(s, TLVS, s.len(), false, SRV6_CAPABILITY) {
         Found::Cut => session::refused_open(OPEN_MALFORMED),
-        Found::Whole(list, sub) => carried_by(s, list, sub),
+        Found::Values(list, sub) => carried_by(s, list, sub),
     }
 }

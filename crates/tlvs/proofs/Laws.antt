@@ -15,7 +15,7 @@ use Rattle.octets.proofs.Laws.{length-part, getD-part, rest-lent}
 use Rattle.tlvs.specs.Tlvs.{Tlvs, tlvsEnd, tlvsCut, tlv, tlvHead, tlvFits, tlvTurn, tlvsIn}
 use Rattle.tlvs.specs.Places.{itemAt}
 use Rattle.tlvs.specs.declared.Item.{Item}
-use Rattle.tlvs.specs.declared.Item.the-variants.{Whole, Broken}
+use Rattle.tlvs.specs.declared.Item.the-variants.{One, Broken}
 
 -- a part of a part ---------------------------------------------------------------------------------------------
 
@@ -67,7 +67,7 @@ module _ (s : List ℕ) (at stop : ℕ) (short : Bool) {kind n padded needed : �
   unfolding itemAt
   at-torn f = rw (← e2, ← p, ← q, le-ltb (stop - at) tlvHead l, lt-ltb (stop - at) (tlvHead + needed) f)
 
-  pub at-whole : tlvHead + needed ≤ stop - at → Whole kind (at + tlvHead) n (at + tlvHead + padded) ≡ itemAt short s at stop
+  pub at-whole : tlvHead + needed ≤ stop - at → One kind (at + tlvHead) n (at + tlvHead + padded) ≡ itemAt short s at stop
   unfolding itemAt
   at-whole f = rw (← e0, ← e2, ← p, ← q, le-ltb (stop - at) tlvHead l, le-ltb (stop - at) (tlvHead + needed) f)
 
@@ -75,7 +75,7 @@ module _ (s : List ℕ) (at stop : ℕ) (short : Bool) {kind n padded needed : �
 
 -- One item and what follows it, as TLVs of the octets up to `stop`.
 abbrev pub turned : List ℕ → ℕ → Item → (List ℕ → Tlvs) → Tlvs
-turned s stop (Whole kind from len next) on = tlv kind (part s from len) (on (part s next (stop - next)))
+turned s stop (One kind from len next) on = tlv kind (part s from len) (on (part s next (stop - next)))
 turned s stop Broken on = tlvsCut
 
 module _ (s : List ℕ) (at stop : ℕ) (short : Bool) (on : List ℕ → Tlvs) (h : at ≤ stop) (k : stop ≤ length s) where

@@ -59,3 +59,8 @@ abbrev pub firstTlv : ℕ → Tlvs → Option (List ℕ)
 firstTlv want tlvsEnd = none
 firstTlv want tlvsCut = none
 firstTlv want (tlv kind value rest) = cond (eqb kind want) (some value) (firstTlv want rest)
+
+-- There is none.
+abbrev pub absent : Option (List ℕ) → Bool
+absent none = true
+absent (some value) = false

@@ -1,5 +1,6 @@
-use Rattle.open.proofs.Laws.{part-lent, value-missing, value-there}
-use Rattle.open.specs.Walk.{missingOf}
+use Rattle.open_walk.proofs.Laws.{part-lent}
+use Rattle.tlvs.proofs.Spans.{value-missing, value-there}
+use Rattle.tlvs.specs.Places.{missingOf}
 use Rattle.capability.specs.SetupTypes.{listsType}
 use Rattle.objects.specs.Objects.{srv6Setup}
 use Rattle.octets.proofs.Laws.{length-part}

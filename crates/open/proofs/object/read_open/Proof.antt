@@ -1,6 +1,6 @@
 use Rattle.open.proofs.Laws.{long-framed, part-rest, unframed, answered}
 use Rattle.open.specs.Open.{framed}
-use Rattle.open.specs.Walk.{sightOf, openWalk}
+use Rattle.open_walk.specs.Walk.{sightOf, openWalk}
 use Rattle.capability.specs.Srv6.{srv6Capability}
 use lib.ListN.{drop}
 use mathlib.Core.Bool.{true, false}

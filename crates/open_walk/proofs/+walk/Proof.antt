@@ -1,9 +1,10 @@
-use Rattle.open.proofs.Laws
-use Rattle.open.specs.Walk.{Sight, torn, nowhere, valueAt, missingOf, keepOf, Inside, Listed, sightOf, insideOf, openOnward, openWalk}
-use Rattle.open.specs.declared.walk.Place.{Place}
+use Rattle.open_walk.proofs.Laws
+use Rattle.open_walk.specs.Walk.{Sight, torn, Listed, sightOf, insideOf, openOnward, openWalk}
+use Rattle.tlvs.specs.declared.span.Span.{Span}
+use Rattle.tlvs.proofs.Spans.{absent-missing, value-missing, value-there, value-kept, kept-inside}
 use Rattle.capability.specs.SetupTypes.{pathSetup, listSize, holdsList}
-use Rattle.tlvs.specs.declared.Item.the-variants.{Whole}
-use Rattle.tlvs.specs.Places.{Within}
+use Rattle.tlvs.specs.declared.Item.the-variants.{One}
+use Rattle.tlvs.specs.Places.{Within, nowhere, valueAt, missingOf, keepOf, Inside}
 use Rattle.tlvs.specs.Tlvs.{Tlvs, tlv, tlvsWhole}
 use Rattle.octets.proofs.Laws.{length-part}
 use Rattle.octets.proofs.Said.{both-true}
@@ -20,15 +21,15 @@ use Prim.Native.Nat.{ℕ, _+_, _-_, _≤_, _<_}
 use Prim.Native.Nat.{ℕ, _<_}
 use borrow.Fn.Kinds.{In}
 use borrow.Fn.PlainCycle.{Measures, is, falls, and}
-use Rattle.open.proofs.walk.walk.Reads as walk
-use Rattle.open.proofs.walk.walk.Kinds as walk-kinds
-use Rattle.open.proofs.walk.+walk.Lts-walk as walk-lts
+use Rattle.open_walk.proofs.walk.Reads as walk
+use Rattle.open_walk.proofs.walk.Kinds as walk-kinds
+use Rattle.open_walk.proofs.+walk.Lts-walk as walk-lts
 use Rattle.capability.proofs.list_size.Reads as list-size-reads
 use Rattle.tlvs.proofs.item_at.Reads as item-at-reads
 use Rattle.octets.proofs.both.Reads as both-reads
-use Rattle.open.proofs.walk.keep.Reads as keep-reads
-use Rattle.open.proofs.walk.+walk.{statement}
-use Rattle.open.proofs.walk.+walk.Tie.{close}
+use Rattle.tlvs.proofs.keep.Reads as keep-reads
+use Rattle.open_walk.proofs.+walk.{statement}
+use Rattle.open_walk.proofs.+walk.Tie.{close}
 
 abbrev μ-walk : Measures 1 walk-kinds.ps ℕ
 μ-walk κs a = a .1 .1 .0 - a .1 .0
@@ -47,7 +48,7 @@ abbrev walk-μ-loop : walk-lts.MeasureT-loop
 walk-μ-loop s start end inner want at₀ list₀ sub₀ at list sub = end - at
 
 -- what the walk starts with
-abbrev lost : Place
+abbrev lost : Span
 lost = record { from = nowhere; len = 0 }
 
 -- where an item has been read: what is known of it, and the invariant after it
@@ -67,7 +68,7 @@ Read t = walk-lts.After-known-told (
 
 within : (t : ℕ) (c : Read t)
     → Within (c .before .before .before .before .before .loop .at) (c .before .before .before .before .before .before .before .args .end)
-    (Whole (c .before .kind .given .0 .0) (c .before .kind .given .0 .1 .0) (c .before .kind .given .0 .1 .1 .0) (c .before .kind .given .0 .1 .1 .1 .0))
+    (One (c .before .kind .given .0 .0) (c .before .kind .given .0 .1 .0) (c .before .kind .given .0 .1 .1 .0) (c .before .kind .given .0 .1 .1 .1 .0))
 within t c = rw (c .before .kind .given .1) at (c .before .before .before .item-at .ensures .1)
 
 -- no value starts at 0
@@ -82,7 +83,7 @@ Here t c rest =
     let v = c .before .kind .given .0 in
     openOnward (a .inner) (a .want) (valueAt (a .s .now) (l .list)) (valueAt (a .s .now) (l .sub)) (tlv (v .0) (part (a .s .now) (v .1 .0) (v .1 .1 .0)) rest)
 
-stepped : (t : ℕ) (c : Read t) (list sub : Place)
+stepped : (t : ℕ) (c : Read t) (list sub : Span)
     → (let a = c .before .before .before .before .before .before .before .args in
     let v = c .before .kind .given .0 in
     Listed (a .s .now) list → Inside (length (a .s .now)) sub
@@ -136,7 +137,7 @@ entered t c rest =
     let m = both-true (missingOf (l .list)) (eqb (v .0) pathSetup) f .0 in
     rw (c .before .before .before .if1 .left)
     (Laws.onward-enter (a .want) (v .0) (part (a .s .now) (v .1 .0) (v .1 .1 .0)) rest (valueAt (a .s .now) (l .list)) (valueAt (a .s .now) (l .sub))
-    (Laws.value-missing (a .s .now) (l .list) m)
+    (value-missing (a .s .now) (l .list) m)
     (both-true (missingOf (l .list)) (eqb (v .0) pathSetup) f .1))
 
 -- where its list has been measured
@@ -535,8 +536,8 @@ walk-loop-again t c = let r = c .before .before in
     let b = within t r in
     rw (c .keep .ensures)
     (stepped t r (l .list) (keepOf (l .sub) (eqb (v .0) (a .want)) (v .1 .0) (v .1 .1 .0)) (l .inv .1)
-    (Laws.kept-inside (l .sub) (eqb (v .0) (a .want)) (v .1 .0) (v .1 .1 .0) (length (a .s .now)) (l .inv .2) (omega arith))
-    (λ rest. rw (c .before .if1 .taken, ← Laws.value-kept (l .sub) (eqb (v .0) (a .want)) (v .1 .0) (v .1 .1 .0) (a .s .now) (there t r))
+    (kept-inside (l .sub) (eqb (v .0) (a .want)) (v .1 .0) (v .1 .1 .0) (length (a .s .now)) (l .inv .2) (omega arith))
+    (λ rest. rw (c .before .if1 .taken, ← value-kept (l .sub) (eqb (v .0) (a .want)) (v .1 .0) (v .1 .1 .0) (a .s .now) (there t r))
     (Laws.onward-inner (a .want) (v .0) (part (a .s .now) (v .1 .0) (v .1 .1 .0)) rest (valueAt (a .s .now) (l .list)) (valueAt (a .s .now) (l .sub)))))
 
 walk-loop-less-2 : (t : ℕ) → walk-lts.Need-loop-less-2 (
@@ -573,9 +574,9 @@ walk-loop-again-2 t c = let r = c .before .before .before .before .before .befor
     let b = within t r in
     let w = rw (c .before .outer .given .1) at (walked t (c .before .before .before)) in
     let i = rw (c .before .outer .given .1) at (c .before .before .before .walk .ensures .1) in
-    let here : Place = record { from = v .1 .0; len = v .1 .1 .0 } in
+    let here : Span = record { from = v .1 .0; len = v .1 .1 .0 } in
     stepped t r here inside (omega arith, λ _. rw (← size-same t (c .before .before .before .before .before)) (c .before .before .before .before .if3 .left)) (i .1)
-    (λ rest. rw (Laws.value-there (a .s .now) here (there t r))
+    (λ rest. rw (value-there (a .s .now) here (there t r))
     (entered t (c .before .before .before .before .before .before .before) rest
     ∙ Laws.inside-seen (a .want) (valueAt (a .s .now) (r .before .before .before .before .before .loop .sub)) p (tlvsWhole rest) (held t (c .before .before .before .before)) w
     ∙ Laws.onward-found (a .inner) (a .want) p (valueAt (a .s .now) inside) rest (c .before .before .before .before .before .before .before .before .before .before .if1 .left)))
@@ -614,7 +615,7 @@ walk-loop-again-3 t c = let r = c .before .before .before .before in
     stepped t r (l .list) (l .sub) (l .inv .1) (l .inv .2)
     (λ rest. rw (c .before .before .before .if1 .left)
     (Laws.onward-past (a .want) (v .0) (part (a .s .now) (v .1 .0) (v .1 .1 .0)) rest (valueAt (a .s .now) (l .list)) (valueAt (a .s .now) (l .sub))
-    (rw (Laws.absent-missing (a .s .now) (l .list)) f)))
+    (rw (absent-missing (a .s .now) (l .list)) f)))
 
 walk-returns-4 : (t : ℕ) → walk-lts.Need-returns-4 (
   item-at-reads.Asked,
