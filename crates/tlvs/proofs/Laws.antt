@@ -1,4 +1,6 @@
--- The TLVs of a part of an octet string, found place by place: what a walk by `itemAt` goes by.
+-- The TLVs of a part of an octet string, found place by place: what a walk by `itemAt` goes by. A part of a part is a part (`part-part`,
+-- `drop-part`), so that a TLV of the octets from a place on is read at that place; `item-turn` goes through the three ways that an item can
+-- be there, and `items-end` and `items-turn` say one turn of a walk.
 use Prim.Native.Nat.{ℕ, zero, suc, pred, _+_, _-_, _≤_, _<_}
 use native.Mathlib.Nat.{add-assoc, add-zero, le-refl}
 use native.Mathlib.Omega.{arith}

@@ -1,3 +1,4 @@
+-- Three returns, one law each (`pcc-refused`, `pce-refused`, `ero-judged`). What `first` and `rest` ensure is carried along the objects by `ap`.
 use Rattle.checker_verdict.proofs.Laws.{pcc-refused, pce-refused, ero-judged}
 use Rattle.cut_objects.specs.Cutting.{firstObject, restObjects}
 use Rattle.objects.specs.Objects.{srv6Setup}

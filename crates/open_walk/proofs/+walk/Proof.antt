@@ -1,3 +1,6 @@
+-- The walk over TLVs, and inside the first TLV 34 over its sub-TLVs. The loop keeps `Left`: the walk from the present place on, with what was
+-- found before, gives the whole answer. `within`, `stepped` and `stopped` say what a turn knows of the item read and how it goes on or ends;
+-- `entered` to `walked` follow the first TLV 34 inside. The octets left fall with each turn and with the walk inside.
 use Rattle.open_walk.proofs.Laws
 use Rattle.open_walk.specs.Walk.{Sight, torn, Listed, sightOf, insideOf, openOnward, openWalk}
 use Rattle.tlvs.specs.declared.span.Span.{Span}
@@ -40,6 +43,21 @@ walk-at t = and 1 walk-kinds.ps (is 1 walk-kinds.ps μ-walk t) walk.Pre
 abbrev walk-below : ℕ → In 1 walk-kinds.ps
 walk-below t = and 1 walk-kinds.ps (falls 1 walk-kinds.ps _<_ μ-walk t) walk.Pre
 
+-- what each call asks for and tells; the inner walk has fewer octets left
+abbrev Known : ℕ → walk-lts.Claims
+Known t = (
+  item-at-reads.Asked,
+  item-at-reads.Learnt,
+  keep-reads.Asked,
+  keep-reads.Learnt,
+  both-reads.Asked,
+  both-reads.Learnt,
+  list-size-reads.Asked,
+  list-size-reads.Learnt,
+  walk-below t,
+  walk.Post,
+)
+
 abbrev walk-Inv-loop : walk-lts.InvT-loop
 walk-Inv-loop s start end inner want at₀ list₀ sub₀ at list sub = (start ≤ at) × Listed s list × Inside (length s) sub
     × Laws.Left inner want s at end (valueAt s list) (valueAt s sub) (openWalk inner want (part s start (end - start)))
@@ -53,18 +71,7 @@ lost = record { from = nowhere; len = 0 }
 
 -- where an item has been read: what is known of it, and the invariant after it
 abbrev Read : ℕ → Type 0
-Read t = walk-lts.After-known-told (
-  item-at-reads.Asked,
-  item-at-reads.Learnt,
-  keep-reads.Asked,
-  keep-reads.Learnt,
-  both-reads.Asked,
-  both-reads.Learnt,
-  list-size-reads.Asked,
-  list-size-reads.Learnt,
-  walk-below t,
-  walk.Post,
-) (walk-at t) walk.Post walk-Inv-loop walk-μ-loop
+Read t = walk-lts.After-known-told (Known t) (walk-at t) walk.Post walk-Inv-loop walk-μ-loop
 
 within : (t : ℕ) (c : Read t)
     → Within (c .before .before .before .before .before .loop .at) (c .before .before .before .before .before .before .before .args .end)
@@ -109,18 +116,7 @@ stopped t c e =
 
 -- where the first TLV 34 has been read
 abbrev Enter : ℕ → Type 0
-Enter t = walk-lts.Then2 (
-  item-at-reads.Asked,
-  item-at-reads.Learnt,
-  keep-reads.Asked,
-  keep-reads.Learnt,
-  both-reads.Asked,
-  both-reads.Learnt,
-  list-size-reads.Asked,
-  list-size-reads.Learnt,
-  walk-below t,
-  walk.Post,
-) (walk-at t) walk.Post walk-Inv-loop walk-μ-loop
+Enter t = walk-lts.Then2 (Known t) (walk-at t) walk.Post walk-Inv-loop walk-μ-loop
 
 entered : (t : ℕ) (c : Enter t) (rest : Tlvs)
     → (let r = c .before .before .before .before in
@@ -142,18 +138,7 @@ entered t c rest =
 
 -- where its list has been measured
 abbrev Sized : ℕ → Type 0
-Sized t = walk-lts.After-list-size (
-  item-at-reads.Asked,
-  item-at-reads.Learnt,
-  keep-reads.Asked,
-  keep-reads.Learnt,
-  both-reads.Asked,
-  both-reads.Learnt,
-  list-size-reads.Asked,
-  list-size-reads.Learnt,
-  walk-below t,
-  walk.Post,
-) (walk-at t) walk.Post walk-Inv-loop walk-μ-loop
+Sized t = walk-lts.After-list-size (Known t) (walk-at t) walk.Post walk-Inv-loop walk-μ-loop
 
 size-same : (t : ℕ) (c : Sized t)
     → (let r = c .before .before .before .before .before .before in
@@ -172,18 +157,7 @@ value-long t c =
 
 -- where it holds its list
 abbrev Held : ℕ → Type 0
-Held t = walk-lts.Else3 (
-  item-at-reads.Asked,
-  item-at-reads.Learnt,
-  keep-reads.Asked,
-  keep-reads.Learnt,
-  both-reads.Asked,
-  both-reads.Learnt,
-  list-size-reads.Asked,
-  list-size-reads.Learnt,
-  walk-below t,
-  walk.Post,
-) (walk-at t) walk.Post walk-Inv-loop walk-μ-loop
+Held t = walk-lts.Else3 (Known t) (walk-at t) walk.Post walk-Inv-loop walk-μ-loop
 
 held : (t : ℕ) (c : Held t)
     → (let r = c .before .before .before .before .before .before .before in
@@ -195,18 +169,7 @@ held t c =
 
 -- where the list inside it has been walked
 abbrev Walked : ℕ → Type 0
-Walked t = walk-lts.After-walk (
-  item-at-reads.Asked,
-  item-at-reads.Learnt,
-  keep-reads.Asked,
-  keep-reads.Learnt,
-  both-reads.Asked,
-  both-reads.Learnt,
-  list-size-reads.Asked,
-  list-size-reads.Learnt,
-  walk-below t,
-  walk.Post,
-) (walk-at t) walk.Post walk-Inv-loop walk-μ-loop
+Walked t = walk-lts.After-walk (Known t) (walk-at t) walk.Post walk-Inv-loop walk-μ-loop
 
 walked : (t : ℕ) (c : Walked t)
     → (let r = c .before .before .before .before .before .before .before .before in
@@ -222,188 +185,45 @@ walked t c =
     (c .before .before .list-size .result) (size-same t (c .before .before)) (c .before .if3 .left) (omega arith)
     (c .walk .ensures .0)
 
-walk-loop-holds : (t : ℕ) → walk-lts.Need-loop-holds (
-  item-at-reads.Asked,
-  item-at-reads.Learnt,
-  keep-reads.Asked,
-  keep-reads.Learnt,
-  both-reads.Asked,
-  both-reads.Learnt,
-  list-size-reads.Asked,
-  list-size-reads.Learnt,
-  walk-below t,
-  walk.Post,
-) (walk-at t) walk.Post walk-Inv-loop walk-μ-loop
+walk-loop-holds : (t : ℕ) → walk-lts.Need-loop-holds (Known t) (walk-at t) walk.Post walk-Inv-loop walk-μ-loop
 walk-loop-holds t c = let a = c .before .args in
     (search needs, (omega arith, λ e. absurd (false≢true (sym e))), omega arith, Laws.left-start (a .inner) (a .want) (a .s .now) (a .start) (a .end) (omega arith) (omega arith))
 
-walk-item-at-requires : (t : ℕ) → walk-lts.Need-item-at-requires (
-  item-at-reads.Asked,
-  item-at-reads.Learnt,
-  keep-reads.Asked,
-  keep-reads.Learnt,
-  both-reads.Asked,
-  both-reads.Learnt,
-  list-size-reads.Asked,
-  list-size-reads.Learnt,
-  walk-below t,
-  walk.Post,
-) (walk-at t) walk.Post walk-Inv-loop walk-μ-loop
+walk-item-at-requires : (t : ℕ) → walk-lts.Need-item-at-requires (Known t) (walk-at t) walk.Post walk-Inv-loop walk-μ-loop
 walk-item-at-requires t c κs = search needs
 
-walk-enum-told : (t : ℕ) → walk-lts.Need-enum-told (
-  item-at-reads.Asked,
-  item-at-reads.Learnt,
-  keep-reads.Asked,
-  keep-reads.Learnt,
-  both-reads.Asked,
-  both-reads.Learnt,
-  list-size-reads.Asked,
-  list-size-reads.Learnt,
-  walk-below t,
-  walk.Post,
-) (walk-at t) walk.Post walk-Inv-loop walk-μ-loop
+walk-enum-told : (t : ℕ) → walk-lts.Need-enum-told (Known t) (walk-at t) walk.Post walk-Inv-loop walk-μ-loop
 walk-enum-told t c = search needs
 
-walk-returns : (t : ℕ) → walk-lts.Need-returns (
-  item-at-reads.Asked,
-  item-at-reads.Learnt,
-  keep-reads.Asked,
-  keep-reads.Learnt,
-  both-reads.Asked,
-  both-reads.Learnt,
-  list-size-reads.Asked,
-  list-size-reads.Learnt,
-  walk-below t,
-  walk.Post,
-) (walk-at t) walk.Post walk-Inv-loop walk-μ-loop
+walk-returns : (t : ℕ) → walk-lts.Need-returns (Known t) (walk-at t) walk.Post walk-Inv-loop walk-μ-loop
 walk-returns t c = let l = c .before .before .before .before .loop in
     (Laws.left-broken (l .inv .3) (c .before .before .before .loop-test .taken) (omega arith) (sym (c .before .before .item-at .ensures .0) ∙ c .enum-told .given .1), tt)
 
-walk-enum-known-kind : (t : ℕ) → walk-lts.Need-enum-known-kind (
-  item-at-reads.Asked,
-  item-at-reads.Learnt,
-  keep-reads.Asked,
-  keep-reads.Learnt,
-  both-reads.Asked,
-  both-reads.Learnt,
-  list-size-reads.Asked,
-  list-size-reads.Learnt,
-  walk-below t,
-  walk.Post,
-) (walk-at t) walk.Post walk-Inv-loop walk-μ-loop
+walk-enum-known-kind : (t : ℕ) → walk-lts.Need-enum-known-kind (Known t) (walk-at t) walk.Post walk-Inv-loop walk-μ-loop
 walk-enum-known-kind t c = search needs
 
-walk-keep-requires : (t : ℕ) → walk-lts.Need-keep-requires (
-  item-at-reads.Asked,
-  item-at-reads.Learnt,
-  keep-reads.Asked,
-  keep-reads.Learnt,
-  both-reads.Asked,
-  both-reads.Learnt,
-  list-size-reads.Asked,
-  list-size-reads.Learnt,
-  walk-below t,
-  walk.Post,
-) (walk-at t) walk.Post walk-Inv-loop walk-μ-loop
+walk-keep-requires : (t : ℕ) → walk-lts.Need-keep-requires (Known t) (walk-at t) walk.Post walk-Inv-loop walk-μ-loop
 walk-keep-requires t c κs = search needs
 
-walk-both-requires : (t : ℕ) → walk-lts.Need-both-requires (
-  item-at-reads.Asked,
-  item-at-reads.Learnt,
-  keep-reads.Asked,
-  keep-reads.Learnt,
-  both-reads.Asked,
-  both-reads.Learnt,
-  list-size-reads.Asked,
-  list-size-reads.Learnt,
-  walk-below t,
-  walk.Post,
-) (walk-at t) walk.Post walk-Inv-loop walk-μ-loop
+walk-both-requires : (t : ℕ) → walk-lts.Need-both-requires (Known t) (walk-at t) walk.Post walk-Inv-loop walk-μ-loop
 walk-both-requires t c κs = search needs
 
-walk-add-stop : (t : ℕ) → walk-lts.Need-add-stop (
-  item-at-reads.Asked,
-  item-at-reads.Learnt,
-  keep-reads.Asked,
-  keep-reads.Learnt,
-  both-reads.Asked,
-  both-reads.Learnt,
-  list-size-reads.Asked,
-  list-size-reads.Learnt,
-  walk-below t,
-  walk.Post,
-) (walk-at t) walk.Post walk-Inv-loop walk-μ-loop
+walk-add-stop : (t : ℕ) → walk-lts.Need-add-stop (Known t) (walk-at t) walk.Post walk-Inv-loop walk-μ-loop
 walk-add-stop t c = let b = within t (c .before .before .before .before) in omega arith
 
-walk-sub-list-size : (t : ℕ) → walk-lts.Need-sub-list-size (
-  item-at-reads.Asked,
-  item-at-reads.Learnt,
-  keep-reads.Asked,
-  keep-reads.Learnt,
-  both-reads.Asked,
-  both-reads.Learnt,
-  list-size-reads.Asked,
-  list-size-reads.Learnt,
-  walk-below t,
-  walk.Post,
-) (walk-at t) walk.Post walk-Inv-loop walk-μ-loop
+walk-sub-list-size : (t : ℕ) → walk-lts.Need-sub-list-size (Known t) (walk-at t) walk.Post walk-Inv-loop walk-μ-loop
 walk-sub-list-size t c = search needs
 
-walk-part-list-size-start : (t : ℕ) → walk-lts.Need-part-list-size-start (
-  item-at-reads.Asked,
-  item-at-reads.Learnt,
-  keep-reads.Asked,
-  keep-reads.Learnt,
-  both-reads.Asked,
-  both-reads.Learnt,
-  list-size-reads.Asked,
-  list-size-reads.Learnt,
-  walk-below t,
-  walk.Post,
-) (walk-at t) walk.Post walk-Inv-loop walk-μ-loop
+walk-part-list-size-start : (t : ℕ) → walk-lts.Need-part-list-size-start (Known t) (walk-at t) walk.Post walk-Inv-loop walk-μ-loop
 walk-part-list-size-start t c = search needs
 
-walk-part-list-size-end : (t : ℕ) → walk-lts.Need-part-list-size-end (
-  item-at-reads.Asked,
-  item-at-reads.Learnt,
-  keep-reads.Asked,
-  keep-reads.Learnt,
-  both-reads.Asked,
-  both-reads.Learnt,
-  list-size-reads.Asked,
-  list-size-reads.Learnt,
-  walk-below t,
-  walk.Post,
-) (walk-at t) walk.Post walk-Inv-loop walk-μ-loop
+walk-part-list-size-end : (t : ℕ) → walk-lts.Need-part-list-size-end (Known t) (walk-at t) walk.Post walk-Inv-loop walk-μ-loop
 walk-part-list-size-end t c = let b = within t (c .before .before .before .before) in omega arith
 
-walk-list-size-requires : (t : ℕ) → walk-lts.Need-list-size-requires (
-  item-at-reads.Asked,
-  item-at-reads.Learnt,
-  keep-reads.Asked,
-  keep-reads.Learnt,
-  both-reads.Asked,
-  both-reads.Learnt,
-  list-size-reads.Asked,
-  list-size-reads.Learnt,
-  walk-below t,
-  walk.Post,
-) (walk-at t) walk.Post walk-Inv-loop walk-μ-loop
+walk-list-size-requires : (t : ℕ) → walk-lts.Need-list-size-requires (Known t) (walk-at t) walk.Post walk-Inv-loop walk-μ-loop
 walk-list-size-requires t c κs = search needs
 
-walk-returns-2 : (t : ℕ) → walk-lts.Need-returns-2 (
-  item-at-reads.Asked,
-  item-at-reads.Learnt,
-  keep-reads.Asked,
-  keep-reads.Learnt,
-  both-reads.Asked,
-  both-reads.Learnt,
-  list-size-reads.Asked,
-  list-size-reads.Learnt,
-  walk-below t,
-  walk.Post,
-) (walk-at t) walk.Post walk-Inv-loop walk-μ-loop
+walk-returns-2 : (t : ℕ) → walk-lts.Need-returns-2 (Known t) (walk-at t) walk.Post walk-Inv-loop walk-μ-loop
 walk-returns-2 t c =
     let r = c .before .before .before .before .before .before .before in
     let a = r .before .before .before .before .before .before .before .args in
@@ -418,63 +238,19 @@ walk-returns-2 t c =
       tt,
     )
 
-walk-add-walk : (t : ℕ) → walk-lts.Need-add-walk (
-  item-at-reads.Asked,
-  item-at-reads.Learnt,
-  keep-reads.Asked,
-  keep-reads.Learnt,
-  both-reads.Asked,
-  both-reads.Learnt,
-  list-size-reads.Asked,
-  list-size-reads.Learnt,
-  walk-below t,
-  walk.Post,
-) (walk-at t) walk.Post walk-Inv-loop walk-μ-loop
+walk-add-walk : (t : ℕ) → walk-lts.Need-add-walk (Known t) (walk-at t) walk.Post walk-Inv-loop walk-μ-loop
 walk-add-walk t c = let b = within t (c .before .before .before .before .before .before .before) in omega arith
 
-walk-walk-requires : (t : ℕ) → walk-lts.Need-walk-requires (
-  item-at-reads.Asked,
-  item-at-reads.Learnt,
-  keep-reads.Asked,
-  keep-reads.Learnt,
-  both-reads.Asked,
-  both-reads.Learnt,
-  list-size-reads.Asked,
-  list-size-reads.Learnt,
-  walk-below t,
-  walk.Post,
-) (walk-at t) walk.Post walk-Inv-loop walk-μ-loop
+walk-walk-requires : (t : ℕ) → walk-lts.Need-walk-requires (Known t) (walk-at t) walk.Post walk-Inv-loop walk-μ-loop
 walk-walk-requires t c κs =
     let before8 = c .before .before .before .before .before .before .before .before in
     let b = within t (c .before .before .before .before .before .before .before) in
     (rw (← before8 .before .before .before .before .before .before .pre .0) (omega arith), omega arith)
 
-walk-enum-told-2 : (t : ℕ) → walk-lts.Need-enum-told-2 (
-  item-at-reads.Asked,
-  item-at-reads.Learnt,
-  keep-reads.Asked,
-  keep-reads.Learnt,
-  both-reads.Asked,
-  both-reads.Learnt,
-  list-size-reads.Asked,
-  list-size-reads.Learnt,
-  walk-below t,
-  walk.Post,
-) (walk-at t) walk.Post walk-Inv-loop walk-μ-loop
+walk-enum-told-2 : (t : ℕ) → walk-lts.Need-enum-told-2 (Known t) (walk-at t) walk.Post walk-Inv-loop walk-μ-loop
 walk-enum-told-2 t c = search needs
 
-walk-returns-3 : (t : ℕ) → walk-lts.Need-returns-3 (
-  item-at-reads.Asked,
-  item-at-reads.Learnt,
-  keep-reads.Asked,
-  keep-reads.Learnt,
-  both-reads.Asked,
-  both-reads.Learnt,
-  list-size-reads.Asked,
-  list-size-reads.Learnt,
-  walk-below t,
-  walk.Post,
-) (walk-at t) walk.Post walk-Inv-loop walk-μ-loop
+walk-returns-3 : (t : ℕ) → walk-lts.Need-returns-3 (Known t) (walk-at t) walk.Post walk-Inv-loop walk-μ-loop
 walk-returns-3 t c =
     let before6 = c .before .before .before .before .before .before in
     let r = before6 .before .before .before .before in
@@ -489,46 +265,13 @@ walk-returns-3 t c =
       tt,
     )
 
-walk-enum-known-outer : (t : ℕ) → walk-lts.Need-enum-known-outer (
-  item-at-reads.Asked,
-  item-at-reads.Learnt,
-  keep-reads.Asked,
-  keep-reads.Learnt,
-  both-reads.Asked,
-  both-reads.Learnt,
-  list-size-reads.Asked,
-  list-size-reads.Learnt,
-  walk-below t,
-  walk.Post,
-) (walk-at t) walk.Post walk-Inv-loop walk-μ-loop
+walk-enum-known-outer : (t : ℕ) → walk-lts.Need-enum-known-outer (Known t) (walk-at t) walk.Post walk-Inv-loop walk-μ-loop
 walk-enum-known-outer t c = search needs
 
-walk-loop-less : (t : ℕ) → walk-lts.Need-loop-less (
-  item-at-reads.Asked,
-  item-at-reads.Learnt,
-  keep-reads.Asked,
-  keep-reads.Learnt,
-  both-reads.Asked,
-  both-reads.Learnt,
-  list-size-reads.Asked,
-  list-size-reads.Learnt,
-  walk-below t,
-  walk.Post,
-) (walk-at t) walk.Post walk-Inv-loop walk-μ-loop
+walk-loop-less : (t : ℕ) → walk-lts.Need-loop-less (Known t) (walk-at t) walk.Post walk-Inv-loop walk-μ-loop
 walk-loop-less t c = let b = within t (c .before .before) in omega arith
 
-walk-loop-again : (t : ℕ) → walk-lts.Need-loop-again (
-  item-at-reads.Asked,
-  item-at-reads.Learnt,
-  keep-reads.Asked,
-  keep-reads.Learnt,
-  both-reads.Asked,
-  both-reads.Learnt,
-  list-size-reads.Asked,
-  list-size-reads.Learnt,
-  walk-below t,
-  walk.Post,
-) (walk-at t) walk.Post walk-Inv-loop walk-μ-loop
+walk-loop-again : (t : ℕ) → walk-lts.Need-loop-again (Known t) (walk-at t) walk.Post walk-Inv-loop walk-μ-loop
 walk-loop-again t c = let r = c .before .before in
     let a = r .before .before .before .before .before .before .before .args in
     let l = r .before .before .before .before .before .loop in
@@ -540,32 +283,10 @@ walk-loop-again t c = let r = c .before .before in
     (λ rest. rw (c .before .if1 .taken, ← value-kept (l .sub) (eqb (v .0) (a .want)) (v .1 .0) (v .1 .1 .0) (a .s .now) (there t r))
     (Laws.onward-inner (a .want) (v .0) (part (a .s .now) (v .1 .0) (v .1 .1 .0)) rest (valueAt (a .s .now) (l .list)) (valueAt (a .s .now) (l .sub)))))
 
-walk-loop-less-2 : (t : ℕ) → walk-lts.Need-loop-less-2 (
-  item-at-reads.Asked,
-  item-at-reads.Learnt,
-  keep-reads.Asked,
-  keep-reads.Learnt,
-  both-reads.Asked,
-  both-reads.Learnt,
-  list-size-reads.Asked,
-  list-size-reads.Learnt,
-  walk-below t,
-  walk.Post,
-) (walk-at t) walk.Post walk-Inv-loop walk-μ-loop
+walk-loop-less-2 : (t : ℕ) → walk-lts.Need-loop-less-2 (Known t) (walk-at t) walk.Post walk-Inv-loop walk-μ-loop
 walk-loop-less-2 t c = let b = within t (c .before .before .before .before .before .before .before .before .before .before .before) in omega arith
 
-walk-loop-again-2 : (t : ℕ) → walk-lts.Need-loop-again-2 (
-  item-at-reads.Asked,
-  item-at-reads.Learnt,
-  keep-reads.Asked,
-  keep-reads.Learnt,
-  both-reads.Asked,
-  both-reads.Learnt,
-  list-size-reads.Asked,
-  list-size-reads.Learnt,
-  walk-below t,
-  walk.Post,
-) (walk-at t) walk.Post walk-Inv-loop walk-μ-loop
+walk-loop-again-2 : (t : ℕ) → walk-lts.Need-loop-again-2 (Known t) (walk-at t) walk.Post walk-Inv-loop walk-μ-loop
 walk-loop-again-2 t c = let r = c .before .before .before .before .before .before .before .before .before .before .before in
     let a = r .before .before .before .before .before .before .before .args in
     let v = r .before .kind .given .0 in
@@ -581,32 +302,10 @@ walk-loop-again-2 t c = let r = c .before .before .before .before .before .befor
     ∙ Laws.inside-seen (a .want) (valueAt (a .s .now) (r .before .before .before .before .before .loop .sub)) p (tlvsWhole rest) (held t (c .before .before .before .before)) w
     ∙ Laws.onward-found (a .inner) (a .want) p (valueAt (a .s .now) inside) rest (c .before .before .before .before .before .before .before .before .before .before .if1 .left)))
 
-walk-loop-less-3 : (t : ℕ) → walk-lts.Need-loop-less-3 (
-  item-at-reads.Asked,
-  item-at-reads.Learnt,
-  keep-reads.Asked,
-  keep-reads.Learnt,
-  both-reads.Asked,
-  both-reads.Learnt,
-  list-size-reads.Asked,
-  list-size-reads.Learnt,
-  walk-below t,
-  walk.Post,
-) (walk-at t) walk.Post walk-Inv-loop walk-μ-loop
+walk-loop-less-3 : (t : ℕ) → walk-lts.Need-loop-less-3 (Known t) (walk-at t) walk.Post walk-Inv-loop walk-μ-loop
 walk-loop-less-3 t c = let b = within t (c .before .before .before .before) in omega arith
 
-walk-loop-again-3 : (t : ℕ) → walk-lts.Need-loop-again-3 (
-  item-at-reads.Asked,
-  item-at-reads.Learnt,
-  keep-reads.Asked,
-  keep-reads.Learnt,
-  both-reads.Asked,
-  both-reads.Learnt,
-  list-size-reads.Asked,
-  list-size-reads.Learnt,
-  walk-below t,
-  walk.Post,
-) (walk-at t) walk.Post walk-Inv-loop walk-μ-loop
+walk-loop-again-3 : (t : ℕ) → walk-lts.Need-loop-again-3 (Known t) (walk-at t) walk.Post walk-Inv-loop walk-μ-loop
 walk-loop-again-3 t c = let r = c .before .before .before .before in
     let a = r .before .before .before .before .before .before .before .args in
     let l = r .before .before .before .before .before .loop in
@@ -617,33 +316,11 @@ walk-loop-again-3 t c = let r = c .before .before .before .before in
     (Laws.onward-past (a .want) (v .0) (part (a .s .now) (v .1 .0) (v .1 .1 .0)) rest (valueAt (a .s .now) (l .list)) (valueAt (a .s .now) (l .sub))
     (rw (absent-missing (a .s .now) (l .list)) f)))
 
-walk-returns-4 : (t : ℕ) → walk-lts.Need-returns-4 (
-  item-at-reads.Asked,
-  item-at-reads.Learnt,
-  keep-reads.Asked,
-  keep-reads.Learnt,
-  both-reads.Asked,
-  both-reads.Learnt,
-  list-size-reads.Asked,
-  list-size-reads.Learnt,
-  walk-below t,
-  walk.Post,
-) (walk-at t) walk.Post walk-Inv-loop walk-μ-loop
+walk-returns-4 : (t : ℕ) → walk-lts.Need-returns-4 (Known t) (walk-at t) walk.Post walk-Inv-loop walk-μ-loop
 walk-returns-4 t c = let l = c .before .loop in (Laws.left-end (l .inv .3) (c .loop-test .left), (l .inv .1, l .inv .2))
 
 pub +walk-spec : {M : Type 1} → statement M
-+walk-spec = close μ-walk λ t. walk-lts.spec (
-  item-at-reads.Asked,
-  item-at-reads.Learnt,
-  keep-reads.Asked,
-  keep-reads.Learnt,
-  both-reads.Asked,
-  both-reads.Learnt,
-  list-size-reads.Asked,
-  list-size-reads.Learnt,
-  walk-below t,
-  walk.Post,
-)
++walk-spec = close μ-walk λ t. walk-lts.spec (Known t)
     (walk-at t)
     walk.Post
     walk-Inv-loop

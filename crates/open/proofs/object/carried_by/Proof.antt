@@ -1,3 +1,5 @@
+-- Each return is one row of `carriedBy`: a span is turned into the value that lies there (`value-missing`, `value-there`), a lent part into
+-- `part` (`part-lent`), and then what the callee ensures is the row.
 use Rattle.open_walk.proofs.Laws.{part-lent}
 use Rattle.tlvs.proofs.Spans.{value-missing, value-there}
 use Rattle.tlvs.specs.Places.{missingOf}
