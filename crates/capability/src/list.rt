@@ -2,7 +2,7 @@
 ghost use mathlib.Core.Path.{_≡_};
 ghost use Prim.Native.Nat.{_+_, _≤_, _<_};
 ghost use lib.ListN.{length};
-ghost use Rattle.capability.specs.SetupTypes.{hasOf, listSize, listsType};
+ghost use Rattle.capability.specs.SetupTypes.{typesAt, hasOf, listSize, listsType};
 
 // The type of the TLV.
 pub const PATH_SETUP: usize = 34;
@@ -29,7 +29,7 @@ fn has(p: &[u8], x: u8) -> bool
 
 // The octets of a value of TLV 34 up to its sub-TLVs: as many as its count asks for, there or not.
 pub fn list_size(v: &[u8]) -> usize
-    ensures size { λ r. ⌜ (r ≡ listSize (now (v .entry))) × (4 ≤ r) × (r < 264) ⌝ }
+    ensures size { λ r. ⌜ (r ≡ listSize (now (v .entry))) × (typesAt ≤ r) × (r < 264) ⌝ }
 {
     TYPES + octets::padded(octets::octet(v, COUNT))
 }

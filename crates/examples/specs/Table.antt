@@ -44,9 +44,9 @@ pub data Answer : Type 0 where
 abbrev pub agreedO : Session
 agreedO = sessionOf (openOf objectO) (openOf objectO)
 
-abbrev pub answerTo : Example → Answer
-answerTo (opening s) = opened (openOf s)
-answerTo (route s pst) = judged (judgeOf s true agreedO pst)
+abbrev pub exampleAnswer : Example → Answer
+exampleAnswer (opening s) = opened (openOf s)
+exampleAnswer (route s pst) = judged (judgeOf s true agreedO pst)
 
 abbrev pub examples : List Example
 examples =

@@ -142,18 +142,22 @@ Sized t = walk-lts.After-list-size (Known t) (walk-at t) walk.Post walk-Inv-loop
 
 size-same : (t : ℕ) (c : Sized t)
     → (let r = c .before .before .before .before .before .before in
-    c .list-size .result ≡ listSize (part (r .before .before .before .before .before .before .before .args .s .now) (r .before .kind .given .0 .1 .0) (r .before .kind .given .0 .1 .1 .0)))
+    let v = r .before .kind .given .0 in
+    c .list-size .result ≡ listSize (part (r .before .before .before .before .before .before .before .args .s .now) (v .1 .0) (v .1 .1 .0)))
 size-same t c =
     let r = c .before .before .before .before .before .before in
-    rw (Laws.part-lent (r .before .before .before .before .before .before .before .args .s .now) (r .before .kind .given .0 .1 .0) (r .before .kind .given .0 .1 .1 .0)) at (c .list-size .ensures .0)
+    let v = r .before .kind .given .0 in
+    rw (Laws.part-lent (r .before .before .before .before .before .before .before .args .s .now) (v .1 .0) (v .1 .1 .0)) at (c .list-size .ensures .0)
 
 value-long : (t : ℕ) (c : Sized t)
     → (let r = c .before .before .before .before .before .before in
-    length (part (r .before .before .before .before .before .before .before .args .s .now) (r .before .kind .given .0 .1 .0) (r .before .kind .given .0 .1 .1 .0)) ≡ r .before .kind .given .0 .1 .1 .0)
+    let v = r .before .kind .given .0 in
+    length (part (r .before .before .before .before .before .before .before .args .s .now) (v .1 .0) (v .1 .1 .0)) ≡ v .1 .1 .0)
 value-long t c =
     let r = c .before .before .before .before .before .before in
+    let v = r .before .kind .given .0 in
     let b = within t r in
-    length-part (r .before .before .before .before .before .before .before .args .s .now) (r .before .kind .given .0 .1 .0) (r .before .kind .given .0 .1 .1 .0) (omega arith)
+    length-part (r .before .before .before .before .before .before .before .args .s .now) (v .1 .0) (v .1 .1 .0) (omega arith)
 
 -- where it holds its list
 abbrev Held : ℕ → Type 0
