@@ -10,11 +10,14 @@ use lib.ListN.{length, getD, take, drop, length-drop, drop-of-length-le}
 use lib.Seq.{drop-cons}
 use lib.Dec.{leb}
 use borrow.Author.Tests.{eq-eqb, ne-eqb, leb-true}
+use Rattle.answers.proofs.Determined.{determined}
 use Rattle.session.specs.declared.Limit.{Limit}
 use Rattle.session.specs.declared.Limit.the-variants.{Free, Most}
+use Rattle.session.specs.declared.Opened.{Opened}
 use Rattle.octets.specs.Octets.{part}
-use Rattle.capability.specs.SetupTypes.{srv6, countOf, hasOf, listsSrv6}
+use Rattle.capability.specs.SetupTypes.{typesAt, typeCount, hasOf, listSize, listsType}
 use Rattle.capability.specs.Msd.{pairsIn, leastOf}
+use Rattle.capability.specs.Srv6.{announcedOf}
 
 -- tests --------------------------------------------------------------------------------------------------------
 
@@ -35,9 +38,9 @@ module _ (x : ℕ) (p : List ℕ) (i : ℕ) where
   has-miss h e = rw (add-one, drop-cons p i 0 h, ne-eqb (getD p i 0) x e)
 
 -- The octets lent to the search are those that the count asks for.
-pub listed-lent : (v : List ℕ) (n : ℕ) {found : Bool} → found ≡ hasOf srv6 (take n (drop 4 v)) → n ≡ countOf v → found ≡ listsSrv6 v
-unfolding listsSrv6 part
-listed-lent v n e h = rw (← h) e
+pub listed-lent : (kind : ℕ) (v : List ℕ) (n : ℕ) {found : Bool} → found ≡ hasOf kind (take n (drop typesAt v)) → n ≡ typeCount v → found ≡ listsType kind v
+unfolding listsType part
+listed-lent kind v n e h = rw (← h) e
 
 -- pairs --------------------------------------------------------------------------------------------------------
 
@@ -68,3 +71,14 @@ pub lower-least : (got l : Limit) (v : ℕ) → lower (leastOf v got) l ≡ lowe
 lower-least Free l v = refl
 lower-least (Most m) Free v = ap Most (min-comm v m)
 lower-least (Most m) (Most n) v = ap Most (omega arith)
+
+-- Any two answers that fit the contract of a call are equal ----------------------------------------------------
+
+pub list_size-determined : (v : List ℕ) {x y : ℕ} → x ≡ listSize v → y ≡ listSize v → x ≡ y
+list_size-determined v = determined
+
+pub lists-determined : (kind : ℕ) (v : List ℕ) {x y : Bool} → x ≡ listsType kind v → y ≡ listsType kind v → x ≡ y
+lists-determined kind v = determined
+
+pub announced-determined : (w : List ℕ) {x y : Opened} → x ≡ announcedOf w → y ≡ announcedOf w → x ≡ y
+announced-determined w = determined

@@ -32,9 +32,9 @@ pairsIn (a ∷ []) = []
 pairsIn (a ∷ b ∷ rest) = record { kind = a; value = b } ∷ pairsIn rest
 
 -- "a pair's type isn't 41, 42, 44 or 45"
-abbrev pub wrongIn : List Pair → Bool
-wrongIn [] = false
-wrongIn (p ∷ ps) = not (knownMsd (p .kind)) || wrongIn ps
+abbrev pub wrongPairs : List Pair → Bool
+wrongPairs [] = false
+wrongPairs (p ∷ ps) = not (knownMsd (p .kind)) || wrongPairs ps
 
 -- A limit, or a value where that is smaller.
 abbrev pub leastOf : ℕ → Limit → Limit
@@ -42,6 +42,6 @@ leastOf v Free = Most v
 leastOf v (Most m) = Most (min v m)
 
 -- "The depth limit is the smallest value of all pairs; .. with no pair, there is none."
-abbrev pub limitIn : List Pair → Limit
-limitIn [] = Free
-limitIn (p ∷ ps) = leastOf (p .value) (limitIn ps)
+abbrev pub smallestIn : List Pair → Limit
+smallestIn [] = Free
+smallestIn (p ∷ ps) = leastOf (p .value) (smallestIn ps)

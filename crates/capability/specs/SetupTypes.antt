@@ -11,10 +11,6 @@ use Rattle.tlvs.specs.Tlvs.{Tlvs, tlvsOf}
 abbrev pub pathSetup : ℕ
 pathSetup = 34
 
--- The setup type of SRv6.
-abbrev pub srv6 : ℕ
-srv6 = 3
-
 -- The places of the count and of the first setup type.
 abbrev pub countAt : ℕ
 countAt = 3
@@ -22,15 +18,15 @@ countAt = 3
 abbrev pub typesAt : ℕ
 typesAt = 4
 
-abbrev pub countOf : List ℕ → ℕ
-countOf v = octetOf v countAt
+abbrev pub typeCount : List ℕ → ℕ
+typeCount v = octetOf v countAt
 
 abbrev pub typesOf : List ℕ → List ℕ
-typesOf v = part v typesAt (countOf v)
+typesOf v = part v typesAt (typeCount v)
 
 -- The octets up to the sub-TLVs.
 unfoldable pub listSize : List ℕ → ℕ
-listSize v = typesAt + pad4 (countOf v)
+listSize v = typesAt + pad4 (typeCount v)
 
 -- "must hold its padded list"
 abbrev pub holdsList : List ℕ → Bool
@@ -44,6 +40,6 @@ abbrev pub hasOf : ℕ → List ℕ → Bool
 hasOf x [] = false
 hasOf x (y ∷ ys) = eqb y x || hasOf x ys
 
--- Type 3 is listed.
-unfoldable pub listsSrv6 : List ℕ → Bool
-listsSrv6 v = hasOf srv6 (typesOf v)
+-- A setup type is listed.
+unfoldable pub listsType : ℕ → List ℕ → Bool
+listsType kind v = hasOf kind (typesOf v)

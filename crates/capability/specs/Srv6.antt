@@ -10,7 +10,7 @@ use Rattle.session.specs.declared.Limit.{Limit}
 use Rattle.session.specs.declared.Limit.the-variants.{Free}
 use Rattle.session.specs.declared.Opened.{Opened}
 use Rattle.session.specs.Sessions.{openRefused, openCarries}
-use Rattle.capability.specs.Msd.{Pair, pairsIn, wrongIn, limitIn}
+use Rattle.capability.specs.Msd.{Pair, pairsIn, wrongPairs, smallestIn}
 
 -- The type of the sub-TLV.
 abbrev pub srv6Capability : ℕ
@@ -42,14 +42,18 @@ pairsOf w = pairsIn (drop pairsAt w)
 
 -- "X is 0 and a pair's type isn't 41, 42, 44 or 45"
 unfoldable pub wrongOf : List ℕ → Bool
-wrongOf w = not (xOf w) && wrongIn (pairsOf w)
+wrongOf w = not (xOf w) && wrongPairs (pairsOf w)
 
 -- "The depth limit is the smallest value of all pairs; with X set, or with no pair, there is none."
 unfoldable pub limitOf : List ℕ → Limit
-limitOf w = cond (xOf w) Free (limitIn (pairsOf w))
+limitOf w = cond (xOf w) Free (smallestIn (pairsOf w))
+
+-- What the value of sub-TLV 27 carries where none of its rules is broken.
+abbrev pub carriesBy : List ℕ → Opened
+carriesBy w = openCarries true (nOf w) (limitOf w)
 
 -- What a side that lists type 3 announces by the value of sub-TLV 27, in the order 1, 3.
 unfoldable pub announcedOf : List ℕ → Opened
 announcedOf w =
     cond (not (sizedOf w)) (openRefused openMalformed)
-    (cond (wrongOf w) (openRefused wrongMsd) (openCarries true (nOf w) (limitOf w)))
+    (cond (wrongOf w) (openRefused wrongMsd) (carriesBy w))

@@ -5,6 +5,6 @@ mod srv6;
 
 pub use list::PATH_SETUP;
 pub use list::list_size;
-pub use list::lists_srv6;
+pub use list::lists;
 pub use srv6::SRV6_CAPABILITY;
 pub use srv6::announced;

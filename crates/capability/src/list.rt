@@ -2,13 +2,10 @@
 ghost use mathlib.Core.Path.{_≡_};
 ghost use Prim.Native.Nat.{_+_, _≤_, _<_};
 ghost use lib.ListN.{length};
-ghost use Rattle.capability.specs.SetupTypes.{hasOf, listSize, listsSrv6};
+ghost use Rattle.capability.specs.SetupTypes.{typesAt, hasOf, listSize, listsType};
 
 // The type of the TLV.
 pub const PATH_SETUP: usize = 34;
-
-// The setup type of SRv6.
-const SRV6: u8 = 3;
 
 // The place of the count.
 const COUNT: usize = 3;
@@ -32,16 +29,16 @@ fn has(p: &[u8], x: u8) -> bool
 
 // The octets of a value of TLV 34 up to its sub-TLVs: as many as its count asks for, there or not.
 pub fn list_size(v: &[u8]) -> usize
-    ensures size { λ r. ⌜ (r ≡ listSize (now (v .entry))) × (4 ≤ r) × (r < 264) ⌝ }
+    ensures size { λ r. ⌜ (r ≡ listSize (now (v .entry))) × (typesAt ≤ r) × (r < 264) ⌝ }
 {
     TYPES + octets::padded(octets::octet(v, COUNT))
 }
 
-// Whether setup type 3 is listed. Padding is no setup type.
-pub fn lists_srv6(v: &[u8]) -> bool
+// Whether a setup type is listed. Padding is no setup type.
+pub fn lists(v: &[u8], kind: u8) -> bool
     requires { ⌜ listSize (now v) ≤ length (now v) ⌝ }
-    ensures listed { λ r. ⌜ r ≡ listsSrv6 (now (v .entry)) ⌝ }
+    ensures listed { λ r. ⌜ r ≡ listsType kind (now (v .entry)) ⌝ }
 {
     let end = TYPES + octets::octet(v, COUNT);
-    has(&v[TYPES..end], SRV6)
+    has(&v[TYPES..end], kind)
 }

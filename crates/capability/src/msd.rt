@@ -3,7 +3,7 @@
 // X is 0 and a pair's type isn't 41, 42, 44 or 45: 3.
 // The depth limit is the smallest value of all pairs; with no pair, there is none.
 ghost use mathlib.Core.Path.{_≡_};
-ghost use Rattle.capability.specs.Msd.{knownMsd, pairsIn, wrongIn, leastOf, limitIn};
+ghost use Rattle.capability.specs.Msd.{knownMsd, pairsIn, wrongPairs, leastOf, smallestIn};
 use session::Limit;
 
 const MAX_SEGMENTS_LEFT: usize = 41;
@@ -24,7 +24,7 @@ fn known(kind: usize) -> bool
 
 // Whether a pair's type is none of the four.
 pub fn wrong(p: &[u8]) -> bool
-    ensures wrong { λ r. ⌜ r ≡ wrongIn (pairsIn (now (p .entry))) ⌝ }
+    ensures wrong { λ r. ⌜ r ≡ wrongPairs (pairsIn (now (p .entry))) ⌝ }
 {
     let mut i = 0;
     while i + 1 < p.len() {
@@ -52,7 +52,7 @@ fn least(got: Limit, v: usize) -> Limit
 
 // The smallest value of all pairs.
 pub fn lowest(p: &[u8]) -> Limit
-    ensures lowest { λ r. ⌜ r ≡ limitIn (pairsIn (now (p .entry))) ⌝ }
+    ensures lowest { λ r. ⌜ r ≡ smallestIn (pairsIn (now (p .entry))) ⌝ }
 {
     let mut got = Limit::Free;
     let mut i = 0;

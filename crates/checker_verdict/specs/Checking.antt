@@ -4,40 +4,29 @@ use Prim.Native.Nat.{ℕ}
 use mathlib.Core.Bool.{true, cond}
 use mathlib.Core.List.{List}
 use lib.Dec.{eqb}
-use lib.ListN.{take, drop}
+use Rattle.objects.specs.Objects.{srv6Setup}
 use Rattle.answers.specs.declared.verdict.Verdict.{Verdict}
 use Rattle.answers.specs.Verdicts.{refusedBy}
 use Rattle.session.specs.declared.Opened.{Opened}
 use Rattle.session.specs.Sessions.{sessionOf}
 use Rattle.open.specs.Open.{openOf}
 use Rattle.route.specs.Routes.{judgeOf}
-use Rattle.cut_objects.specs.Cutting.{cutOf}
-
--- The first object of some octets, and what lies behind it.
-abbrev pub firstOf : List ℕ → List ℕ
-firstOf s = take (cutOf s) s
-
-abbrev pub restOf : List ℕ → List ℕ
-restOf s = drop (cutOf s) s
+use Rattle.cut_objects.specs.Cutting.{firstObject, restObjects}
 
 -- The answer to the first object, and to the one behind it, as an OPEN.
 abbrev pub pccOf : List ℕ → Opened
-pccOf s = openOf (firstOf s)
+pccOf s = openOf (firstObject s)
 
 abbrev pub pceOf : List ℕ → Opened
-pceOf s = openOf (firstOf (restOf s))
+pceOf s = openOf (firstObject (restObjects s))
 
 -- The third object.
 abbrev pub eroOf : List ℕ → List ℕ
-eroOf s = firstOf (restOf (restOf s))
-
--- the setup type
-abbrev pub srv6Path : ℕ
-srv6Path = 3
+eroOf s = firstObject (restObjects (restObjects s))
 
 -- A refused OPEN's answer, at place 0; else what comes next.
 abbrev pub unlessRefused : Opened → Verdict → Verdict
 unlessRefused o next = cond (eqb (o .number) 0) next (refusedBy (o .number) 0)
 
 unfoldable pub checkedOf : List ℕ → Verdict
-checkedOf s = unlessRefused (pccOf s) (unlessRefused (pceOf s) (judgeOf (eroOf s) true (sessionOf (pccOf s) (pceOf s)) srv6Path))
+checkedOf s = unlessRefused (pccOf s) (unlessRefused (pceOf s) (judgeOf (eroOf s) true (sessionOf (pccOf s) (pceOf s)) srv6Setup))

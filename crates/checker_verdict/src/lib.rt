@@ -6,9 +6,7 @@ ghost use Rattle.checker_verdict.specs.Checking.{checkedOf};
 use answers::Verdict;
 use cut_objects::first;
 use cut_objects::rest;
-
-// the setup type of an SRv6 path
-const SRV6_PATH: u64 = 3;
+use objects::SRV6_SETUP;
 
 // The verdict on three objects.
 pub fn check(s: &[u8]) -> Verdict
@@ -24,5 +22,5 @@ pub fn check(s: &[u8]) -> Verdict
         return answers::refused(pce.number, 0);
     }
     let session = session::agree(pcc, pce);
-    route::judge(first(rest(behind)), true, session, SRV6_PATH)
+    route::judge(first(rest(behind)), true, session, SRV6_SETUP)
 }

@@ -3,14 +3,10 @@
 // all the rest (document 01, the checking program).
 ghost use mathlib.Core.Path.{_≡_};
 ghost use Prim.Native.Nat.{_≤_};
-ghost use lib.ListN.{length, take, drop};
-ghost use Rattle.cut_objects.specs.Cutting.{cutOf};
-
-// octets of an object's header
-const HEADER: usize = 4;
-
-// where the length field stands in it
-const LENGTH_AT: usize = 2;
+ghost use lib.ListN.{length};
+ghost use Rattle.cut_objects.specs.Cutting.{cutOf, firstObject, restObjects};
+use objects::HEADER;
+use objects::LENGTH_PLACE;
 
 // How many octets the first object has.
 pub fn cut(s: &[u8]) -> usize
@@ -19,7 +15,7 @@ pub fn cut(s: &[u8]) -> usize
     if s.len() < HEADER {
         return s.len();
     }
-    let n = octets::read16(s, LENGTH_AT);
+    let n = octets::read16(s, LENGTH_PLACE);
     if n < HEADER {
         return s.len();
     }
@@ -31,7 +27,7 @@ pub fn cut(s: &[u8]) -> usize
 
 // The first object.
 pub fn first(s: &[u8]) -> &[u8]
-    ensures first { λ r. ⌜ now r ≡ take (cutOf (now (s .entry))) (now (s .entry)) ⌝ }
+    ensures first { λ r. ⌜ now r ≡ firstObject (now (s .entry)) ⌝ }
 {
     let n = cut(s);
     &s[..n]
@@ -39,7 +35,7 @@ pub fn first(s: &[u8]) -> &[u8]
 
 // What lies behind it.
 pub fn rest(s: &[u8]) -> &[u8]
-    ensures rest { λ r. ⌜ now r ≡ drop (cutOf (now (s .entry))) (now (s .entry)) ⌝ }
+    ensures rest { λ r. ⌜ now r ≡ restObjects (now (s .entry)) ⌝ }
 {
     let n = cut(s);
     &s[n..]

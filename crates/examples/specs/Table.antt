@@ -3,6 +3,7 @@ use Prim.Native.Nat.{ℕ}
 use mathlib.Core.Bool.{true, false}
 use mathlib.Core.List.{List, [], _∷_, _++_}
 use lib.ListN.{set}
+use Rattle.objects.specs.Objects.{srv6Setup}
 use Rattle.answers.specs.declared.verdict.Verdict.{Verdict}
 use Rattle.answers.specs.Numbers.{wrongMsd, lengthWrong, nothingThere, structureTooLong, notAgreed}
 use Rattle.answers.specs.Verdicts.{refusedBy, acceptedWith}
@@ -43,22 +44,22 @@ pub data Answer : Type 0 where
 abbrev pub agreedO : Session
 agreedO = sessionOf (openOf objectO) (openOf objectO)
 
-abbrev pub run : Example → Answer
-run (opening s) = opened (openOf s)
-run (route s pst) = judged (judgeOf s true agreedO pst)
+abbrev pub exampleAnswer : Example → Answer
+exampleAnswer (opening s) = opened (openOf s)
+exampleAnswer (route s pst) = judged (judgeOf s true agreedO pst)
 
 abbrev pub examples : List Example
 examples =
     opening objectO
     ∷ opening (set objectO 16 0x00)
     ∷ opening (set objectO 28 0x00)
-    ∷ route objectE 3
+    ∷ route objectE srv6Setup
     ∷ route objectE 1
-    ∷ route (set objectE 7 0x03) 3
-    ∷ route (set objectE 7 0x06) 3
-    ∷ route (withBits 40 24 16 48) 3
-    ∷ route (withBits 40 24 16 49) 3
-    ∷ route (withBits 64 64 64 64) 3
+    ∷ route (set objectE 7 0x03) srv6Setup
+    ∷ route (set objectE 7 0x06) srv6Setup
+    ∷ route (withBits 40 24 16 48) srv6Setup
+    ∷ route (withBits 40 24 16 49) srv6Setup
+    ∷ route (withBits 64 64 64 64) srv6Setup
     ∷ []
 
 -- P1: "SRv6, N 0, limit 4"; P2: "accepted without SRv6"; P3: "3"; P4: "one segment"; P5: "13"; P6: "9 at 4"; P7: "7 at 4";

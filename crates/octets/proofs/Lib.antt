@@ -1,2 +1,4 @@
+pub mod Determined
 pub mod Laws
+pub mod Said
 pub mod Tests

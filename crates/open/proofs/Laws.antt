@@ -1,191 +1,25 @@
--- What is left of a walk, as a loop's invariant says it, and the laws that a turn goes by.
-use Prim.Native.Nat.{ℕ, suc, pred, _+_, _-_, _%_, _≤_, _<_}
-use native.Mathlib.Nat.{add-sub-cancel-left}
-use native.Mathlib.Omega.{arith}
-use mathlib.Core.Path.{_≡_, refl, sym, _∙_}
+-- The answer to an OPEN object by the walk over its TLVs is the one that its rules give.
+use Prim.Native.Nat.{ℕ, _-_, _%_, _≤_, _<_}
+use mathlib.Core.Path.{_≡_, refl}
 use mathlib.Core.List.{List}
 use mathlib.Core.Bool.{Bool, true, false, cond, _&&_}
 use mathlib.Core.Option.{Option, none, some}
-use lib.ListN.{length, take, drop}
+use lib.ListN.{length, drop}
 use lib.Dec.{eqb, leb}
 use borrow.Author.Tests.{lt-leb, le-leb, leb-true}
 use Rattle.octets.specs.Octets.{part}
-use Rattle.octets.proofs.Laws.{length-part, rest-lent}
+use Rattle.octets.proofs.Laws.{rest-lent}
+use Rattle.octets.proofs.Said.{both-true, and-holding}
+use Rattle.objects.specs.Objects.{unit, srv6Setup, objectLength}
 use Rattle.answers.specs.Numbers.{openMalformed}
 use Rattle.session.specs.declared.Opened.{Opened}
 use Rattle.session.specs.Sessions.{openRefused}
-use Rattle.tlvs.specs.Tlvs.{Tlvs, end, tlv, tlvsIn, tlvsOf, wholeOf, firstOf}
-use Rattle.tlvs.specs.Places.{itemAt}
-use Rattle.tlvs.specs.declared.Item.the-variants.{Whole, Broken}
-use Rattle.tlvs.proofs.Laws.{drop-part, items-end, items-turn}
-use Rattle.capability.specs.SetupTypes.{pathSetup, listSize, holdsList, subsOf, listsSrv6}
+use Rattle.tlvs.specs.Tlvs.{tlvsWhole, firstTlv}
+use Rattle.capability.specs.SetupTypes.{pathSetup, holdsList, subsOf, listsType}
 use Rattle.capability.specs.Srv6.{srv6Capability, announcedOf}
-use Rattle.open.specs.declared.walk.Place.{Place}
-use Rattle.open.specs.Open.{absent, headed, measured, sizeOf, framed, openTlvs, setupOf, srv6Of, listed, fitting, holding, sized, breaks1, breaks2, breaks3, carriesOf, openOf}
-use Rattle.open.specs.Walk.{Sight, torn, seen, nowhere, missingOf, keepOf, valueAt, Inside, orElse, insideOf, onward, walkOf, carriedBy}
-
--- tests --------------------------------------------------------------------------------------------------------
-
-pub and-left : (a b : Bool) → (a && b) ≡ true → a ≡ true
-and-left true b e = refl
-and-left false b e = e
-
-pub and-right : (a b : Bool) → (a && b) ≡ true → b ≡ true
-and-right true b e = e
-and-right false true e = refl
-and-right false false e = e
-
--- places -------------------------------------------------------------------------------------------------------
-
-pub absent-missing : (s : List ℕ) (p : Place) → absent (valueAt s p) ≡ missingOf p
-absent-missing s p = go (missingOf p) refl
-  where
-    go : (b : Bool) → missingOf p ≡ b → absent (valueAt s p) ≡ missingOf p
-    go true e = rw e
-    go false e = rw e
-
-pub value-missing : (s : List ℕ) (p : Place) → missingOf p ≡ true → valueAt s p ≡ none
-value-missing s p e = rw e
-
-pub value-there : (s : List ℕ) (p : Place) → missingOf p ≡ false → valueAt s p ≡ some (part s (p .from) (p .len))
-value-there s p e = rw e
-
-module _ (p : Place) (hit : Bool) (from len : ℕ) where
-  pub value-kept : (s : List ℕ) → eqb from nowhere ≡ false
-      → orElse (valueAt s p) (cond hit (some (part s from len)) none) ≡ valueAt s (keepOf p hit from len)
-  value-kept s h = go (missingOf p) hit refl refl
-    where
-      go : (b c : Bool) → missingOf p ≡ b → hit ≡ c → orElse (valueAt s p) (cond hit (some (part s from len)) none) ≡ valueAt s (keepOf p hit from len)
-      go true true e f = rw (e, f, h)
-      go true false e f = rw (e, f, e)
-      go false c e f = rw (e, e)
-
-  pub kept-inside : (n : ℕ) → Inside n p → from + len ≤ n → Inside n (keepOf p hit from len)
-  kept-inside n i h = go (missingOf p && hit) refl
-    where
-      go : (b : Bool) → (missingOf p && hit) ≡ b → Inside n (keepOf p hit from len)
-      go true e = rw e h
-      go false e = rw e i
-
--- A part of a slice, as it is lent.
-pub part-lent : (s : List ℕ) (a n : ℕ) → take (a + n - a) (drop a s) ≡ part s a n
-unfolding part
-part-lent s a n = rw (add-sub-cancel-left a n)
-
--- one turn -----------------------------------------------------------------------------------------------------
-
-same-either : {A : Type 0} (b : Bool) (x : A) → cond b x x ≡ x
-same-either true x = refl
-same-either false x = refl
-
-pub onward-end : (inner : Bool) (want : ℕ) (list sub : Option (List ℕ)) → onward inner want list sub end ≡ seen list sub
-onward-end true want list none = refl
-onward-end true want list (some w) = refl
-onward-end false want none sub = refl
-onward-end false want (some v) sub = refl
-
-module _ (want kind : ℕ) (v : List ℕ) (rest : Tlvs) where
-  -- among sub-TLVs, the first wanted one is kept
-  pub onward-inner : (list sub : Option (List ℕ))
-      → onward true want list sub (tlv kind v rest) ≡ onward true want list (orElse sub (cond (eqb kind want) (some v) none)) rest
-  onward-inner list (some w) = refl
-  onward-inner list none = go (eqb kind want) refl
-    where
-      go : (hit : Bool) → eqb kind want ≡ hit → onward true want list none (tlv kind v rest) ≡ onward true want list (orElse none (cond (eqb kind want) (some v) none)) rest
-      go true e = rw e
-      go false e = rw e
-
-  -- an outer TLV that is not the first TLV 34 is passed over
-  pub onward-past : (list sub : Option (List ℕ)) → (absent list && eqb kind pathSetup) ≡ false → onward false want list sub (tlv kind v rest) ≡ onward false want list sub rest
-  onward-past none sub e = rw e
-  onward-past (some w) sub e = refl
-
-  -- and the first TLV 34 is looked into
-  pub onward-enter : (list sub : Option (List ℕ)) → list ≡ none → eqb kind pathSetup ≡ true
-      → onward false want list sub (tlv kind v rest) ≡ cond (wholeOf rest) (insideOf want sub (some v)) torn
-  onward-enter list sub n e = rw (n, e)
-
--- the first TLV 34 ---------------------------------------------------------------------------------------------
-
-abbrev pub entered : List ℕ → Sight → Sight
-entered v torn = torn
-entered v (seen list sub) = seen (some v) sub
-
-pub inside-unheld : (want : ℕ) (sub : Option (List ℕ)) (v : List ℕ) (b : Bool) → holdsList v ≡ false → cond b (insideOf want sub (some v)) torn ≡ torn
-inside-unheld want sub v b e = rw e (same-either b torn)
-
-pub inside-walked : (want : ℕ) (sub : Option (List ℕ)) (v : List ℕ) → holdsList v ≡ true
-    → insideOf want sub (some v) ≡ entered v (walkOf true want (drop (listSize v) v))
-unfolding walkOf
-inside-walked want sub v e = rw e (go (wholeOf (subsOf v)) refl)
-  where
-    go : (b : Bool) → wholeOf (subsOf v) ≡ b
-        → cond (wholeOf (subsOf v)) (seen (some v) (firstOf want (subsOf v))) torn ≡ entered v (onward true want none none (subsOf v))
-    go true f = rw f
-    go false f = rw f
-
-pub inside-torn : (want : ℕ) (sub : Option (List ℕ)) (v : List ℕ) (b : Bool) → holdsList v ≡ true → torn ≡ walkOf true want (drop (listSize v) v)
-    → cond b (insideOf want sub (some v)) torn ≡ torn
-inside-torn want sub v b e w = rw (inside-walked want sub v e, ← w) (same-either b torn)
-
-pub inside-seen : (want : ℕ) (sub : Option (List ℕ)) (v : List ℕ) (b : Bool) {outer inside : Option (List ℕ)} → holdsList v ≡ true
-    → seen outer inside ≡ walkOf true want (drop (listSize v) v) → cond b (insideOf want sub (some v)) torn ≡ cond b (seen (some v) inside) torn
-inside-seen want sub v b e w = rw (inside-walked want sub v e, ← w)
-
-pub onward-found : (inner : Bool) (want : ℕ) (v : List ℕ) (sub : Option (List ℕ)) (rest : Tlvs) → inner ≡ false
-    → cond (wholeOf rest) (seen (some v) sub) torn ≡ onward inner want (some v) sub rest
-onward-found inner want v sub rest e = rw e
-
--- Where the sub-TLVs lie in the whole.
-subs-part : (s : List ℕ) (from len size : ℕ) → size ≡ listSize (part s from len) → size ≤ len → from + len ≤ length s
-    → part s (from + size) (from + len - (from + size)) ≡ drop (listSize (part s from len)) (part s from len)
-subs-part s from len size e h k =
-    let m : from + len - (from + size) ≡ len - size = omega arith in
-    rw (m, ← e) (sym (drop-part s from len size k))
-
-pub inside-found : (s : List ℕ) (want from len size : ℕ) {found : Sight} → size ≡ listSize (part s from len) → size ≤ len → from + len ≤ length s
-    → found ≡ walkOf true want (part s (from + size) (from + len - (from + size)))
-    → found ≡ walkOf true want (drop (listSize (part s from len)) (part s from len))
-inside-found s want from len size e h k w = rw (subs-part s from len size e h k) at w
-
--- the walk -----------------------------------------------------------------------------------------------------
-
--- The walk from `at` on, with `list` and `sub` found before, gives `whole`.
-pub record Left (inner : Bool) (want : ℕ) (s : List ℕ) (at stop : ℕ) (list sub : Option (List ℕ)) (whole : Sight) : Type 0 where
-  pub fuel : ℕ
-  pub enough : stop - at < fuel
-  pub same : onward inner want list sub (tlvsIn fuel inner (part s at (stop - at))) ≡ whole
-
-pub left-start : (inner : Bool) (want : ℕ) (s : List ℕ) (at stop : ℕ) → at ≤ stop → stop ≤ length s
-    → Left inner want s at stop none none (walkOf inner want (part s at (stop - at)))
-unfolding walkOf tlvsOf
-left-start inner want s at stop h k = record {
-  fuel = suc (length (part s at (stop - at)));
-  enough = omega (arith, length-part s at (stop - at) (omega arith));
-  same = refl;
-}
-
-module _ {inner : Bool} {want : ℕ} {s : List ℕ} {at stop : ℕ} {list sub : Option (List ℕ)} {whole : Sight} (l : Left inner want s at stop list sub whole) where
-  pub left-end : stop ≤ at → seen list sub ≡ whole
-  left-end e = sym (rw (items-end (l .fuel) inner s at stop (omega arith) e) (onward-end inner want list sub)) ∙ l .same
-
-  module _ (h : at < stop) (k : stop ≤ length s) where
-    pub left-broken : itemAt s at stop inner ≡ Broken → torn ≡ whole
-    left-broken e = sym (rw (items-turn (l .fuel) inner s at stop (omega arith) h k, e)) ∙ l .same
-
-    pub left-torn : {kind from len next : ℕ} → itemAt s at stop inner ≡ Whole kind from len next
-        → ((rest : Tlvs) → onward inner want list sub (tlv kind (part s from len) rest) ≡ torn) → torn ≡ whole
-    left-torn {kind} {from} {len} {next} e f =
-        sym (rw (items-turn (l .fuel) inner s at stop (omega arith) h k, e) (f (tlvsIn (pred (l .fuel)) inner (part s next (stop - next))))) ∙ l .same
-
-    pub left-next : {kind from len next : ℕ} {list′ sub′ : Option (List ℕ)} → itemAt s at stop inner ≡ Whole kind from len next → at < next
-        → ((rest : Tlvs) → onward inner want list sub (tlv kind (part s from len) rest) ≡ onward inner want list′ sub′ rest)
-        → Left inner want s next stop list′ sub′ whole
-    left-next {kind} {from} {len} {next} e g f = record {
-      fuel = pred (l .fuel);
-      enough = omega arith;
-      same = sym (rw (items-turn (l .fuel) inner s at stop (omega arith) h k, e) (f (tlvsIn (pred (l .fuel)) inner (part s next (stop - next))))) ∙ l .same;
-    }
+use Rattle.open_walk.specs.Walk.{Sight, torn, seen, openWalk}
+use Rattle.open.specs.Open.{tlvsAt, openHeaded, measured, framed, openTlvs, setupOf, srv6Of, listed, fitting, holding, subSized, breaks1, breaks2, breaks3, carriesOf, openOf}
+use Rattle.open.specs.Carried.{carriedBy}
 
 -- the answer ---------------------------------------------------------------------------------------------------
 
@@ -193,21 +27,18 @@ and-false : (a : Bool) → (a && false) ≡ false
 and-false true = refl
 and-false false = refl
 
-and-true : (a : Bool) → (a && true) ≡ a
-and-true true = refl
-and-true false = refl
-
-pub framed-short : (s : List ℕ) → length s < 8 → framed s ≡ false
+pub framed-short : (s : List ℕ) → length s < tlvsAt → framed s ≡ false
 unfolding framed
-framed-short s h = rw (lt-leb 8 (length s) h, and-false (eqb (sizeOf s) (length s) && eqb (length s % 4) 0), and-false (headed s))
+framed-short s h = rw (lt-leb tlvsAt (length s) h, and-false (eqb (objectLength s) (length s) && eqb (length s % unit) 0), and-false (openHeaded s))
 
-pub framed-long : (s : List ℕ) → 8 ≤ length s → framed s ≡ (headed s && (eqb (sizeOf s) (length s) && eqb (length s % 4) 0))
+pub framed-long : (s : List ℕ) → tlvsAt ≤ length s → framed s ≡ (openHeaded s && (eqb (objectLength s) (length s) && eqb (length s % unit) 0))
 unfolding framed
-framed-long s h = rw (le-leb 8 (length s) h, and-true (eqb (sizeOf s) (length s) && eqb (length s % 4) 0))
+framed-long s h = rw (le-leb tlvsAt (length s) h, and-holding (eqb (objectLength s) (length s) && eqb (length s % unit) 0))
 
-pub long-framed : (s : List ℕ) → framed s ≡ true → 8 ≤ length s
+pub long-framed : (s : List ℕ) → framed s ≡ true → tlvsAt ≤ length s
 unfolding framed
-long-framed s e = leb-true 8 (length s) (and-right (eqb (sizeOf s) (length s) && eqb (length s % 4) 0) (leb 8 (length s)) (and-right (headed s) (measured s) e))
+long-framed s e =
+    leb-true tlvsAt (length s) (both-true (eqb (objectLength s) (length s) && eqb (length s % unit) 0) (leb tlvsAt (length s)) (both-true (openHeaded s) (measured s) e .1) .1)
 
 pub part-rest : (s : List ℕ) (a : ℕ) → part s a (length s - a) ≡ drop a s
 unfolding part
@@ -223,26 +54,26 @@ unfolding openOf breaks1
 unframed s e = rw e
 
 -- The walk of the code and the rules of the paper give the same answer.
-pub answered : (s : List ℕ) → framed s ≡ true → answerBy (walkOf false srv6Capability (drop 8 s)) ≡ openOf s
-unfolding walkOf openOf breaks1 breaks2 breaks3 fitting holding sized listed srv6Of setupOf carriesOf announcedOf
-answered s e = fit (wholeOf (openTlvs s)) (firstOf pathSetup (openTlvs s)) refl refl
+pub answered : (s : List ℕ) → framed s ≡ true → answerBy (openWalk false srv6Capability (drop tlvsAt s)) ≡ openOf s
+unfolding openWalk openOf breaks1 breaks2 breaks3 fitting holding subSized listed srv6Of setupOf carriesOf announcedOf
+answered s e = fit (tlvsWhole (openTlvs s)) (firstTlv pathSetup (openTlvs s)) refl refl
   where
-    sub : (v : List ℕ) → wholeOf (openTlvs s) ≡ true → firstOf pathSetup (openTlvs s) ≡ some v → (holdsList v && wholeOf (subsOf v)) ≡ true → listsSrv6 v ≡ true
-        → (o : Option (List ℕ)) → firstOf srv6Capability (subsOf v) ≡ o → answerBy (walkOf false srv6Capability (drop 8 s)) ≡ openOf s
+    sub : (v : List ℕ) → tlvsWhole (openTlvs s) ≡ true → firstTlv pathSetup (openTlvs s) ≡ some v → (holdsList v && tlvsWhole (subsOf v)) ≡ true → listsType srv6Setup v ≡ true
+        → (o : Option (List ℕ)) → firstTlv srv6Capability (subsOf v) ≡ o → answerBy (openWalk false srv6Capability (drop tlvsAt s)) ≡ openOf s
     sub v f g h k none m = rw (e, f, g, h, k, m)
     sub v f g h k (some w) m = rw (e, f, g, h, k, m)
 
-    listing : (v : List ℕ) → wholeOf (openTlvs s) ≡ true → firstOf pathSetup (openTlvs s) ≡ some v → (holdsList v && wholeOf (subsOf v)) ≡ true
-        → (b : Bool) → listsSrv6 v ≡ b → answerBy (walkOf false srv6Capability (drop 8 s)) ≡ openOf s
-    listing v f g h true k = sub v f g h k (firstOf srv6Capability (subsOf v)) refl
+    listing : (v : List ℕ) → tlvsWhole (openTlvs s) ≡ true → firstTlv pathSetup (openTlvs s) ≡ some v → (holdsList v && tlvsWhole (subsOf v)) ≡ true
+        → (b : Bool) → listsType srv6Setup v ≡ b → answerBy (openWalk false srv6Capability (drop tlvsAt s)) ≡ openOf s
+    listing v f g h true k = sub v f g h k (firstTlv srv6Capability (subsOf v)) refl
     listing v f g h false k = rw (e, f, g, h, k)
 
-    hold : (v : List ℕ) → wholeOf (openTlvs s) ≡ true → firstOf pathSetup (openTlvs s) ≡ some v
-        → (b : Bool) → (holdsList v && wholeOf (subsOf v)) ≡ b → answerBy (walkOf false srv6Capability (drop 8 s)) ≡ openOf s
-    hold v f g true h = listing v f g h (listsSrv6 v) refl
+    hold : (v : List ℕ) → tlvsWhole (openTlvs s) ≡ true → firstTlv pathSetup (openTlvs s) ≡ some v
+        → (b : Bool) → (holdsList v && tlvsWhole (subsOf v)) ≡ b → answerBy (openWalk false srv6Capability (drop tlvsAt s)) ≡ openOf s
+    hold v f g true h = listing v f g h (listsType srv6Setup v) refl
     hold v f g false h = rw (e, f, g, h)
 
-    fit : (b : Bool) (o : Option (List ℕ)) → wholeOf (openTlvs s) ≡ b → firstOf pathSetup (openTlvs s) ≡ o → answerBy (walkOf false srv6Capability (drop 8 s)) ≡ openOf s
+    fit : (b : Bool) (o : Option (List ℕ)) → tlvsWhole (openTlvs s) ≡ b → firstTlv pathSetup (openTlvs s) ≡ o → answerBy (openWalk false srv6Capability (drop tlvsAt s)) ≡ openOf s
     fit false o f g = rw (e, f)
     fit true none f g = rw (e, f, g)
-    fit true (some v) f g = hold v f g (holdsList v && wholeOf (subsOf v)) refl
+    fit true (some v) f g = hold v f g (holdsList v && tlvsWhole (subsOf v)) refl

@@ -6,11 +6,12 @@ use mathlib.Core.Path.{_≡_, refl, ap}
 use mathlib.Core.Logic.{_↔_}
 use mathlib.Core.List.{List}
 use mathlib.Core.Bool.{Bool, true, false, cond}
+use mathlib.Core.Option.{Option, none, some}
 use Rattle.answers.specs.Numbers.{openMalformed, capabilityMissing, wrongMsd}
 use Rattle.answers.proofs.Determined.{determined}
 use Rattle.session.specs.declared.Opened.{Opened}
-use Rattle.session.specs.Sessions.{openRefused}
-use Rattle.open.specs.Open.{breaks1, breaks2, breaks3, carriesOf, openOf}
+use Rattle.session.specs.Sessions.{openRefused, withoutSrv6}
+use Rattle.open.specs.Open.{srv6Of, listed, saidBy, breaks1, breaks2, breaks3, carriesOf, openOf}
 
 -- The first broken one of three rules, else x.
 abbrev first : Bool → Bool → Bool → Opened → Opened
@@ -47,7 +48,12 @@ module _ (s : List ℕ) where
 
   carries-zero : carriesOf s .number ≡ 0
   unfolding carriesOf
-  carries-zero = refl
+  carries-zero = go (listed s) (srv6Of s)
+    where
+      go : (b : Bool) (o : Option (List ℕ)) → cond b (saidBy o) withoutSrv6 .number ≡ 0
+      go true none = refl
+      go true (some w) = refl
+      go false o = refl
 
   -- "Otherwise accepted": accepted exactly if no rule is broken.
   pub accepted-exactly : (openOf s .number ≡ 0) ↔ ((breaks1 s ≡ false) × (breaks2 s ≡ false) × (breaks3 s ≡ false))

@@ -1,5 +1,4 @@
 // Reading an OPEN object (document 01, "The OPEN object"): any octets in, an answer out.
 mod object;
-mod walk;
 
 pub use object::read_open;

@@ -9,38 +9,39 @@ ghost use mathlib.Core.Path.{_≡_};
 ghost use mathlib.Core.Bool.{true};
 ghost use Prim.Native.Nat.{_<_};
 ghost use lib.ListN.{length};
-ghost use Rattle.open.specs.Walk.{Listed, Inside, valueAt, carriedBy};
+ghost use Rattle.tlvs.specs.Places.{Inside, valueAt};
+ghost use Rattle.open_walk.specs.Walk.{Listed};
+ghost use Rattle.open.specs.Carried.{carriedBy};
 ghost use Rattle.open.specs.Open.{framed, openOf};
-use super::walk::Found;
-use super::walk::NOWHERE;
-use super::walk::Place;
 use answers::CAPABILITY_MISSING;
 use answers::OPEN_MALFORMED;
 use capability::SRV6_CAPABILITY;
-use session::Limit;
+use objects::CLASS_PLACE;
+use objects::HEADER;
+use objects::LENGTH_PLACE;
+use objects::OBJECT_TYPE;
+use objects::OPEN_CLASS;
+use objects::SRV6_SETUP;
+use objects::TYPE_PLACE;
+use objects::TYPE_WORTH;
+use objects::UNIT;
+use open_walk::Found;
 use session::Opened;
-
-const OPEN_CLASS: usize = 1;
-
-const OPEN_TYPE: usize = 1;
+use tlvs::NOWHERE;
+use tlvs::Span;
 
 const OPEN_VERSION: usize = 1;
 
-// The places of class, type, length, version and the first TLV.
-const CLASS: usize = 0;
-
-const TYPE: usize = 1;
-
-const LENGTH: usize = 2;
-
-const VERSION: usize = 4;
+// The places of the version and of the first TLV.
+const VERSION: usize = HEADER;
 
 const TLVS: usize = 8;
 
-// What the lowest bits of type and version are worth in their octets.
-const TYPE_UNIT: usize = 16;
+// What the lowest bit of the version is worth in its octet.
+const VERSION_WORTH: usize = 32;
 
-const VERSION_UNIT: usize = 32;
+// The setup type of an SRv6 path, as it is listed.
+const SRV6: u8 = SRV6_SETUP as u8;
 
 // Class, type, version and length are an OPEN's.
 fn is_framed(s: &[u8]) -> bool
@@ -50,26 +51,26 @@ fn is_framed(s: &[u8]) -> bool
     if s.len() < TLVS {
         return false;
     }
-    let class = octets::octet(s, CLASS) == OPEN_CLASS;
-    let kind = octets::octet(s, TYPE) / TYPE_UNIT == OPEN_TYPE;
-    let version = octets::octet(s, VERSION) / VERSION_UNIT == OPEN_VERSION;
-    let same = octets::read16(s, LENGTH) == s.len();
-    let headed = octets::both(octets::both(class, kind), version);
-    octets::both(headed, octets::both(same, s.len() % 4 == 0))
+    let class = octets::octet(s, CLASS_PLACE) == OPEN_CLASS;
+    let kind = octets::octet(s, TYPE_PLACE) / TYPE_WORTH == OBJECT_TYPE;
+    let version = octets::octet(s, VERSION) / VERSION_WORTH == OPEN_VERSION;
+    let same = octets::read16(s, LENGTH_PLACE) == s.len();
+    let openHeaded = octets::both(octets::both(class, kind), version);
+    octets::both(openHeaded, octets::both(same, s.len() % UNIT == 0))
 }
 
 // What the values found carry: SRv6 only where setup type 3 is listed.
-fn carried_by(s: &[u8], list: Place, sub: Place) -> Opened
+fn carried_by(s: &[u8], list: Span, sub: Span) -> Opened
     requires { ⌜ Listed (now s) list × Inside (length (now s)) sub ⌝ }
     ensures carried { λ r. ⌜ r ≡ carriedBy (valueAt (now (s .entry)) list) (valueAt (now (s .entry)) sub) ⌝ }
 {
     if list.from == NOWHERE {
-        return session::carried(false, false, Limit::Free);
+        return session::without_srv6();
     }
     let from = list.from;
     let stop = from + list.len;
-    if !capability::lists_srv6(&s[from..stop]) {
-        return session::carried(false, false, Limit::Free);
+    if !capability::lists(&s[from..stop], SRV6) {
+        return session::without_srv6();
     }
     if sub.from == NOWHERE {
         return session::refused_open(CAPABILITY_MISSING);
@@ -86,8 +87,8 @@ pub fn read_open(s: &[u8]) -> Opened
     if !is_framed(s) {
         return session::refused_open(OPEN_MALFORMED);
     }
-    match super::walk::walk(s, TLVS, s.len(), false, SRV6_CAPABILITY) {
+    match open_walk::walk(s, TLVS, s.len(), false, SRV6_CAPABILITY) {
         Found::Cut => session::refused_open(OPEN_MALFORMED),
-        Found::Whole(list, sub) => carried_by(s, list, sub),
+        Found::Values(list, sub) => carried_by(s, list, sub),
     }
 }

@@ -5,25 +5,33 @@ use mathlib.Core.Bool.{Bool, true, false, _&&_}
 use borrow.Author.Tests.{ne-eqb}
 use Rattle.answers.proofs.Determined.{determined}
 use Rattle.session.specs.declared.Limit.{Limit}
-use Rattle.session.specs.declared.Limit.the-variants.{Free}
 use Rattle.session.specs.declared.Opened.{Opened}
 use Rattle.session.specs.declared.Session.{Session}
-use Rattle.session.specs.Sessions.{openRefused, openCarries, carries, agreedBy, sessionOf}
+use Rattle.session.specs.Sessions.{openRefused, openCarries, withoutSrv6, carries, agreedBy, agreedOn, notAgreedOn, sessionOf}
 
 -- A refused OPEN carries no SRv6, whatever else the answer holds.
 pub refused-carries-nothing : (o : Opened) → (o .number ≡ 0 → ⊥) → carries o ≡ false
 refused-carries-nothing o h = rw (ne-eqb (o .number) 0 h)
 
 -- Without SRv6 agreed N is 0 and there is no limit.
-pub not-agreed : (pcc pce : Opened) → agreedBy pcc pce ≡ false → sessionOf pcc pce ≡ record { agreed = false; n = false; limit = Free }
+pub not-agreed : (pcc pce : Opened) → agreedBy pcc pce ≡ false → sessionOf pcc pce ≡ notAgreedOn
 unfolding sessionOf
 not-agreed pcc pce e = rw e
 
 -- With SRv6 agreed N and the limit are the PCC's.
-pub agreed : (pcc pce : Opened) → agreedBy pcc pce ≡ true → sessionOf pcc pce ≡ record { agreed = true; n = pcc .n; limit = pcc .limit }
+pub agreed : (pcc pce : Opened) → agreedBy pcc pce ≡ true → sessionOf pcc pce ≡ agreedOn pcc
 unfolding sessionOf
 agreed pcc pce e = rw e
 
--- Any two sessions that fit the contract of `agree` are equal.
+-- Any two answers that fit the contract of a call are equal.
+pub refused_open-determined : (number : ℕ) (x y : Opened) → x ≡ openRefused number → y ≡ openRefused number → x ≡ y
+refused_open-determined number x y = determined
+
+pub carried-determined : (srv6 n : Bool) (limit : Limit) (x y : Opened) → x ≡ openCarries srv6 n limit → y ≡ openCarries srv6 n limit → x ≡ y
+carried-determined srv6 n limit x y = determined
+
+pub without_srv6-determined : (x y : Opened) → x ≡ withoutSrv6 → y ≡ withoutSrv6 → x ≡ y
+without_srv6-determined x y = determined
+
 pub agree-determined : (pcc pce : Opened) (x y : Session) → x ≡ sessionOf pcc pce → y ≡ sessionOf pcc pce → x ≡ y
 agree-determined pcc pce x y = determined

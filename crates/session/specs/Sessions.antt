@@ -15,6 +15,10 @@ openRefused number = record { number = number; srv6 = false; n = false; limit = 
 abbrev pub openCarries : Bool → Bool → Limit → Opened
 openCarries srv6 n limit = record { number = 0; srv6 = srv6; n = n; limit = limit }
 
+-- "without SRv6, N is 0 and there is no limit"
+abbrev pub withoutSrv6 : Opened
+withoutSrv6 = openCarries false false Free
+
 -- "A refused OPEN carries no SRv6."
 abbrev pub carries : Opened → Bool
 carries o = eqb (o .number) 0 && o .srv6
@@ -23,11 +27,13 @@ carries o = eqb (o .number) 0 && o .srv6
 abbrev pub agreedBy : Opened → Opened → Bool
 agreedBy pcc pce = carries pcc && carries pce
 
--- "N and the limit are the PCC's"; "without SRv6, N is 0 and there is no limit".
+-- "N and the limit are the PCC's".
+abbrev pub agreedOn : Opened → Session
+agreedOn pcc = record { agreed = true; n = pcc .n; limit = pcc .limit }
+
+-- "without SRv6, N is 0 and there is no limit".
+abbrev pub notAgreedOn : Session
+notAgreedOn = record { agreed = false; n = false; limit = Free }
+
 unfoldable pub sessionOf : Opened → Opened → Session
-sessionOf pcc pce =
-    record {
-      agreed = agreedBy pcc pce;
-      n = agreedBy pcc pce && pcc .n;
-      limit = cond (agreedBy pcc pce) (pcc .limit) Free;
-    }
+sessionOf pcc pce = cond (agreedBy pcc pce) (agreedOn pcc) notAgreedOn

@@ -3,8 +3,7 @@
 // A session is made of the PCC's and the PCE's OPEN answers. SRv6 is agreed if both carry it. N and
 // the limit are the PCC's. A refused OPEN carries no SRv6; without SRv6, N is 0 and there is no limit.
 ghost use mathlib.Core.Path.{_≡_};
-ghost use mathlib.Core.Bool.{cond};
-ghost use Rattle.session.specs.Sessions.{openRefused, openCarries, carries, sessionOf};
+ghost use Rattle.session.specs.Sessions.{openRefused, openCarries, withoutSrv6, carries, sessionOf};
 
 // How many segments a route may have.
 pub enum Limit {
@@ -51,6 +50,13 @@ pub fn carried(srv6: bool, n: bool, limit: Limit) -> Opened
     }
 }
 
+// The acceptance of an OPEN object without SRv6.
+pub fn without_srv6() -> Opened
+    ensures accepted { λ r. ⌜ r ≡ withoutSrv6 ⌝ }
+{
+    carried(false, false, Limit::Free)
+}
+
 // Whether an answer carries SRv6. A refused OPEN does not.
 fn carries_srv6(o: Opened) -> bool
     ensures carries { λ r. ⌜ r ≡ carries o ⌝ }
@@ -58,24 +64,21 @@ fn carries_srv6(o: Opened) -> bool
     octets::both(o.number == 0, o.srv6)
 }
 
-// A limit where SRv6 is agreed, and none where it is not.
-fn limit_if(agreed: bool, limit: Limit) -> Limit
-    ensures limit { λ r. ⌜ r ≡ cond agreed limit Limit.Free ⌝ }
-{
-    if agreed { limit } else { Limit::Free }
-}
-
 // The session of the PCC's and the PCE's answers.
 pub fn agree(pcc: Opened, pce: Opened) -> Session
     ensures session { λ r. ⌜ r ≡ sessionOf pcc pce ⌝ }
 {
-    let agreed = octets::both(carries_srv6(pcc), carries_srv6(pce));
-    let n = octets::both(agreed, pcc.n);
-    let theirs = pcc.limit;
-    let limit = limit_if(agreed, theirs);
+    if octets::both(carries_srv6(pcc), carries_srv6(pce)) {
+        let limit = pcc.limit;
+        return Session {
+            agreed: true,
+            n: pcc.n,
+            limit: limit,
+        };
+    }
     Session {
-        agreed: agreed,
-        n: n,
-        limit: limit,
+        agreed: false,
+        n: false,
+        limit: Limit::Free,
     }
 }

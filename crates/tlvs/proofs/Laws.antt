@@ -1,4 +1,6 @@
--- The TLVs of a part of an octet string, found place by place: what a walk by `itemAt` goes by.
+-- The TLVs of a part of an octet string, found place by place: what a walk by `itemAt` goes by. A part of a part is a part (`part-part`,
+-- `drop-part`), so that a TLV of the octets from a place on is read at that place; `item-turn` goes through the three ways that an item can
+-- be there, and `items-end` and `items-turn` say one turn of a walk.
 use Prim.Native.Nat.{ℕ, zero, suc, pred, _+_, _-_, _≤_, _<_}
 use native.Mathlib.Nat.{add-assoc, add-zero, le-refl}
 use native.Mathlib.Omega.{arith}
@@ -9,12 +11,13 @@ use lib.ListN.{length, drop, drop-of-length-le}
 use lib.Seq.{ext-getD}
 use lib.Dec.{ltb, leb}
 use borrow.Author.Tests.{ne-eqb, lt-ltb, le-ltb, le-leb, lt-leb, ltb-true, ltb-false, leb-true, leb-false}
+use Rattle.answers.proofs.Determined.{determined}
 use Rattle.octets.specs.Octets.{be16, pad4, part}
 use Rattle.octets.proofs.Laws.{length-part, getD-part, rest-lent}
-use Rattle.tlvs.specs.Tlvs.{Tlvs, end, cut, tlv, head, fitsIn, turn, tlvsIn}
+use Rattle.tlvs.specs.Tlvs.{Tlvs, tlvsEnd, tlvsCut, tlv, tlvHead, tlvFits, tlvTurn, tlvsIn}
 use Rattle.tlvs.specs.Places.{itemAt}
 use Rattle.tlvs.specs.declared.Item.{Item}
-use Rattle.tlvs.specs.declared.Item.the-variants.{Whole, Broken}
+use Rattle.tlvs.specs.declared.Item.the-variants.{One, Broken}
 
 -- a part of a part ---------------------------------------------------------------------------------------------
 
@@ -56,94 +59,98 @@ le-needed false n padded h = h
 
 -- an item, by what was read of it ------------------------------------------------------------------------------
 
-pub at-none : (s : List ℕ) (at stop : ℕ) (short : Bool) → stop - at < head → Broken ≡ itemAt s at stop short
+pub at-none : (s : List ℕ) (at stop : ℕ) (short : Bool) → stop - at < tlvHead → Broken ≡ itemAt short s at stop
 unfolding itemAt
-at-none s at stop short l = rw (lt-ltb (stop - at) head l)
+at-none s at stop short l = rw (lt-ltb (stop - at) tlvHead l)
 
 module _ (s : List ℕ) (at stop : ℕ) (short : Bool) {kind n padded needed : ℕ}
-    (e0 : kind ≡ be16 s at) (e2 : n ≡ be16 s (at + 2)) (p : padded ≡ pad4 n) (q : needed ≡ cond short n padded) (l : head ≤ stop - at) where
-  pub at-torn : stop - at < head + needed → Broken ≡ itemAt s at stop short
+    (e0 : kind ≡ be16 s at) (e2 : n ≡ be16 s (at + 2)) (p : padded ≡ pad4 n) (q : needed ≡ cond short n padded) (l : tlvHead ≤ stop - at) where
+  pub at-torn : stop - at < tlvHead + needed → Broken ≡ itemAt short s at stop
   unfolding itemAt
-  at-torn f = rw (← e2, ← p, ← q, le-ltb (stop - at) head l, lt-ltb (stop - at) (head + needed) f)
+  at-torn f = rw (← e2, ← p, ← q, le-ltb (stop - at) tlvHead l, lt-ltb (stop - at) (tlvHead + needed) f)
 
-  pub at-whole : head + needed ≤ stop - at → Whole kind (at + head) n (at + head + padded) ≡ itemAt s at stop short
+  pub at-whole : tlvHead + needed ≤ stop - at → One kind (at + tlvHead) n (at + tlvHead + padded) ≡ itemAt short s at stop
   unfolding itemAt
-  at-whole f = rw (← e0, ← e2, ← p, ← q, le-ltb (stop - at) head l, le-ltb (stop - at) (head + needed) f)
+  at-whole f = rw (← e0, ← e2, ← p, ← q, le-ltb (stop - at) tlvHead l, le-ltb (stop - at) (tlvHead + needed) f)
 
 -- the TLVs, by places ------------------------------------------------------------------------------------------
 
 -- One item and what follows it, as TLVs of the octets up to `stop`.
 abbrev pub turned : List ℕ → ℕ → Item → (List ℕ → Tlvs) → Tlvs
-turned s stop (Whole kind from len next) on = tlv kind (part s from len) (on (part s next (stop - next)))
-turned s stop Broken on = cut
+turned s stop (One kind from len next) on = tlv kind (part s from len) (on (part s next (stop - next)))
+turned s stop Broken on = tlvsCut
 
 module _ (s : List ℕ) (at stop : ℕ) (short : Bool) (on : List ℕ → Tlvs) (h : at ≤ stop) (k : stop ≤ length s) where
   -- What the octets from `at` on begin with, and what follows it.
   abbrev Begins : Type 0
-  Begins = turned s stop (itemAt s at stop short) on ≡ turn false (fitsIn short (part s at (stop - at))) (part s at (stop - at)) on
+  Begins = turned s stop (itemAt short s at stop) on ≡ tlvTurn false (tlvFits short (part s at (stop - at))) (part s at (stop - at)) on
 
   abbrev needs : ℕ
   needs = cond short (be16 s (at + 2)) (pad4 (be16 s (at + 2)))
 
   -- too short for a head
-  item-none : stop - at < head → Begins
+  item-none : stop - at < tlvHead → Begins
   unfolding itemAt
-  item-none l = simp (length-part s at (stop - at) (omega arith), lt-ltb (stop - at) head l, lt-leb head (stop - at) l)
+  item-none l = simp (length-part s at (stop - at) (omega arith), lt-ltb (stop - at) tlvHead l, lt-leb tlvHead (stop - at) l)
 
-  kind-same : head ≤ stop - at → be16 (part s at (stop - at)) 0 ≡ be16 s at
+  kind-same : tlvHead ≤ stop - at → be16 (part s at (stop - at)) 0 ≡ be16 s at
   kind-same l = be16-part s at (stop - at) 0 (omega arith) ∙ rw add-zero
 
-  length-same : head ≤ stop - at → be16 (part s at (stop - at)) 2 ≡ be16 s (at + 2)
+  length-same : tlvHead ≤ stop - at → be16 (part s at (stop - at)) 2 ≡ be16 s (at + 2)
   length-same l = be16-part s at (stop - at) 2 (omega arith)
 
-  fits-same : head ≤ stop - at → fitsIn short (part s at (stop - at)) ≡ leb (head + needs) (stop - at)
-  fits-same l = rw (length-same l, length-part s at (stop - at) (omega arith), le-leb head (stop - at) l)
+  fits-same : tlvHead ≤ stop - at → tlvFits short (part s at (stop - at)) ≡ leb (tlvHead + needs) (stop - at)
+  fits-same l = rw (length-same l, length-part s at (stop - at) (omega arith), le-leb tlvHead (stop - at) l)
 
   -- what is there does not do
-  item-torn : head ≤ stop - at → stop - at < head + needs → Begins
+  item-torn : tlvHead ≤ stop - at → stop - at < tlvHead + needs → Begins
   unfolding itemAt
-  item-torn l f = rw (fits-same l, lt-leb (head + needs) (stop - at) f, le-ltb (stop - at) head l, lt-ltb (stop - at) (head + needs) f)
+  item-torn l f = rw (fits-same l, lt-leb (tlvHead + needs) (stop - at) f, le-ltb (stop - at) tlvHead l, lt-ltb (stop - at) (tlvHead + needs) f)
 
   -- it does
-  item-whole : head ≤ stop - at → head + needs ≤ stop - at → Begins
+  item-whole : tlvHead ≤ stop - at → tlvHead + needs ≤ stop - at → Begins
   unfolding itemAt
   item-whole l f =
       let n = be16 s (at + 2) in
       let g : n ≤ needs = le-needed short n (pad4 n) (omega arith) in
-      let e : stop - at - (head + pad4 n) ≡ stop - (at + head + pad4 n) = omega arith in
-      let a : at + (head + pad4 n) ≡ at + head + pad4 n = omega arith in
+      let e : stop - at - (tlvHead + pad4 n) ≡ stop - (at + tlvHead + pad4 n) = omega arith in
+      let a : at + (tlvHead + pad4 n) ≡ at + tlvHead + pad4 n = omega arith in
       rw (
         fits-same l,
-        le-leb (head + needs) (stop - at) f,
-        le-ltb (stop - at) head l,
-        le-ltb (stop - at) (head + needs) f,
+        le-leb (tlvHead + needs) (stop - at) f,
+        le-ltb (stop - at) tlvHead l,
+        le-ltb (stop - at) (tlvHead + needs) f,
         kind-same l,
         length-same l,
-        part-part s at (stop - at) head n (omega arith) (omega arith),
-        drop-part s at (stop - at) (head + pad4 n) (omega arith),
+        part-part s at (stop - at) tlvHead n (omega arith) (omega arith),
+        drop-part s at (stop - at) (tlvHead + pad4 n) (omega arith),
         e,
         a,
       )
 
   item-turn : Begins
-  item-turn = go (ltb (stop - at) head) (leb (head + needs) (stop - at)) refl refl
+  item-turn = go (ltb (stop - at) tlvHead) (leb (tlvHead + needs) (stop - at)) refl refl
     where
-      go : (none does : Bool) → ltb (stop - at) head ≡ none → leb (head + needs) (stop - at) ≡ does → Begins
+      go : (none does : Bool) → ltb (stop - at) tlvHead ≡ none → leb (tlvHead + needs) (stop - at) ≡ does → Begins
       go true does e f = item-none (ltb-true _ _ e)
       go false true e f = item-whole (ltb-false _ _ e) (leb-true _ _ f)
       go false false e f = item-torn (ltb-false _ _ e) (leb-false _ _ f)
 
 -- At the end nothing is left,
-pub items-end : (n : ℕ) (short : Bool) (s : List ℕ) (at stop : ℕ) → 0 < n → stop ≤ at → tlvsIn n short (part s at (stop - at)) ≡ end
+pub items-end : (n : ℕ) (short : Bool) (s : List ℕ) (at stop : ℕ) → 0 < n → stop ≤ at → tlvsIn n short (part s at (stop - at)) ≡ tlvsEnd
 unfolding tlvsIn
 items-end zero short s at stop h e = absurd (omega arith)
 items-end (suc n) short s at stop h e = let z : stop - at ≡ 0 = omega arith in rw (z, nothing s at)
 
 -- and before it the item there, and then the rest.
 pub items-turn : (n : ℕ) (short : Bool) (s : List ℕ) (at stop : ℕ) → 0 < n → at < stop → stop ≤ length s
-    → tlvsIn n short (part s at (stop - at)) ≡ turned s stop (itemAt s at stop short) (λ rest. tlvsIn (pred n) short rest)
+    → tlvsIn n short (part s at (stop - at)) ≡ turned s stop (itemAt short s at stop) (λ rest. tlvsIn (pred n) short rest)
 unfolding tlvsIn
 items-turn zero short s at stop h k l = absurd (omega arith)
 items-turn (suc n) short s at stop h k l =
     let m : length (part s at (stop - at)) ≡ 0 → ⊥ = λ z. (omega (arith, length-part s at (stop - at) (omega arith))) in
     rw (ne-eqb (length (part s at (stop - at))) 0 m) (sym (item-turn s at stop short (λ rest. tlvsIn n short rest) (omega arith) l))
+
+-- Any two answers that fit the contract of `item_at` are equal.
+pub item_at-determined : (short : Bool) (s : List ℕ) (at stop : ℕ) {x y : Item} → x ≡ itemAt short s at stop → y ≡ itemAt short s at stop → x ≡ y
+item_at-determined short s at stop = determined

@@ -3,6 +3,11 @@
 // A TLV is type (2), length (2), value, then padding to a multiple of 4 that the length doesn't count.
 // A sub-TLV is laid out as a TLV is; only the padding of the last sub-TLV may be missing or cut.
 // What is too short for that is no TLV: Broken.
+mod span;
+
+pub use span::NOWHERE;
+pub use span::Span;
+pub use span::keep;
 ghost use mathlib.Core.Path.{_≡_};
 ghost use mathlib.Core.Bool.{cond};
 ghost use Prim.Native.Nat.{_≤_, _<_};
@@ -14,7 +19,7 @@ pub const HEAD: usize = 4;
 
 // One TLV: its type, where its value starts, its length, and where the next one starts.
 pub enum Item {
-    Whole {
+    One {
         kind: usize,
         from: usize,
         len: usize,
@@ -34,7 +39,7 @@ fn needed(short: bool, len: usize, padded: usize) -> usize
 // The TLV at `at` of those that end at `end`. With `short` its padding may be missing or cut at the end.
 pub fn item_at(s: &[u8], at: usize, end: usize, short: bool) -> Item
     requires { ⌜ (at ≤ end) × (end ≤ length (now s)) × (end < 65536) ⌝ }
-    ensures exact { λ r. ⌜ r ≡ itemAt (now (s .entry)) at end short ⌝ }
+    ensures exact { λ r. ⌜ r ≡ itemAt short (now (s .entry)) at end ⌝ }
     ensures within { λ r. ⌜ Within at end r ⌝ }
 {
     let room = end - at;
@@ -48,7 +53,7 @@ pub fn item_at(s: &[u8], at: usize, end: usize, short: bool) -> Item
         return Item::Broken;
     }
     let from = at + HEAD;
-    Item::Whole {
+    Item::One {
         kind,
         from,
         len,

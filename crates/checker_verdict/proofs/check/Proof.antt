@@ -1,5 +1,7 @@
+-- Three returns, one law each (`pcc-refused`, `pce-refused`, `ero-judged`). What `first` and `rest` ensure is carried along the objects by `ap`.
 use Rattle.checker_verdict.proofs.Laws.{pcc-refused, pce-refused, ero-judged}
-use Rattle.checker_verdict.specs.Checking.{firstOf, restOf}
+use Rattle.cut_objects.specs.Cutting.{firstObject, restObjects}
+use Rattle.objects.specs.Objects.{srv6Setup}
 use Rattle.route.specs.Routes.{judgeOf}
 use Rattle.session.specs.declared.Session.{Session}
 use Rattle.open.specs.Open.{openOf}
@@ -50,7 +52,7 @@ returns-2 c =
     (c .before .before .before .before .before .if1 .left)
     (c .before .before .before .read-open2 .ensures
     ∙ ap openOf
-    (c .before .before .before .before .first2 .ensures ∙ ap firstOf (before7 .before .before .rest .ensures)))
+    (c .before .before .before .before .first2 .ensures ∙ ap firstObject (before7 .before .before .rest .ensures)))
     (c .before .if2 .taken)
 
 agree-requires : tie.Need-agree-requires
@@ -70,18 +72,18 @@ returns-3 c =
     let before6 = c .before .before .before .before .before .before in
     let before10 = before6 .before .before .before .before in
     c .judge .ensures
-    ∙ ap (λ (e : List ℕ). judgeOf e true (c .before .before .before .agree .result) 3)
+    ∙ ap (λ (e : List ℕ). judgeOf e true (c .before .before .before .agree .result) srv6Setup)
     (c .before .first3 .ensures
-    ∙ ap firstOf (c .before .before .rest2 .ensures ∙ ap restOf (before10 .before .before .rest .ensures)))
+    ∙ ap firstObject (c .before .before .rest2 .ensures ∙ ap restObjects (before10 .before .before .rest .ensures)))
     ∙ ap
     (λ (n : Session).
-    judgeOf (firstOf (restOf (restOf (before10 .before .before .before .before .args .s .now)))) true n 3)
+    judgeOf (firstObject (restObjects (restObjects (before10 .before .before .before .before .args .s .now)))) true n srv6Setup)
     (c .before .before .before .agree .ensures)
     ∙ ero-judged (before10 .before .before .before .before .args .s .now) (before10 .read-open .result)
     (before6 .read-open2 .result) (before10 .read-open .ensures ∙ ap openOf (before10 .before .first .ensures))
     (before6 .before .before .if1 .left)
     (before6 .read-open2 .ensures
-    ∙ ap openOf (before6 .before .first2 .ensures ∙ ap firstOf (before10 .before .before .rest .ensures)))
+    ∙ ap openOf (before6 .before .first2 .ensures ∙ ap firstObject (before10 .before .before .rest .ensures)))
     (c .before .before .before .before .if2 .left)
 
 pub check-spec : {M : Type 1} → statement M

@@ -1,5 +1,5 @@
 use Rattle.capability.proofs.Laws.{pairs-end, pairs-next, lower, lower-free, lower-least}
-use Rattle.capability.specs.Msd.{pairsIn, limitIn}
+use Rattle.capability.specs.Msd.{pairsIn, smallestIn}
 use lib.ListN.{length, drop}
 use borrow.Author.Needs.{needs}
 use native.Mathlib.Omega.{arith}
@@ -9,7 +9,7 @@ use Rattle.capability.proofs.msd.lowest.Statement.{statement}
 use Rattle.capability.proofs.msd.lowest.Tie as tie
 
 abbrev Inv-loop : tie.InvT-loop
-Inv-loop p got₀ i₀ got i = (i ≤ length p) × (lower got (limitIn (pairsIn (drop i p))) ≡ limitIn (pairsIn p))
+Inv-loop p got₀ i₀ got i = (i ≤ length p) × (lower got (smallestIn (pairsIn (drop i p))) ≡ smallestIn (pairsIn p))
 
 abbrev μ-loop : tie.MeasureT-loop
 μ-loop p got₀ i₀ got i = length p - i

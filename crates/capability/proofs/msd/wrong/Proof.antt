@@ -1,5 +1,5 @@
 use Rattle.capability.proofs.Laws.{pairs-end, pairs-next}
-use Rattle.capability.specs.Msd.{pairsIn, wrongIn}
+use Rattle.capability.specs.Msd.{pairsIn, wrongPairs}
 use lib.ListN.{length, drop}
 use borrow.Author.Tests.{not-true, not-false}
 use borrow.Author.Needs.{needs}
@@ -10,7 +10,7 @@ use Rattle.capability.proofs.msd.wrong.Statement.{statement}
 use Rattle.capability.proofs.msd.wrong.Tie as tie
 
 abbrev Inv-loop : tie.InvT-loop
-Inv-loop p i₀ i = (i ≤ length p) × (wrongIn (pairsIn (drop i p)) ≡ wrongIn (pairsIn p))
+Inv-loop p i₀ i = (i ≤ length p) × (wrongPairs (pairsIn (drop i p)) ≡ wrongPairs (pairsIn p))
 
 abbrev μ-loop : tie.MeasureT-loop
 μ-loop p i₀ i = length p - i

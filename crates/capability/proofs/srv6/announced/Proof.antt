@@ -1,3 +1,5 @@
+-- Each return is one row of `announcedOf`: the tests that led there are rewritten into the definition, and it computes to what was returned.
+-- What `wrong` and `lowest` say of the lent rest is said of the pairs by `rest-lent`.
 use Rattle.capability.proofs.Laws.{and-leb}
 use Rattle.capability.specs.Srv6.{announcedOf, sizedOf, nOf, xOf, wrongOf, limitOf}
 use Rattle.octets.proofs.Laws.{rest-lent}

@@ -1,6 +1,10 @@
-use Rattle.open.proofs.Laws.{part-lent, value-missing, value-there}
-use Rattle.open.specs.Walk.{missingOf}
-use Rattle.capability.specs.SetupTypes.{listsSrv6}
+-- Each return is one row of `carriedBy`: a span is turned into the value that lies there (`value-missing`, `value-there`), a lent part into
+-- `part` (`part-lent`), and then what the callee ensures is the row.
+use Rattle.open_walk.proofs.Laws.{part-lent}
+use Rattle.tlvs.proofs.Spans.{value-missing, value-there}
+use Rattle.tlvs.specs.Places.{missingOf}
+use Rattle.capability.specs.SetupTypes.{listsType}
+use Rattle.objects.specs.Objects.{srv6Setup}
 use Rattle.octets.proofs.Laws.{length-part}
 use Rattle.octets.specs.Octets.{part}
 use borrow.Author.Tests.{eq-eqb, ne-eqb, not-true, not-false}
@@ -16,39 +20,39 @@ there : (c : tie.Else1) → missingOf (c .before .before .before .args .list) �
 there c = ne-eqb _ _ (c .if1 .left)
 
 -- where its list has been looked at
-listing : (c : tie.After-lists-srv6)
-    → (let a = c .before .before .before .before .before .before .args in c .lists-srv6 .result ≡ listsSrv6 (part (a .s .now) (a .list .from) (a .list .len)))
-listing c = let a = c .before .before .before .before .before .before .args in rw (part-lent (a .s .now) (a .list .from) (a .list .len)) at (c .lists-srv6 .ensures)
+listing : (c : tie.After-lists)
+    → (let a = c .before .before .before .before .before .before .args in c .lists .result ≡ listsType srv6Setup (part (a .s .now) (a .list .from) (a .list .len)))
+listing c = let a = c .before .before .before .before .before .before .args in rw (part-lent (a .s .now) (a .list .from) (a .list .len)) at (c .lists .ensures)
 
-carried-requires : tie.Need-carried-requires
-carried-requires c κs = search needs
+without-srv6-requires : tie.Need-without-srv6-requires
+without-srv6-requires c κs = search needs
 
 returns : tie.Need-returns
-returns c = let a = c .before .before .before .before .args in rw (c .carried .ensures, value-missing (a .s .now) (a .list) (eq-eqb _ _ (c .before .if1 .taken)))
+returns c = let a = c .before .before .before .before .args in rw (c .without-srv6 .ensures, value-missing (a .s .now) (a .list) (eq-eqb _ _ (c .before .if1 .taken)))
 
 add-stop : tie.Need-add-stop
 add-stop c = search needs
 
-sub-lists-srv6 : tie.Need-sub-lists-srv6
-sub-lists-srv6 c = search needs
+sub-lists : tie.Need-sub-lists
+sub-lists c = search needs
 
-part-lists-srv6-start : tie.Need-part-lists-srv6-start
-part-lists-srv6-start c = search needs
+part-lists-start : tie.Need-part-lists-start
+part-lists-start c = search needs
 
-part-lists-srv6-end : tie.Need-part-lists-srv6-end
-part-lists-srv6-end c = search needs
+part-lists-end : tie.Need-part-lists-end
+part-lists-end c = search needs
 
-lists-srv6-requires : tie.Need-lists-srv6-requires
-lists-srv6-requires c κs = let a = c .before .before .before .before .before .args in
+lists-requires : tie.Need-lists-requires
+lists-requires c κs = let a = c .before .before .before .before .before .args in
     rw (part-lent (a .s .now) (a .list .from) (a .list .len), length-part (a .s .now) (a .list .from) (a .list .len) (omega arith))
     (c .before .before .before .before .before .pre .0 .1 (there (c .before .before)))
 
-carried-requires-2 : tie.Need-carried-requires-2
-carried-requires-2 c κs = search needs
+without-srv6-requires-2 : tie.Need-without-srv6-requires-2
+without-srv6-requires-2 c κs = search needs
 
 returns-2 : tie.Need-returns-2
 returns-2 c = let a = c .before .before .before .before .before .before .before .before .args in
-    rw (c .carried2 .ensures, value-there (a .s .now) (a .list) (there (c .before .before .before .before .before)), sym (listing (c .before .before)) ∙ not-true _ (c .before .if2 .taken))
+    rw (c .without-srv62 .ensures, value-there (a .s .now) (a .list) (there (c .before .before .before .before .before)), sym (listing (c .before .before)) ∙ not-true _ (c .before .if2 .taken))
 
 refused-open-requires : tie.Need-refused-open-requires
 refused-open-requires c κs = search needs
@@ -90,14 +94,14 @@ pub carried-by-spec : {M : Type 1} → statement M
 carried-by-spec =
     tie.close
     (tie.spec
-    carried-requires
+    without-srv6-requires
     returns
     add-stop
-    sub-lists-srv6
-    part-lists-srv6-start
-    part-lists-srv6-end
-    lists-srv6-requires
-    carried-requires-2
+    sub-lists
+    part-lists-start
+    part-lists-end
+    lists-requires
+    without-srv6-requires-2
     returns-2
     refused-open-requires
     returns-3

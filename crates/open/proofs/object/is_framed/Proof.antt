@@ -1,4 +1,5 @@
-use Rattle.open.proofs.Laws.{and-left, and-right, framed-short, framed-long}
+use Rattle.open.proofs.Laws.{framed-short, framed-long}
+use Rattle.octets.proofs.Said.{both-true}
 use borrow.Author.Tests.{eqb-true}
 use lib.Dec.{eqb}
 use lib.ListN.{length}
@@ -53,8 +54,8 @@ returns-2 c = let s = c .before .before .before .before .before .before .before 
       ),
       λ e. omega (
         arith,
-        eqb-true n (length s) (and-left (eqb n (length s)) (eqb (length s % 4) 0)
-            (sym (c .before .both3 .ensures) ∙ and-right (c .before .before .both2 .result) (c .before .both3 .result) (sym (c .both4 .ensures) ∙ e))),
+        eqb-true n (length s) (both-true (eqb n (length s)) (eqb (length s % 4) 0)
+            (sym (c .before .both3 .ensures) ∙ both-true (c .before .before .both2 .result) (c .before .both3 .result) (sym (c .both4 .ensures) ∙ e) .1) .0),
       ),
     )
 

@@ -1,6 +1,6 @@
 use Rattle.open.proofs.Laws.{long-framed, part-rest, unframed, answered}
-use Rattle.open.specs.Open.{framed}
-use Rattle.open.specs.Walk.{sightOf, walkOf}
+use Rattle.open.specs.Open.{tlvsAt, framed}
+use Rattle.open_walk.specs.Walk.{sightOf, openWalk}
 use Rattle.capability.specs.Srv6.{srv6Capability}
 use lib.ListN.{drop}
 use mathlib.Core.Bool.{true, false}
@@ -15,8 +15,9 @@ good : (c : tie.Else1) → framed (c .before .before .before .args .s .now) ≡ 
 good c = sym (c .before .is-framed .ensures .0) ∙ not-false _ (c .if1 .left)
 
 -- where the walk has been made
-walked : (c : tie.After-walk) → sightOf (c .before .before .before .before .args .s .now) (c .walk .result) ≡ walkOf false srv6Capability (drop 8 (c .before .before .before .before .args .s .now))
-walked c = rw (part-rest (c .before .before .before .before .args .s .now) 8) at (c .walk .ensures .0)
+walked : (c : tie.After-walk)
+    → (let s = c .before .before .before .before .args .s .now in sightOf s (c .walk .result) ≡ openWalk false srv6Capability (drop tlvsAt s))
+walked c = rw (part-rest (c .before .before .before .before .args .s .now) tlvsAt) at (c .walk .ensures .0)
 
 is-framed-requires : tie.Need-is-framed-requires
 is-framed-requires c κs = search needs

@@ -7,47 +7,30 @@ ghost use mathlib.Core.Path.{_≡_};
 ghost use Prim.Native.Nat.{_-_, _≤_, _<_};
 ghost use lib.ListN.{length};
 ghost use Rattle.octets.specs.Octets.{part};
-ghost use Rattle.open.specs.Walk.{keepOf, sightOf, walkOf, Bounds};
+ghost use Rattle.open_walk.specs.Walk.{sightOf, openWalk, Bounds};
 use capability::PATH_SETUP;
 use tlvs::Item;
-
-// The start of a value that was not found: none starts here.
-pub const NOWHERE: usize = 0;
-
-// Where a value lies: its start and its length.
-pub struct Place {
-    pub from: usize,
-    pub len: usize,
-}
+use tlvs::NOWHERE;
+use tlvs::Span;
 
 // What a walk found: the value of the first TLV 34, and that of the first wanted sub-TLV in it.
 pub enum Found {
     Cut,
-    Whole(Place, Place),
-}
-
-// The first hit is kept.
-fn keep(got: Place, hit: bool, from: usize, len: usize) -> Place
-    ensures kept { λ r. ⌜ r ≡ keepOf got hit from len ⌝ }
-{
-    if octets::both(got.from == NOWHERE, hit) {
-        return Place { from, len };
-    }
-    got
+    Values(Span, Span),
 }
 
 // The TLVs from `start` to `end`, or with `inner` the sub-TLVs there.
 pub fn walk(s: &[u8], start: usize, end: usize, inner: bool, want: usize) -> Found
     requires { ⌜ (start ≤ end) × (end ≤ length (now s)) × (end < 65536) ⌝ }
-    ensures found { λ r. ⌜ sightOf (now (s .entry)) r ≡ walkOf inner want (part (now (s .entry)) start (end - start)) ⌝ }
+    ensures found { λ r. ⌜ sightOf (now (s .entry)) r ≡ openWalk inner want (part (now (s .entry)) start (end - start)) ⌝ }
     ensures within { λ r. ⌜ Bounds (now (s .entry)) r ⌝ }
 {
     let mut at = start;
-    let mut list = Place {
+    let mut list = Span {
         from: NOWHERE,
         len: 0,
     };
-    let mut sub = Place {
+    let mut sub = Span {
         from: NOWHERE,
         len: 0,
     };
@@ -56,14 +39,14 @@ pub fn walk(s: &[u8], start: usize, end: usize, inner: bool, want: usize) -> Fou
             Item::Broken => {
                 return Found::Cut;
             }
-            Item::Whole {
+            Item::One {
                 kind,
                 from,
                 len,
                 next,
             } => {
                 if inner {
-                    sub = keep(sub, kind == want, from, len);
+                    sub = tlvs::keep(sub, kind == want, from, len);
                 } else if octets::both(list.from == NOWHERE, kind == PATH_SETUP) {
                     let stop = from + len;
                     let size = capability::list_size(&s[from..stop]);
@@ -74,8 +57,8 @@ pub fn walk(s: &[u8], start: usize, end: usize, inner: bool, want: usize) -> Fou
                         Found::Cut => {
                             return Found::Cut;
                         }
-                        Found::Whole(outer, inside) => {
-                            list = Place { from, len };
+                        Found::Values(outer, inside) => {
+                            list = Span { from, len };
                             sub = inside;
                         }
                     }
@@ -84,5 +67,5 @@ pub fn walk(s: &[u8], start: usize, end: usize, inner: bool, want: usize) -> Fou
             }
         }
     }
-    Found::Whole(list, sub)
+    Found::Values(list, sub)
 }

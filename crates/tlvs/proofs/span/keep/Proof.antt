@@ -1,7 +1,7 @@
 use mathlib.Core.Path.{sym, _∙_}
 use borrow.Author.Needs.{needs}
-use Rattle.open.proofs.walk.keep.Statement.{statement}
-use Rattle.open.proofs.walk.keep.Tie as tie
+use Rattle.tlvs.proofs.span.keep.Statement.{statement}
+use Rattle.tlvs.proofs.span.keep.Tie as tie
 
 both-requires : tie.Need-both-requires
 both-requires c κs = search needs

@@ -3,8 +3,8 @@ use Rattle.capability.specs.SetupTypes.{listSize}
 use native.Mathlib.Omega.{arith}
 use Prim.Native.Nat.{_+_, _-_}
 use borrow.Author.Needs.{needs}
-use Rattle.capability.proofs.list.lists_srv6.Statement.{statement}
-use Rattle.capability.proofs.list.lists_srv6.Tie as tie
+use Rattle.capability.proofs.list.lists.Statement.{statement}
+use Rattle.capability.proofs.list.lists.Tie as tie
 
 octet-requires : tie.Need-octet-requires
 octet-requires c κs = search needs
@@ -29,9 +29,9 @@ has-requires c κs = search needs
 
 returns : tie.Need-returns
 returns c = let n = c .before .before .octet .result in
-    listed-lent (c .before .before .before .before .args .v .now) (4 + n - 4) (c .has .ensures) (omega (arith, c .before .before .octet .ensures .0))
+    listed-lent (c .before .before .before .before .args .kind) (c .before .before .before .before .args .v .now) (4 + n - 4) (c .has .ensures) (omega (arith, c .before .before .octet .ensures .0))
 
-pub lists-srv6-spec : {M : Type 1} → statement M
-lists-srv6-spec =
+pub lists-spec : {M : Type 1} → statement M
+lists-spec =
     tie.close
     (tie.spec octet-requires add-end sub-has part-has-start part-has-end has-requires returns)

@@ -1,0 +1,145 @@
+-- What is left of a walk, as a loop's invariant says it, and the laws that a turn goes by. `Left` says that the walk over the TLVs from a
+-- place on, with what was found before, gives the whole walk's answer; `left-end`, `left-broken`, `left-torn` and `left-next` are the ways
+-- out of a turn, and the laws before them say what a turn adds.
+use Prim.Native.Nat.{ℕ, suc, pred, _+_, _-_, _≤_, _<_}
+use native.Mathlib.Nat.{add-sub-cancel-left}
+use native.Mathlib.Omega.{arith}
+use mathlib.Core.Path.{_≡_, refl, sym, _∙_}
+use mathlib.Core.List.{List}
+use mathlib.Core.Bool.{Bool, true, false, cond, _&&_}
+use mathlib.Core.Option.{Option, none, some}
+use lib.ListN.{length, take, drop}
+use lib.Dec.{eqb}
+use Rattle.octets.specs.Octets.{part}
+use Rattle.octets.proofs.Laws.{length-part}
+use Rattle.tlvs.specs.Tlvs.{Tlvs, tlvsEnd, tlv, tlvsIn, tlvsOf, tlvsWhole, firstTlv, absent}
+use Rattle.tlvs.specs.Places.{itemAt, orElse}
+use Rattle.tlvs.specs.declared.Item.the-variants.{One, Broken}
+use Rattle.tlvs.proofs.Laws.{drop-part, items-end, items-turn}
+use Rattle.answers.proofs.Determined.{determined}
+use Rattle.capability.specs.SetupTypes.{pathSetup, listSize, holdsList, subsOf}
+use Rattle.open_walk.specs.Walk.{Sight, torn, seen, insideOf, openOnward, openWalk}
+
+-- A part of a slice, as it is lent.
+pub part-lent : (s : List ℕ) (a n : ℕ) → take (a + n - a) (drop a s) ≡ part s a n
+unfolding part
+part-lent s a n = rw (add-sub-cancel-left a n)
+
+-- one turn -----------------------------------------------------------------------------------------------------
+
+same-either : {A : Type 0} (b : Bool) (x : A) → cond b x x ≡ x
+same-either true x = refl
+same-either false x = refl
+
+pub onward-end : (inner : Bool) (want : ℕ) (list sub : Option (List ℕ)) → openOnward inner want list sub tlvsEnd ≡ seen list sub
+onward-end true want list none = refl
+onward-end true want list (some w) = refl
+onward-end false want none sub = refl
+onward-end false want (some v) sub = refl
+
+module _ (want kind : ℕ) (v : List ℕ) (rest : Tlvs) where
+  -- among sub-TLVs, the first wanted one is kept
+  pub onward-inner : (list sub : Option (List ℕ))
+      → openOnward true want list sub (tlv kind v rest) ≡ openOnward true want list (orElse sub (cond (eqb kind want) (some v) none)) rest
+  onward-inner list (some w) = refl
+  onward-inner list none = go (eqb kind want) refl
+    where
+      go : (hit : Bool) → eqb kind want ≡ hit → openOnward true want list none (tlv kind v rest) ≡ openOnward true want list (orElse none (cond (eqb kind want) (some v) none)) rest
+      go true e = rw e
+      go false e = rw e
+
+  -- an outer TLV that is not the first TLV 34 is passed over
+  pub onward-past : (list sub : Option (List ℕ)) → (absent list && eqb kind pathSetup) ≡ false → openOnward false want list sub (tlv kind v rest) ≡ openOnward false want list sub rest
+  onward-past none sub e = rw e
+  onward-past (some w) sub e = refl
+
+  -- and the first TLV 34 is looked into
+  pub onward-enter : (list sub : Option (List ℕ)) → list ≡ none → eqb kind pathSetup ≡ true
+      → openOnward false want list sub (tlv kind v rest) ≡ cond (tlvsWhole rest) (insideOf want sub (some v)) torn
+  onward-enter list sub n e = rw (n, e)
+
+-- the first TLV 34 ---------------------------------------------------------------------------------------------
+
+abbrev pub entered : List ℕ → Sight → Sight
+entered v torn = torn
+entered v (seen list sub) = seen (some v) sub
+
+pub inside-unheld : (want : ℕ) (sub : Option (List ℕ)) (v : List ℕ) (b : Bool) → holdsList v ≡ false → cond b (insideOf want sub (some v)) torn ≡ torn
+inside-unheld want sub v b e = rw e (same-either b torn)
+
+pub inside-walked : (want : ℕ) (sub : Option (List ℕ)) (v : List ℕ) → holdsList v ≡ true
+    → insideOf want sub (some v) ≡ entered v (openWalk true want (drop (listSize v) v))
+unfolding openWalk
+inside-walked want sub v e = rw e (go (tlvsWhole (subsOf v)) refl)
+  where
+    go : (b : Bool) → tlvsWhole (subsOf v) ≡ b
+        → cond (tlvsWhole (subsOf v)) (seen (some v) (firstTlv want (subsOf v))) torn ≡ entered v (openOnward true want none none (subsOf v))
+    go true f = rw f
+    go false f = rw f
+
+pub inside-torn : (want : ℕ) (sub : Option (List ℕ)) (v : List ℕ) (b : Bool) → holdsList v ≡ true → torn ≡ openWalk true want (drop (listSize v) v)
+    → cond b (insideOf want sub (some v)) torn ≡ torn
+inside-torn want sub v b e w = rw (inside-walked want sub v e, ← w) (same-either b torn)
+
+pub inside-seen : (want : ℕ) (sub : Option (List ℕ)) (v : List ℕ) (b : Bool) {outer inside : Option (List ℕ)} → holdsList v ≡ true
+    → seen outer inside ≡ openWalk true want (drop (listSize v) v) → cond b (insideOf want sub (some v)) torn ≡ cond b (seen (some v) inside) torn
+inside-seen want sub v b e w = rw (inside-walked want sub v e, ← w)
+
+pub onward-found : (inner : Bool) (want : ℕ) (v : List ℕ) (sub : Option (List ℕ)) (rest : Tlvs) → inner ≡ false
+    → cond (tlvsWhole rest) (seen (some v) sub) torn ≡ openOnward inner want (some v) sub rest
+onward-found inner want v sub rest e = rw e
+
+-- Where the sub-TLVs lie in the whole.
+subs-part : (s : List ℕ) (from len size : ℕ) → size ≡ listSize (part s from len) → size ≤ len → from + len ≤ length s
+    → part s (from + size) (from + len - (from + size)) ≡ drop (listSize (part s from len)) (part s from len)
+subs-part s from len size e h k =
+    let m : from + len - (from + size) ≡ len - size = omega arith in
+    rw (m, ← e) (sym (drop-part s from len size k))
+
+pub inside-found : (s : List ℕ) (want from len size : ℕ) {found : Sight} → size ≡ listSize (part s from len) → size ≤ len → from + len ≤ length s
+    → found ≡ openWalk true want (part s (from + size) (from + len - (from + size)))
+    → found ≡ openWalk true want (drop (listSize (part s from len)) (part s from len))
+inside-found s want from len size e h k w = rw (subs-part s from len size e h k) at w
+
+-- the walk -----------------------------------------------------------------------------------------------------
+
+-- The walk from `at` on, with `list` and `sub` found before, gives `whole`.
+pub record Left (inner : Bool) (want : ℕ) (s : List ℕ) (at stop : ℕ) (list sub : Option (List ℕ)) (whole : Sight) : Type 0 where
+  pub fuel : ℕ
+  pub enough : stop - at < fuel
+  pub same : openOnward inner want list sub (tlvsIn fuel inner (part s at (stop - at))) ≡ whole
+
+pub left-start : (inner : Bool) (want : ℕ) (s : List ℕ) (at stop : ℕ) → at ≤ stop → stop ≤ length s
+    → Left inner want s at stop none none (openWalk inner want (part s at (stop - at)))
+unfolding openWalk tlvsOf
+left-start inner want s at stop h k = record {
+  fuel = suc (length (part s at (stop - at)));
+  enough = omega (arith, length-part s at (stop - at) (omega arith));
+  same = refl;
+}
+
+module _ {inner : Bool} {want : ℕ} {s : List ℕ} {at stop : ℕ} {list sub : Option (List ℕ)} {whole : Sight} (l : Left inner want s at stop list sub whole) where
+  pub left-end : stop ≤ at → seen list sub ≡ whole
+  left-end e = sym (rw (items-end (l .fuel) inner s at stop (omega arith) e) (onward-end inner want list sub)) ∙ l .same
+
+  module _ (h : at < stop) (k : stop ≤ length s) where
+    pub left-broken : itemAt inner s at stop ≡ Broken → torn ≡ whole
+    left-broken e = sym (rw (items-turn (l .fuel) inner s at stop (omega arith) h k, e)) ∙ l .same
+
+    pub left-torn : {kind from len next : ℕ} → itemAt inner s at stop ≡ One kind from len next
+        → ((rest : Tlvs) → openOnward inner want list sub (tlv kind (part s from len) rest) ≡ torn) → torn ≡ whole
+    left-torn {kind} {from} {len} {next} e f =
+        sym (rw (items-turn (l .fuel) inner s at stop (omega arith) h k, e) (f (tlvsIn (pred (l .fuel)) inner (part s next (stop - next))))) ∙ l .same
+
+    pub left-next : {kind from len next : ℕ} {list′ sub′ : Option (List ℕ)} → itemAt inner s at stop ≡ One kind from len next → at < next
+        → ((rest : Tlvs) → openOnward inner want list sub (tlv kind (part s from len) rest) ≡ openOnward inner want list′ sub′ rest)
+        → Left inner want s next stop list′ sub′ whole
+    left-next {kind} {from} {len} {next} e g f = record {
+      fuel = pred (l .fuel);
+      enough = omega arith;
+      same = sym (rw (items-turn (l .fuel) inner s at stop (omega arith) h k, e) (f (tlvsIn (pred (l .fuel)) inner (part s next (stop - next))))) ∙ l .same;
+    }
+
+-- Any two walks that fit the contract of `walk` found the same values.
+pub walk-determined : (inner : Bool) (want : ℕ) (s : List ℕ) {x y : Sight} → x ≡ openWalk inner want s → y ≡ openWalk inner want s → x ≡ y
+walk-determined inner want s = determined
