@@ -11,39 +11,37 @@ use borrow.Author.Tests.{eq-eqb, ne-eqb, ltb-true, leb-true, eqb-false, not-true
 use Rattle.answers.specs.declared.verdict.Verdict.{Verdict}
 use Rattle.answers.specs.Numbers.{notABoard}
 use Rattle.answers.specs.Verdicts.{refusedBy, kept}
-use Rattle.board_record.specs.declared.record.Board.{Board}
 use Rattle.board_record.specs.Sizes.{places, storeSize, keyLeast, keyMost, versionMost}
-use Rattle.board_record.specs.Table.{boardOf}
+use Rattle.board_record.specs.Table.{Table, tableOf}
 use Rattle.board_record.specs.Search.{placeOf}
 use Rattle.board_record.specs.Proper.{properB}
 use Rattle.board_record.proofs.Logic.{and-true}
 use Rattle.board_record.proofs.Search.{key-place-is}
 use Rattle.board_record.proofs.Proper.{proper-is}
-use Rattle.board_rules.specs.declared.answer.Answer.{Answer}
-use Rattle.board_rules.specs.Rules.{isBoard, inRange, lengthIn, answerOf}
+use Rattle.board_rules.specs.Rules.{Outcome, isBoard, inRange, lengthIn, outcomeOf}
 use Rattle.board_rules.specs.Remove.{removeRules, removeVerdict, removed, removeAnswer}
 use Rattle.board_rules.specs.Compact.{compactRules, compactVerdict, compacted, compactAnswer}
 use Rattle.board_rules.proofs.Shared.{path-test}
 use Rattle.board_rules.proofs.Verdicts.{kept-old, kept-new, rule-passed}
 
 -- ---- 17
-pub board-not : (b : Board) (n : ℕ) (r : Bool) → r ≡ isBoard b n → not r ≡ true → isBoard b n ≡ false
+pub board-not : (b : Table) (n : ℕ) (r : Bool) → r ≡ isBoard b n → not r ≡ true → isBoard b n ≡ false
 board-not b n r e t = sym e ∙ not-true r t
 
-pub board-is : (b : Board) (n : ℕ) (r : Bool) → r ≡ isBoard b n → not r ≡ false → isBoard b n ≡ true
+pub board-is : (b : Table) (n : ℕ) (r : Bool) → r ≡ isBoard b n → not r ≡ false → isBoard b n ≡ true
 board-is b n r e t = sym e ∙ not-false r t
 
-pub board-room : (b : Board) (n : ℕ) → isBoard b n ≡ true → storeSize ≤ n
+pub board-room : (b : Table) (n : ℕ) → isBoard b n ≡ true → storeSize ≤ n
 unfolding isBoard
 board-room b n e = leb-true storeSize n (and-true (leb storeSize n) (properB b) e .0)
 
-pub board-proper : (b : Board) (n : ℕ) → isBoard b n ≡ true → properB b ≡ true
+pub board-proper : (b : Table) (n : ℕ) → isBoard b n ≡ true → properB b ≡ true
 unfolding isBoard
 board-proper b n e = and-true (leb storeSize n) (properB b) e .1
 
 -- ---- remove
-module _ (b : Board) (store : List ℕ) (k : ℕ) where
-  pub remove-not-board : (r : Bool) (v : Verdict) → r ≡ isBoard b (length store) → not r ≡ true → v ≡ refusedBy notABoard 0 → answerOf v b ≡ removeAnswer b store k
+module _ (b : Table) (store : List ℕ) (k : ℕ) where
+  pub remove-not-board : (r : Bool) (v : Verdict) → r ≡ isBoard b (length store) → not r ≡ true → v ≡ refusedBy notABoard 0 → outcomeOf v b ≡ removeAnswer b store k
   unfolding removeAnswer removeVerdict removeRules
   remove-not-board r v e t q = rw (q, board-not b (length store) r e t)
 
@@ -53,11 +51,11 @@ module _ (b : Board) (store : List ℕ) (k : ℕ) where
   unfolding removeVerdict
   remove-verdict r at n v e t p f q = rw (board-is b (length store) r e t, ← path-test b k at n p f) q
 
-  pub remove-refused : (v : Verdict) → v ≡ removeVerdict b store k → (v .number ≡ 0 → ⊥) → answerOf v b ≡ removeAnswer b store k
+  pub remove-refused : (v : Verdict) → v ≡ removeVerdict b store k → (v .number ≡ 0 → ⊥) → outcomeOf v b ≡ removeAnswer b store k
   unfolding removeAnswer
   remove-refused v e d = rw (← e, kept-old (v .number) b (removed b k) d)
 
-  removed-is : (at : ℕ) → at ≡ placeOf b k → at < places → boardOf (b .keys) (set (b .versions) at (b .version + 1)) (set (b .lengths) at 0) (b .version + 1) (b .floor) ≡ removed b k
+  removed-is : (at : ℕ) → at ≡ placeOf b k → at < places → tableOf (b .keys) (set (b .versions) at (b .version + 1)) (set (b .lengths) at 0) (b .version + 1) (b .floor) ≡ removed b k
   unfolding removed
   removed-is at e l =
       let q : getD (b .keys) at 0 ≡ k = rw (← e) at (key-place-is b k (omega arith) .key) in
@@ -65,7 +63,7 @@ module _ (b : Board) (store : List ℕ) (k : ℕ) where
       rw (← e, s)
 
   pub remove-accepted : (at : ℕ) (v : Verdict) → v ≡ removeVerdict b store k → v .number ≡ 0 → at ≡ placeOf b k → at < places
-      → answerOf v (boardOf (b .keys) (set (b .versions) at (b .version + 1)) (set (b .lengths) at 0) (b .version + 1) (b .floor)) ≡ removeAnswer b store k
+      → outcomeOf v (tableOf (b .keys) (set (b .versions) at (b .version + 1)) (set (b .lengths) at 0) (b .version + 1) (b .floor)) ≡ removeAnswer b store k
   unfolding removeAnswer
   remove-accepted at v e z p l = rw (← e, kept-new (v .number) b (removed b k) z, removed-is at p l)
 
@@ -77,12 +75,12 @@ remove-place k at n top v e z =
     let g = rule-passed (not (ltb at places && not (eqb n 0))) 21 0 _ (h .1) in
     ltb-true at places (and-true (ltb at places) (not (eqb n 0)) (not-false (ltb at places && not (eqb n 0)) (g .0)) .0)
 
-pub version-room : (b : Board) (n : ℕ) (r : Bool) → r ≡ isBoard b n → not r ≡ false → b .version ≤ versionMost
+pub version-room : (b : Table) (n : ℕ) (r : Bool) → r ≡ isBoard b n → not r ≡ false → b .version ≤ versionMost
 version-room b n r e t = proper-is b (board-proper b n (board-is b n r e t)) .version-in
 
 -- ---- compact
-module _ (b : Board) (store : List ℕ) (m : ℕ) where
-  pub compact-not-board : (r : Bool) (v : Verdict) → r ≡ isBoard b (length store) → not r ≡ true → v ≡ refusedBy notABoard 0 → answerOf v b ≡ compactAnswer b store m
+module _ (b : Table) (store : List ℕ) (m : ℕ) where
+  pub compact-not-board : (r : Bool) (v : Verdict) → r ≡ isBoard b (length store) → not r ≡ true → v ≡ refusedBy notABoard 0 → outcomeOf v b ≡ compactAnswer b store m
   unfolding compactAnswer compactVerdict compactRules
   compact-not-board r v e t q = rw (q, board-not b (length store) r e t)
 
@@ -90,10 +88,10 @@ module _ (b : Board) (store : List ℕ) (m : ℕ) where
   unfolding compactVerdict
   compact-verdict r v e t q = rw (board-is b (length store) r e t) q
 
-  pub compact-refused : (v : Verdict) → v ≡ compactVerdict b store m → (v .number ≡ 0 → ⊥) → answerOf v b ≡ compactAnswer b store m
+  pub compact-refused : (v : Verdict) → v ≡ compactVerdict b store m → (v .number ≡ 0 → ⊥) → outcomeOf v b ≡ compactAnswer b store m
   unfolding compactAnswer
   compact-refused v e d = rw (← e, kept-old (v .number) b (compacted b m) d)
 
-  pub compact-accepted : (v : Verdict) (d : Board) → v ≡ compactVerdict b store m → v .number ≡ 0 → d ≡ compacted b m → answerOf v d ≡ compactAnswer b store m
+  pub compact-accepted : (v : Verdict) (d : Table) → v ≡ compactVerdict b store m → v .number ≡ 0 → d ≡ compacted b m → outcomeOf v d ≡ compactAnswer b store m
   unfolding compactAnswer
   compact-accepted v d e z q = rw (← e, kept-new (v .number) b (compacted b m) z, q)

@@ -11,9 +11,8 @@ use Rattle.answers.specs.declared.verdict.Verdict.{Verdict}
 use Rattle.answers.specs.Numbers.{notABoard}
 use Rattle.answers.specs.Verdicts.{refusedBy, kept}
 use Rattle.octets.specs.Octets.{part}
-use Rattle.board_record.specs.declared.record.Board.{Board}
 use Rattle.board_record.specs.Sizes.{places, room, storeSize}
-use Rattle.board_record.specs.Table.{keyAt, versionAt, lengthAt}
+use Rattle.board_record.specs.Table.{Table, keyAt, versionAt, lengthAt}
 use Rattle.board_record.specs.Search.{placeOf, nextOf}
 use Rattle.board_record.specs.Proper.{properB}
 use Rattle.board_record.proofs.Logic.{and-true}
@@ -30,7 +29,7 @@ use Rattle.board_rules.proofs.Verdicts.{kept-old, kept-new, rule-passed}
 use Rattle.board_calls.proofs.Answers.{board-not, board-is, board-room, board-proper}
 
 -- ---- the number of a body
-module _ (b : Board) (store : List ℕ) (k : ℕ) where
+module _ (b : Table) (store : List ℕ) (k : ℕ) where
   pub number-not-board : (r : Bool) (v : Verdict) → r ≡ isBoard b (length store) → not r ≡ true → v ≡ refusedBy notABoard 0 → v ≡ bodyNumber b store k
   unfolding bodyNumber bodyRules
   number-not-board r v e t q = rw (board-not b (length store) r e t) q
@@ -82,7 +81,7 @@ module _ (b : Board) (store : List ℕ) (k : ℕ) where
       rw (d, ← e, kept-new (v .number) [] (octetsAt b store (placeOf b k)) z, octetsAt, ← p, g, q)
 
 -- ---- next
-module _ (b : Board) (store : List ℕ) (s w : ℕ) where
+module _ (b : Table) (store : List ℕ) (s w : ℕ) where
   pub next-not-board : (r : Bool) (v : Verdict) → r ≡ isBoard b (length store) → not r ≡ true → v ≡ refusedBy notABoard 0 → Refused v ≡ nextAnswer b store s w
   unfolding nextAnswer nextVerdict nextRules
   next-not-board r v e t q = rw (q, board-not b (length store) r e t)

@@ -15,12 +15,11 @@ use Rattle.octets.proofs.Laws.{rest-lent}
 use Rattle.session.specs.declared.Session.{Session}
 use Rattle.route.specs.Routes.{judgeOf}
 use Rattle.route.proofs.Answer.{accepted-body}
-use Rattle.board_record.specs.declared.record.Board.{Board}
 use Rattle.board_record.specs.Sizes.{places, room, storeSize, keyMost, versionMost, header}
-use Rattle.board_record.specs.Table.{boardOf}
+use Rattle.board_record.specs.Table.{Table, tableOf}
 use Rattle.board_record.specs.Search.{targetOf, floorAfter}
 use Rattle.board_record.specs.Proper.{properB}
-use Rattle.board_rules.specs.Rules.{isBoard, inRange, answerOf}
+use Rattle.board_rules.specs.Rules.{isBoard, inRange, outcomeOf}
 use Rattle.board_rules.specs.Report.{bodyIn, reportRules, reportVerdict, reported, reportWith, storeWith, reportAnswer, reportStore}
 use Rattle.board_rules.proofs.Verdicts.{kept-old, kept-new, rule-passed, route-passed, range-passed}
 use Rattle.board_calls.proofs.Answers.{board-not, board-is, board-room, version-room}
@@ -50,9 +49,9 @@ body-there ero session pst route e z =
     let q : length (drop 4 ero) ≡ length ero - 4 = length-drop 4 ero in
     omega arith
 
-module _ (b : Board) (store : List ℕ) (k : ℕ) (ero : List ℕ) (session : Session) (pst : ℕ) where
+module _ (b : Table) (store : List ℕ) (k : ℕ) (ero : List ℕ) (session : Session) (pst : ℕ) where
   -- ---- 17
-  pub report-not-board : (r : Bool) (v : Verdict) → r ≡ isBoard b (length store) → not r ≡ true → v ≡ refusedBy notABoard 0 → answerOf v b ≡ reportAnswer b store k ero session pst
+  pub report-not-board : (r : Bool) (v : Verdict) → r ≡ isBoard b (length store) → not r ≡ true → v ≡ refusedBy notABoard 0 → outcomeOf v b ≡ reportAnswer b store k ero session pst
   unfolding reportAnswer reportWith reportVerdict reportRules
   report-not-board r v e t q = rw (q, board-not b (length store) r e t)
 
@@ -67,7 +66,7 @@ module _ (b : Board) (store : List ℕ) (k : ℕ) (ero : List ℕ) (session : Se
   unfolding reportVerdict
   report-verdict r at n route v e t p f g q = rw (board-is b (length store) r e t, ← p, length-drop 4 ero, ← f, ← g) q
 
-  pub report-refused : (v : Verdict) → v ≡ reportVerdict b store k ero (judgeOf ero true session pst) → (v .number ≡ 0 → ⊥) → answerOf v b ≡ reportAnswer b store k ero session pst
+  pub report-refused : (v : Verdict) → v ≡ reportVerdict b store k ero (judgeOf ero true session pst) → (v .number ≡ 0 → ⊥) → outcomeOf v b ≡ reportAnswer b store k ero session pst
   unfolding reportAnswer reportWith
   report-refused v e d = rw (← e, kept-old (v .number) b (reported b k ero) d)
 
@@ -77,12 +76,12 @@ module _ (b : Board) (store : List ℕ) (k : ℕ) (ero : List ℕ) (session : Se
 
   -- ---- accepted
   reported-is : (at n f : ℕ) → at ≡ targetOf b k → n ≡ length ero - 4 → f ≡ floorAfter b k at
-      → boardOf (set (b .keys) at k) (set (b .versions) at (b .version + 1)) (set (b .lengths) at n) (b .version + 1) f ≡ reported b k ero
+      → tableOf (set (b .keys) at k) (set (b .versions) at (b .version + 1)) (set (b .lengths) at n) (b .version + 1) f ≡ reported b k ero
   unfolding reported
   reported-is at n f p q r = rw (← p, length-drop 4 ero, q, r)
 
   pub report-accepted : (at n f : ℕ) (v : Verdict) → v ≡ reportVerdict b store k ero (judgeOf ero true session pst) → v .number ≡ 0 → at ≡ targetOf b k → n ≡ length ero - 4 → f ≡ floorAfter b k at
-      → answerOf v (boardOf (set (b .keys) at k) (set (b .versions) at (b .version + 1)) (set (b .lengths) at n) (b .version + 1) f) ≡ reportAnswer b store k ero session pst
+      → outcomeOf v (tableOf (set (b .keys) at k) (set (b .versions) at (b .version + 1)) (set (b .lengths) at n) (b .version + 1) f) ≡ reportAnswer b store k ero session pst
   unfolding reportAnswer reportWith
   report-accepted at n f v e z p q r = rw (← e, kept-new (v .number) b (reported b k ero) z, reported-is at n f p q r)
 

@@ -5,8 +5,8 @@ ghost use mathlib.Core.Bool.{not, _&&_};
 ghost use lib.ListN.{length};
 ghost use lib.Dec.{eqb, leb};
 ghost use Rattle.board_record.specs.Sizes.{places};
-ghost use Rattle.board_record.specs.Table.{boardOf};
-ghost use Rattle.board_rules.specs.Rules.{answerOf};
+ghost use Rattle.board_record.specs.Table.{tableOf};
+ghost use Rattle.board_rules.specs.Rules.{outcomeOf};
 ghost use Rattle.board_rules.specs.Compact.{compactAnswer};
 ghost use Rattle.board_calls.specs.Sweep.{keysKept, versionsKept};
 use answers::NOT_A_BOARD;
@@ -57,7 +57,10 @@ pub fn compact(
     store: &[u8],
     c: u64,
 ) -> Verdict
-    ensures answer { λ r. ⌜ answerOf r (boardOf (now (keys .exit)) (now (versions .exit)) (now (lengths .entry)) version (now (floor .exit))) ≡ compactAnswer (boardOf (now (keys .entry)) (now (versions .entry)) (now (lengths .entry)) version (now (floor .entry))) (now (store .entry)) c ⌝ }
+    ensures answer { λ r.
+        let before = tableOf (now (keys .entry)) (now (versions .entry)) (now (lengths .entry)) version (now (floor .entry)) in
+        let after = tableOf (now (keys .exit)) (now (versions .exit)) (now (lengths .entry)) version (now (floor .exit)) in
+        ⌜ outcomeOf r after ≡ compactAnswer before (now (store .entry)) c ⌝ }
 {
     if !is_board(store.len(), keys, versions, lengths, version, *floor) {
         return refused(NOT_A_BOARD, 0);

@@ -2,7 +2,7 @@
 // refusal hands back an empty part, and its number is had by a call of its own. Next (mark s, w): 17; 24 if s or w is
 // above the version; 23 exactly if the floor is above the larger of s and w; otherwise a change, or level.
 ghost use mathlib.Core.Path.{_≡_};
-ghost use Rattle.board_record.specs.Table.{boardOf};
+ghost use Rattle.board_record.specs.Table.{tableOf};
 ghost use Rattle.board_rules.specs.Body.{bodyNumber, bodyOf};
 ghost use Rattle.board_rules.specs.Next.{nextAnswer};
 use answers::NOT_A_BOARD;
@@ -32,7 +32,7 @@ pub fn body_number<'a>(
     store: &[u8],
     key: u64,
 ) -> Verdict
-    ensures number { λ r. ⌜ r ≡ bodyNumber (boardOf (now (keys .entry)) (now (versions .entry)) (now (lengths .entry)) version floor) (now (store .entry)) key ⌝ }
+    ensures number { λ r. ⌜ r ≡ bodyNumber (tableOf (now (keys .entry)) (now (versions .entry)) (now (lengths .entry)) version floor) (now (store .entry)) key ⌝ }
 {
     if !is_board(store.len(), keys, versions, lengths, version, floor) {
         return refused(NOT_A_BOARD, 0);
@@ -51,7 +51,7 @@ pub fn body<'a, 'b>(
     store: &'b [u8],
     key: u64,
 ) -> &'b [u8]
-    ensures body { λ r. ⌜ now r ≡ bodyOf (boardOf (now (keys .entry)) (now (versions .entry)) (now (lengths .entry)) version floor) (now (store .entry)) key ⌝ }
+    ensures body { λ r. ⌜ now r ≡ bodyOf (tableOf (now (keys .entry)) (now (versions .entry)) (now (lengths .entry)) version floor) (now (store .entry)) key ⌝ }
 {
     let verdict = body_number(keys, versions, lengths, version, floor, store, key);
     if verdict.number != 0 {
@@ -74,7 +74,7 @@ pub fn next<'a>(
     s: u64,
     w: u64,
 ) -> Handed
-    ensures next { λ r. ⌜ r ≡ nextAnswer (boardOf (now (keys .entry)) (now (versions .entry)) (now (lengths .entry)) version floor) (now (store .entry)) s w ⌝ }
+    ensures next { λ r. ⌜ r ≡ nextAnswer (tableOf (now (keys .entry)) (now (versions .entry)) (now (lengths .entry)) version floor) (now (store .entry)) s w ⌝ }
 {
     if !is_board(store.len(), keys, versions, lengths, version, floor) {
         return Handed::Refused(refused(NOT_A_BOARD, 0));

@@ -1,8 +1,8 @@
 // Remove (key): 17, 18, 22, 20. The removal stays as a mark: the key keeps its place, with length 0 and the version that
 // the removal bears.
 ghost use mathlib.Core.Path.{_≡_};
-ghost use Rattle.board_record.specs.Table.{boardOf};
-ghost use Rattle.board_rules.specs.Rules.{answerOf};
+ghost use Rattle.board_record.specs.Table.{tableOf};
+ghost use Rattle.board_rules.specs.Rules.{outcomeOf};
 ghost use Rattle.board_rules.specs.Remove.{removeAnswer};
 use answers::NOT_A_BOARD;
 use answers::Verdict;
@@ -21,7 +21,10 @@ pub fn remove(
     store: &[u8],
     key: u64,
 ) -> Verdict
-    ensures answer { λ r. ⌜ answerOf r (boardOf (now (keys .entry)) (now (versions .exit)) (now (lengths .exit)) (now (version .exit)) floor) ≡ removeAnswer (boardOf (now (keys .entry)) (now (versions .entry)) (now (lengths .entry)) (now (version .entry)) floor) (now (store .entry)) key ⌝ }
+    ensures answer { λ r.
+        let before = tableOf (now (keys .entry)) (now (versions .entry)) (now (lengths .entry)) (now (version .entry)) floor in
+        let after = tableOf (now (keys .entry)) (now (versions .exit)) (now (lengths .exit)) (now (version .exit)) floor in
+        ⌜ outcomeOf r after ≡ removeAnswer before (now (store .entry)) key ⌝ }
 {
     if !is_board(store.len(), keys, versions, lengths, *version, floor) {
         return refused(NOT_A_BOARD, 0);

@@ -4,8 +4,8 @@
 ghost use mathlib.Core.Path.{_≡_};
 ghost use Prim.Native.Nat.{_-_};
 ghost use Rattle.board_record.specs.Sizes.{header};
-ghost use Rattle.board_record.specs.Table.{boardOf};
-ghost use Rattle.board_rules.specs.Rules.{answerOf};
+ghost use Rattle.board_record.specs.Table.{tableOf};
+ghost use Rattle.board_rules.specs.Rules.{outcomeOf};
 ghost use Rattle.board_rules.specs.Report.{reportAnswer, reportStore};
 use answers::NOT_A_BOARD;
 use answers::Verdict;
@@ -39,8 +39,13 @@ pub fn report(
     session: Session,
     pst: u64,
 ) -> Verdict
-    ensures answer { λ r. ⌜ answerOf r (boardOf (now (keys .exit)) (now (versions .exit)) (now (lengths .exit)) (now (version .exit)) (now (floor .exit))) ≡ reportAnswer (boardOf (now (keys .entry)) (now (versions .entry)) (now (lengths .entry)) (now (version .entry)) (now (floor .entry))) (now (store .entry)) key (now (ero .entry)) session pst ⌝ }
-    ensures octets { λ r. ⌜ now (store .exit) ≡ reportStore (boardOf (now (keys .entry)) (now (versions .entry)) (now (lengths .entry)) (now (version .entry)) (now (floor .entry))) (now (store .entry)) key (now (ero .entry)) session pst ⌝ }
+    ensures answer { λ r.
+        let before = tableOf (now (keys .entry)) (now (versions .entry)) (now (lengths .entry)) (now (version .entry)) (now (floor .entry)) in
+        let after = tableOf (now (keys .exit)) (now (versions .exit)) (now (lengths .exit)) (now (version .exit)) (now (floor .exit)) in
+        ⌜ outcomeOf r after ≡ reportAnswer before (now (store .entry)) key (now (ero .entry)) session pst ⌝ }
+    ensures octets { λ r.
+        let before = tableOf (now (keys .entry)) (now (versions .entry)) (now (lengths .entry)) (now (version .entry)) (now (floor .entry)) in
+        ⌜ now (store .exit) ≡ reportStore before (now (store .entry)) key (now (ero .entry)) session pst ⌝ }
 {
     if !is_board(store.len(), keys, versions, lengths, *version, *floor) {
         return refused(NOT_A_BOARD, 0);

@@ -11,7 +11,7 @@ const BODY_LEAST: u16 = board_record::BODY_LEAST as u16;
 const ROOM: u16 = board_record::ROOM as u16;
 
 pub fn place_ok(k: u32, v: u64, l: u16, top: u64, floor: u64) -> bool
-    ensures sound { λ r. ⌜ r ≡ placeOk k v l top floor ⌝ }
+    ensures sound { λ r. ⌜ r ≡ placeOk (record { key = k; version = v; length = l }) top floor ⌝ }
 {
     if l != 0 {
         if k == 0 {

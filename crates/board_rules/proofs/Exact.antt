@@ -14,10 +14,9 @@ use Rattle.session.specs.declared.Session.{Session}
 use Rattle.frame.specs.Checks.{Check, firstBroken}
 use Rattle.frame.specs.Frames.{placesOf, frameChecks}
 use Rattle.route.specs.Routes.{brokenAt, subobjectChecks, lastChecks, checksOf, countOf, judgeOf}
-use Rattle.board_record.specs.declared.record.Board.{Board}
 use Rattle.board_record.specs.Sizes.{places, room, versionMost}
+use Rattle.board_record.specs.Table.{Table}
 use Rattle.board_record.specs.Search.{targetOf}
-use Rattle.board_rules.specs.declared.answer.Answer.{Answer}
 use Rattle.board_rules.specs.declared.answer.Handed.{Handed}
 use Rattle.board_rules.specs.declared.answer.Handed.the-variants.{Refused, Path, Removed, Level}
 use Rattle.board_rules.specs.Rules.{isBoard, inRange, hasPath}
@@ -29,10 +28,10 @@ use Rattle.board_rules.specs.Next.{nextRules, nextVerdict, nextAnswer}
 use Rattle.board_rules.proofs.Verdicts.{Whole, board-whole, whole-board}
 
 -- no board: the store is short or the record not proper
-abbrev pub NoBoard : Board → ℕ → Type 0
+abbrev pub NoBoard : Table → ℕ → Type 0
 NoBoard b n = Whole b n → ⊥
 
-no-board : (b : Board) (n : ℕ) → NoBoard b n → isBoard b n ≡ false
+no-board : (b : Table) (n : ℕ) → NoBoard b n → isBoard b n ≡ false
 no-board b n f = go (isBoard b n) refl
   where
     go : (x : Bool) → isBoard b n ≡ x → isBoard b n ≡ false
@@ -75,7 +74,7 @@ unfolding judgeOf
 route-low s ero session pst = low-first (checksOf s ero session pst) (acceptedWith (countOf s)) (low-all s ero session pst) (omega arith)
 
 -- ---- report
-module _ (b : Board) (store : List ℕ) (k : ℕ) (ero : List ℕ) (session : Session) (pst : ℕ) where
+module _ (b : Table) (store : List ℕ) (k : ℕ) (ero : List ℕ) (session : Session) (pst : ℕ) where
   pub report-17-then : NoBoard b (length store) → reportAnswer b store k ero session pst .verdict ≡ refusedBy notABoard 0
   unfolding reportAnswer reportWith reportVerdict reportRules
   report-17-then f = rw (no-board b (length store) f)
@@ -107,7 +106,7 @@ module _ (b : Board) (store : List ℕ) (k : ℕ) (ero : List ℕ) (session : Se
               (other (eqb (b .version) versionMost) 20 _ (λ y. omega arith) (other (leb places (targetOf b k)) 21 route (λ y. omega arith) (λ y. omega arith))) z
 
 -- ---- remove
-module _ (b : Board) (store : List ℕ) (k : ℕ) where
+module _ (b : Table) (store : List ℕ) (k : ℕ) where
   pub remove-17-then : NoBoard b (length store) → removeAnswer b store k .verdict ≡ refusedBy notABoard 0
   unfolding removeAnswer removeVerdict removeRules
   remove-17-then f = rw (no-board b (length store) f)
@@ -131,7 +130,7 @@ module _ (b : Board) (store : List ℕ) (k : ℕ) where
       (rw (whole-board b (length store) w) at e)
 
 -- ---- compact
-module _ (b : Board) (store : List ℕ) (m : ℕ) where
+module _ (b : Table) (store : List ℕ) (m : ℕ) where
   pub compact-17-then : NoBoard b (length store) → compactAnswer b store m .verdict ≡ refusedBy notABoard 0
   unfolding compactAnswer compactVerdict compactRules
   compact-17-then f = rw (no-board b (length store) f)
@@ -141,7 +140,7 @@ module _ (b : Board) (store : List ℕ) (m : ℕ) where
   compact-17-only e w = other (ltb (b .version) m) 24 (acceptedWith 0) (λ y. omega arith) (λ y. omega arith) (rw (whole-board b (length store) w) at e)
 
 -- ---- next
-module _ (b : Board) (store : List ℕ) (s w : ℕ) where
+module _ (b : Table) (store : List ℕ) (s w : ℕ) where
   pub next-17-then : NoBoard b (length store) → nextAnswer b store s w ≡ Refused (refusedBy notABoard 0)
   unfolding nextAnswer nextVerdict nextRules
   next-17-then f = rw (no-board b (length store) f)

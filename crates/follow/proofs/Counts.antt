@@ -6,9 +6,8 @@ use mathlib.Core.Bool.{Bool, true, false, not, cond}
 use mathlib.Core.Logic.{_⊎_, inl, inr}
 use lib.Dec.{eqb}
 use borrow.Author.Tests.{eq-eqb, ne-eqb, eqb-false}
-use Rattle.board_record.specs.declared.record.Board.{Board}
 use Rattle.board_record.specs.Sizes.{places}
-use Rattle.board_record.specs.Table.{keyAt}
+use Rattle.board_record.specs.Table.{Table, keyAt}
 use Rattle.board_record.specs.Proper.{Proper}
 use Rattle.board_record.proofs.Logic.{same?}
 use Rattle.board_record.proofs.Proper.{proper-sound}
@@ -33,11 +32,11 @@ count-raise t u (suc n) k l p q f = go (count-raise t u n k) (same? n k)
         both false = refl
 
 -- key k stands at one of the first n places
-unfoldable pub has : Board → ℕ → ℕ → Bool
+unfoldable pub has : Table → ℕ → ℕ → Bool
 has b zero k = false
 has b (suc n) k = cond (eqb (keyAt b n) 0) (has b n k) (cond (eqb (keyAt b n) k) true (has b n k))
 
-has-not : (b : Board) (n k : ℕ) → ((j : ℕ) → j < n → keyAt b j ≡ k → ⊥) → has b n k ≡ false
+has-not : (b : Table) (n k : ℕ) → ((j : ℕ) → j < n → keyAt b j ≡ k → ⊥) → has b n k ≡ false
 unfolding has
 has-not b zero k f = refl
 has-not b (suc n) k f = rw (ne-eqb (keyAt b n) k (f n (omega arith)), has-not b n k (λ j l. f j (omega arith))) (both (eqb (keyAt b n) 0))
@@ -46,10 +45,10 @@ has-not b (suc n) k f = rw (ne-eqb (keyAt b n) k (f n (omega arith)), has-not b 
     both true = refl
     both false = refl
 
-unfoldable pub used : Board → ℕ → Bool
+unfoldable pub used : Table → ℕ → Bool
 used b i = not (eqb (keyAt b i) 0)
 
-keys-count-at : (m : ℕ) → keyEnd ≤ m → (b : Board) → Proper b → (n : ℕ) → n ≤ places → countBelow (has b n) m ≡ countBelow (used b) n
+keys-count-at : (m : ℕ) → keyEnd ≤ m → (b : Table) → Proper b → (n : ℕ) → n ≤ places → countBelow (has b n) m ≡ countBelow (used b) n
 unfolding countBelow has used
 keys-count-at m h b p zero l = none m
   where
@@ -65,5 +64,5 @@ keys-count-at m h b p (suc n) l = go (eqb (keyAt b n) 0) refl (keys-count-at m h
         (has-not b n (keyAt b n) (λ j u q. absurd (omega (arith, p .keys-distinct n j l (omega arith) z (sym q))))) (rw (eq-eqb (keyAt b n) (keyAt b n) refl))
         (λ j d. rw (ne-eqb (keyAt b n) j (λ y. d (sym y)))) ∙ ap suc r)
 
-pub keys-count : (b : Board) → Proper b → (n : ℕ) → n ≤ places → countBelow (has b n) keyEnd ≡ countBelow (used b) n
+pub keys-count : (b : Table) → Proper b → (n : ℕ) → n ≤ places → countBelow (has b n) keyEnd ≡ countBelow (used b) n
 keys-count b p n l = keys-count-at keyEnd (omega arith) b p n l

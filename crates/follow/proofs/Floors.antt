@@ -9,8 +9,7 @@ use mathlib.Core.Logic.{_⊎_, inl, inr, ⊎-elim}
 use lib.Dec.{eqb, ltb, leb}
 use borrow.Author.Tests.{eq-eqb, ne-eqb, eqb-true, eqb-false, lt-ltb, le-ltb, ltb-true, leb-true, leb-false, not-true}
 use borrow.Author.Count.{below-more}
-use Rattle.board_record.specs.declared.record.Board.{Board}
-use Rattle.board_record.specs.Table.{keyAt, versionAt, lengthAt}
+use Rattle.board_record.specs.Table.{Table, keyAt, versionAt, lengthAt}
 use Rattle.board_record.specs.Search.{ReportPlace, keeps, takes, drops, floorAfter}
 use Rattle.board_record.proofs.Logic.{true≢false, and-true, same?, test-is}
 use Rattle.board_record.proofs.Proper.{proper-sound}
@@ -24,7 +23,7 @@ use Rattle.follow.proofs.Table.{Stands, octets-none}
 use Rattle.follow.proofs.Counts.{has, used, keys-count, count-same}
 
 -- ---- a key stands exactly if a place has it
-has-yes : (b : Board) (n k j : ℕ) → j < n → keyAt b j ≡ k → (k ≡ 0 → ⊥) → has b n k ≡ true
+has-yes : (b : Table) (n k j : ℕ) → j < n → keyAt b j ≡ k → (k ≡ 0 → ⊥) → has b n k ≡ true
 unfolding has
 has-yes b zero k j l e u = absurd (omega arith)
 has-yes b (suc n) k j l e u = go (has-yes b n k j) (same? j n)
@@ -38,7 +37,7 @@ has-yes b (suc n) k j l e u = go (has-yes b n k j) (same? j n)
     go r (inl q) = let kn : keyAt b n ≡ k = ap (keyAt b) (sym q) ∙ e in rw (eq-eqb (keyAt b n) k kn, ne-eqb (keyAt b n) 0 (λ z. u (sym kn ∙ z)))
     go r (inr d) = rw (r (omega (arith, d)) e u) (keep (eqb (keyAt b n) 0) (eqb (keyAt b n) k))
 
-has-where : (b : Board) (n k : ℕ) → has b n k ≡ true → (j : ℕ) × (j < n) × (keyAt b j ≡ k) × (keyAt b j ≡ 0 → ⊥)
+has-where : (b : Table) (n k : ℕ) → has b n k ≡ true → (j : ℕ) × (j < n) × (keyAt b j ≡ k) × (keyAt b j ≡ 0 → ⊥)
 unfolding has
 has-where b zero k e = absurd (true≢false (sym e))
 has-where b (suc n) k e = go (has-where b n k) (eqb (keyAt b n) 0) refl (eqb (keyAt b n) k) refl e
@@ -51,7 +50,7 @@ has-where b (suc n) k e = go (has-where b n k) (eqb (keyAt b n) 0) refl (eqb (ke
     go r false p true q h = (n, omega arith, eqb-true _ _ q, eqb-false _ _ p)
     go r false p false q h = up (r h)
 
-module _ (b : Board) (store : List ℕ) (h : Story) (r : Stands b store h) where
+module _ (b : Table) (store : List ℕ) (h : Story) (r : Stands b store h) where
   place-stands : (i : ℕ) → i < 128 → (keyAt b i ≡ 0 → ⊥) → standing h (b .floor) (keyAt b i) ≡ true
   unfolding standing
   place-stands i l u = let g = r .here i l u in go (eqb (lengthAt b i) 0) refl (rw (g .1, g .0) refl)
@@ -70,7 +69,7 @@ module _ (b : Board) (store : List ℕ) (h : Story) (r : Stands b store h) where
       go (some c) p (inl q) = (pos (leb (last h k) 0) refl, λ z. absurd (true≢false (sym q ∙ ap isSome z)))
         where
           pos : (t : Bool) → leb (last h k) 0 ≡ t → 0 < last h k
-          pos true y = absurd (true≢false (sym q ∙ ap isSome (none-yet h k (leb-true (last h k) 0 y))))
+          pos true y = absurd (true≢false (sym q ∙ ap isSome (none-yet h (r .ordered) k (leb-true (last h k) 0 y))))
           pos false y = leb-false (last h k) 0 y
 
   stands-place : (k : ℕ) → standing h (b .floor) k ≡ true → (i : ℕ) × (i < 128) × (keyAt b i ≡ k)
@@ -142,7 +141,7 @@ least-value t v pos n k l e f = go (leastValue t v n) (min-is t v pos n)
     go x (no-one z g) = absurd (true≢false (sym e ∙ g k l))
     go x (someone j m p q g) = omega (arith, g k l e, f j m p)
 
-module _ (b : Board) (store : List ℕ) (h : Story) (r : Stands b store h) (k i : ℕ) (l : i < 128) (k-low : 1 ≤ k) where
+module _ (b : Table) (store : List ℕ) (h : Story) (r : Stands b store h) (k i : ℕ) (l : i < 128) (k-low : 1 ≤ k) where
   mark? : ℕ → Bool
   mark? j = standing h (b .floor) j && not (isSome (held h j))
 

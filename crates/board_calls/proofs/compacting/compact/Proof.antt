@@ -1,4 +1,4 @@
-use Rattle.board_record.specs.Table.{boardOf}
+use Rattle.board_record.specs.Table.{tableOf}
 use Rattle.board_calls.proofs.Answers.{compact-not-board, compact-verdict, compact-refused, compact-accepted}
 use Rattle.board_calls.proofs.Sweeps.{compacted-is}
 use borrow.Author.Needs.{needs}
@@ -15,7 +15,7 @@ returns : tie.Need-returns
 returns c =
     let args = c .before .before .before .before .before .before .before .args in
     compact-not-board
-    (boardOf (args .keys .now) (args .versions .now) (args .lengths .now) (args .version) (args .floor .now))
+    (tableOf (args .keys .now) (args .versions .now) (args .lengths .now) (args .version) (args .floor .now))
     (args .store .now) (args .c) _ _ (c .before .before .is-board .ensures) (c .before .if1 .taken)
     (c .refused .ensures)
 
@@ -26,10 +26,10 @@ returns-2 : tie.Need-returns-2
 returns-2 c =
     let args = c .before .before .before .before .before .before .before .before .before .args in
     compact-refused
-    (boardOf (args .keys .now) (args .versions .now) (args .lengths .now) (args .version) (args .floor .now))
+    (tableOf (args .keys .now) (args .versions .now) (args .lengths .now) (args .version) (args .floor .now))
     (args .store .now) (args .c) _
     (compact-verdict
-    (boardOf (args .keys .now) (args .versions .now) (args .lengths .now) (args .version) (args .floor .now))
+    (tableOf (args .keys .now) (args .versions .now) (args .lengths .now) (args .version) (args .floor .now))
     (args .store .now) (args .c) _ _ (c .before .before .before .before .is-board .ensures)
     (c .before .before .before .if1 .left) (c .before .before .compact-rules .ensures)) (c .if2 .taken)
 
@@ -44,10 +44,10 @@ returns-3 c =
     let before6 = c .before .before .before .before .before .before in
     let args = before6 .before .before .before .before .before .before .before .args in
     compact-accepted
-    (boardOf (args .keys .now) (args .versions .now) (args .lengths .now) (args .version) (args .floor .now))
+    (tableOf (args .keys .now) (args .versions .now) (args .lengths .now) (args .version) (args .floor .now))
     (args .store .now) (args .c) _ _
     (compact-verdict
-    (boardOf (args .keys .now) (args .versions .now) (args .lengths .now) (args .version) (args .floor .now))
+    (tableOf (args .keys .now) (args .versions .now) (args .lengths .now) (args .version) (args .floor .now))
     (args .store .now) (args .c) _ _ (before6 .before .before .is-board .ensures) (before6 .before .if1 .left)
     (before6 .compact-rules .ensures)) (c .before .before .before .before .if2 .left)
     (compacted-is (args .keys .now) (args .versions .now) (args .lengths .now) (args .version) (args .floor .now)

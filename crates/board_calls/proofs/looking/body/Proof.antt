@@ -1,5 +1,5 @@
 use native.Mathlib.Omega.{arith}
-use Rattle.board_record.specs.Table.{boardOf}
+use Rattle.board_record.specs.Table.{tableOf}
 use Rattle.board_calls.proofs.Looks.{body-none, body-here, body-room, body-is}
 use borrow.Author.Needs.{needs}
 use Rattle.board_calls.proofs.looking.body.Statement.{statement}
@@ -20,7 +20,7 @@ part-result-end c = search needs
 returns : tie.Need-returns
 returns c =
     let args = c .before .before .before .before .before .args in
-    body-none (boardOf (args .keys .now) (args .versions .now) (args .lengths .now) (args .version) (args .floor))
+    body-none (tableOf (args .keys .now) (args .versions .now) (args .lengths .now) (args .version) (args .floor))
     (args .store .now) (args .key) _ (c .before .before .before .body-number .ensures) (c .before .if1 .taken)
 
 place-of-requires : tie.Need-place-of-requires
@@ -30,7 +30,7 @@ start-of-requires : tie.Need-start-of-requires
 start-of-requires c κs =
     let args = c .before .before .before .before .before .args in
     let h = body-here
-    (boardOf (args .keys .now) (args .versions .now) (args .lengths .now) (args .version) (args .floor))
+    (tableOf (args .keys .now) (args .versions .now) (args .lengths .now) (args .version) (args .floor))
     (args .store .now) (args .key) _ (c .before .before .before .body-number .ensures) (c .before .if1 .left) in
     omega (arith, c .place-of .ensures)
 
@@ -41,7 +41,7 @@ add-to : tie.Need-add-to
 add-to c =
     let args = c .before .before .before .before .before .before .before .args in
     let h = body-room
-    (boardOf (args .keys .now) (args .versions .now) (args .lengths .now) (args .version) (args .floor))
+    (tableOf (args .keys .now) (args .versions .now) (args .lengths .now) (args .version) (args .floor))
     (args .store .now) (args .key) _ _ _ (c .before .before .before .before .before .body-number .ensures)
     (c .before .before .before .if1 .left) (c .before .before .place-of .ensures) (c .length-at .ensures) in
     omega (arith, c .before .start-of .ensures)
@@ -56,7 +56,7 @@ part-result-end-2 : tie.Need-part-result-end-2
 part-result-end-2 c =
     let args = c .before .before .before .before .before .before .before .args in
     let h = body-room
-    (boardOf (args .keys .now) (args .versions .now) (args .lengths .now) (args .version) (args .floor))
+    (tableOf (args .keys .now) (args .versions .now) (args .lengths .now) (args .version) (args .floor))
     (args .store .now) (args .key) _ _ _ (c .before .before .before .before .before .body-number .ensures)
     (c .before .before .before .if1 .left) (c .before .before .place-of .ensures) (c .length-at .ensures) in
     omega (arith, c .before .start-of .ensures)
@@ -64,7 +64,7 @@ part-result-end-2 c =
 returns-2 : tie.Need-returns-2
 returns-2 c =
     let args = c .before .before .before .before .before .before .before .before .args in
-    body-is (boardOf (args .keys .now) (args .versions .now) (args .lengths .now) (args .version) (args .floor))
+    body-is (tableOf (args .keys .now) (args .versions .now) (args .lengths .now) (args .version) (args .floor))
     (args .store .now) (args .key) _ _ _ _ (c .before .before .before .before .before .before .body-number .ensures)
     (c .before .before .before .before .if1 .left) (c .before .before .before .place-of .ensures)
     (c .before .length-at .ensures) (c .before .before .start-of .ensures)

@@ -1,4 +1,4 @@
-use Rattle.board_record.specs.Table.{boardOf}
+use Rattle.board_record.specs.Table.{tableOf}
 use Rattle.board_calls.proofs.Looks.{number-not-board, number-is}
 use borrow.Author.Needs.{needs}
 use Rattle.board_calls.proofs.looking.body_number.Statement.{statement}
@@ -14,7 +14,7 @@ returns : tie.Need-returns
 returns c =
     let args = c .before .before .before .before .args in
     number-not-board
-    (boardOf (args .keys .now) (args .versions .now) (args .lengths .now) (args .version) (args .floor))
+    (tableOf (args .keys .now) (args .versions .now) (args .lengths .now) (args .version) (args .floor))
     (args .store .now) (args .key) _ _ (c .before .before .is-board .ensures) (c .before .if1 .taken)
     (c .refused .ensures)
 
@@ -30,7 +30,7 @@ body-rules-requires c κs = search needs
 returns-2 : tie.Need-returns-2
 returns-2 c =
     let args = c .before .before .before .before .before .before .args in
-    number-is (boardOf (args .keys .now) (args .versions .now) (args .lengths .now) (args .version) (args .floor))
+    number-is (tableOf (args .keys .now) (args .versions .now) (args .lengths .now) (args .version) (args .floor))
     (args .store .now) (args .key) _ _ _ _ (c .before .before .before .before .is-board .ensures)
     (c .before .before .before .if1 .left) (c .before .before .place-of .ensures) (c .before .length-at .ensures)
     (c .body-rules .ensures)

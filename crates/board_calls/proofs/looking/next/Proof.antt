@@ -1,5 +1,5 @@
 use native.Mathlib.Omega.{arith}
-use Rattle.board_record.specs.Table.{boardOf}
+use Rattle.board_record.specs.Table.{tableOf}
 use Rattle.board_calls.proofs.Answers.{board-is, board-proper}
 use Rattle.board_calls.proofs.Looks.{next-not-board, next-verdict, next-refused, next-level, next-removed, next-path}
 use borrow.Author.Needs.{needs}
@@ -15,7 +15,7 @@ refused-requires c κs = search needs
 returns : tie.Need-returns
 returns c =
     let args = c .before .before .before .before .args in
-    next-not-board (boardOf (args .keys .now) (args .versions .now) (args .lengths .now) (args .version) (args .floor))
+    next-not-board (tableOf (args .keys .now) (args .versions .now) (args .lengths .now) (args .version) (args .floor))
     (args .store .now) (args .s) (args .w) _ _ (c .before .before .is-board .ensures) (c .before .if1 .taken)
     (c .refused .ensures)
 
@@ -25,26 +25,26 @@ next-rules-requires c κs = search needs
 returns-2 : tie.Need-returns-2
 returns-2 c =
     let args = c .before .before .before .before .before .before .args in
-    next-refused (boardOf (args .keys .now) (args .versions .now) (args .lengths .now) (args .version) (args .floor))
+    next-refused (tableOf (args .keys .now) (args .versions .now) (args .lengths .now) (args .version) (args .floor))
     (args .store .now) (args .s) (args .w) _
-    (next-verdict (boardOf (args .keys .now) (args .versions .now) (args .lengths .now) (args .version) (args .floor))
+    (next-verdict (tableOf (args .keys .now) (args .versions .now) (args .lengths .now) (args .version) (args .floor))
     (args .store .now) (args .s) (args .w) _ _ (c .before .before .before .before .is-board .ensures)
     (c .before .before .before .if1 .left) (c .before .before .next-rules .ensures)) (c .if2 .taken)
 
 next-place-requires : tie.Need-next-place-requires
 next-place-requires c κs =
     let args = c .before .before .before .before .before .before .args in
-    board-proper (boardOf (args .keys .now) (args .versions .now) (args .lengths .now) (args .version) (args .floor)) _
-    (board-is (boardOf (args .keys .now) (args .versions .now) (args .lengths .now) (args .version) (args .floor)) _ _
+    board-proper (tableOf (args .keys .now) (args .versions .now) (args .lengths .now) (args .version) (args .floor)) _
+    (board-is (tableOf (args .keys .now) (args .versions .now) (args .lengths .now) (args .version) (args .floor)) _ _
     (c .before .before .before .before .is-board .ensures) (c .before .before .before .if1 .left))
 
 returns-3 : tie.Need-returns-3
 returns-3 c =
     let before4 = c .before .before .before .before in
     let args = before4 .before .before .before .before .args in
-    next-level (boardOf (args .keys .now) (args .versions .now) (args .lengths .now) (args .version) (args .floor))
+    next-level (tableOf (args .keys .now) (args .versions .now) (args .lengths .now) (args .version) (args .floor))
     (args .store .now) (args .s) (args .w) _ _
-    (next-verdict (boardOf (args .keys .now) (args .versions .now) (args .lengths .now) (args .version) (args .floor))
+    (next-verdict (tableOf (args .keys .now) (args .versions .now) (args .lengths .now) (args .version) (args .floor))
     (args .store .now) (args .s) (args .w) _ _ (before4 .before .before .is-board .ensures) (before4 .before .if1 .left)
     (before4 .next-rules .ensures)) (c .before .before .if2 .left) (c .before .next-place .ensures) (c .if3 .taken)
 
@@ -77,9 +77,9 @@ returns-4 c =
     let before6 = c .before .before .before .before .before .before in
     let before10 = before6 .before .before .before .before in
     let args = before10 .before .before .before .before .args in
-    next-removed (boardOf (args .keys .now) (args .versions .now) (args .lengths .now) (args .version) (args .floor))
+    next-removed (tableOf (args .keys .now) (args .versions .now) (args .lengths .now) (args .version) (args .floor))
     (args .store .now) (args .s) (args .w) _ _ _ _
-    (next-verdict (boardOf (args .keys .now) (args .versions .now) (args .lengths .now) (args .version) (args .floor))
+    (next-verdict (tableOf (args .keys .now) (args .versions .now) (args .lengths .now) (args .version) (args .floor))
     (args .store .now) (args .s) (args .w) _ _ (before10 .before .before .is-board .ensures)
     (before10 .before .if1 .left) (before10 .next-rules .ensures)) (before6 .before .before .if2 .left)
     (before6 .before .next-place .ensures) (before6 .if3 .left) (c .before .before .before .before .wide32 .ensures)
@@ -90,9 +90,9 @@ returns-5 c =
     let before6 = c .before .before .before .before .before .before in
     let before10 = before6 .before .before .before .before in
     let args = before10 .before .before .before .before .args in
-    next-path (boardOf (args .keys .now) (args .versions .now) (args .lengths .now) (args .version) (args .floor))
+    next-path (tableOf (args .keys .now) (args .versions .now) (args .lengths .now) (args .version) (args .floor))
     (args .store .now) (args .s) (args .w) _ _ _ _
-    (next-verdict (boardOf (args .keys .now) (args .versions .now) (args .lengths .now) (args .version) (args .floor))
+    (next-verdict (tableOf (args .keys .now) (args .versions .now) (args .lengths .now) (args .version) (args .floor))
     (args .store .now) (args .s) (args .w) _ _ (before10 .before .before .is-board .ensures)
     (before10 .before .if1 .left) (before10 .next-rules .ensures)) (before6 .before .before .if2 .left)
     (before6 .before .next-place .ensures) (before6 .if3 .left) (c .before .before .before .before .wide32 .ensures)

@@ -1,5 +1,5 @@
 use native.Mathlib.Omega.{arith}
-use Rattle.board_record.specs.Table.{boardOf}
+use Rattle.board_record.specs.Table.{tableOf}
 use Rattle.board_calls.proofs.Answers.{remove-not-board, remove-verdict, remove-refused, remove-accepted, remove-place, version-room}
 use borrow.Author.Needs.{needs}
 use Rattle.board_calls.proofs.removing.remove.Statement.{statement}
@@ -15,7 +15,7 @@ returns : tie.Need-returns
 returns c =
     let args = c .before .before .before .before .before .before .before .args in
     remove-not-board
-    (boardOf (args .keys .now) (args .versions .now) (args .lengths .now) (args .version .now) (args .floor))
+    (tableOf (args .keys .now) (args .versions .now) (args .lengths .now) (args .version .now) (args .floor))
     (args .store .now) (args .key) _ _ (c .before .before .is-board .ensures) (c .before .if1 .taken)
     (c .refused .ensures)
 
@@ -33,10 +33,10 @@ returns-2 c =
     let before5 = c .before .before .before .before .before in
     let args = before5 .before .before .before .before .before .before .before .args in
     remove-refused
-    (boardOf (args .keys .now) (args .versions .now) (args .lengths .now) (args .version .now) (args .floor))
+    (tableOf (args .keys .now) (args .versions .now) (args .lengths .now) (args .version .now) (args .floor))
     (args .store .now) (args .key) _
     (remove-verdict
-    (boardOf (args .keys .now) (args .versions .now) (args .lengths .now) (args .version .now) (args .floor))
+    (tableOf (args .keys .now) (args .versions .now) (args .lengths .now) (args .version .now) (args .floor))
     (args .store .now) (args .key) _ _ _ _ (before5 .before .before .is-board .ensures) (before5 .before .if1 .left)
     (before5 .place-of .ensures) (c .before .before .before .length-at .ensures)
     (c .before .before .remove-rules .ensures)) (c .if2 .taken)
@@ -46,7 +46,7 @@ add-next c =
     let before6 = c .before .before .before .before .before .before in
     let args = before6 .before .before .before .before .before .before .args in
     let h = version-room
-    (boardOf (args .keys .now) (args .versions .now) (args .lengths .now) (args .version .now) (args .floor)) _ _
+    (tableOf (args .keys .now) (args .versions .now) (args .lengths .now) (args .version .now) (args .floor)) _ _
     (before6 .before .is-board .ensures) (before6 .if1 .left) in
     omega arith
 
@@ -87,10 +87,10 @@ returns-3 c =
     let before5 = c .before .before .before .before .before in
     let args = before5 .before .before .before .before .before .before .before .args in
     remove-accepted
-    (boardOf (args .keys .now) (args .versions .now) (args .lengths .now) (args .version .now) (args .floor))
+    (tableOf (args .keys .now) (args .versions .now) (args .lengths .now) (args .version .now) (args .floor))
     (args .store .now) (args .key) _ _
     (remove-verdict
-    (boardOf (args .keys .now) (args .versions .now) (args .lengths .now) (args .version .now) (args .floor))
+    (tableOf (args .keys .now) (args .versions .now) (args .lengths .now) (args .version .now) (args .floor))
     (args .store .now) (args .key) _ _ _ _ (before5 .before .before .is-board .ensures) (before5 .before .if1 .left)
     (before5 .place-of .ensures) (c .before .before .before .length-at .ensures)
     (c .before .before .remove-rules .ensures)) (c .if2 .left) (before5 .place-of .ensures)

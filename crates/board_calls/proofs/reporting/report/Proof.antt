@@ -1,5 +1,5 @@
 use native.Mathlib.Omega.{arith}
-use Rattle.board_record.specs.Table.{boardOf}
+use Rattle.board_record.specs.Table.{tableOf}
 use Rattle.board_calls.proofs.Answers.{board-is, board-proper, version-room}
 use Rattle.board_calls.proofs.Reports.{
   Passed,
@@ -29,11 +29,11 @@ returns : tie.Need-returns
 returns c =
     let args = c .before .before .before .before .before .before .before .before .before .before .args in (
       report-not-board
-          (boardOf (args .keys .now) (args .versions .now) (args .lengths .now) (args .version .now) (args .floor .now))
+          (tableOf (args .keys .now) (args .versions .now) (args .lengths .now) (args .version .now) (args .floor .now))
           (args .store .now) (args .key) (args .ero .now) (args .session) (args .pst) _ _
           (c .before .before .is-board .ensures) (c .before .if1 .taken) (c .refused .ensures),
       store-not-board
-          (boardOf (args .keys .now) (args .versions .now) (args .lengths .now) (args .version .now) (args .floor .now))
+          (tableOf (args .keys .now) (args .versions .now) (args .lengths .now) (args .version .now) (args .floor .now))
           (args .store .now) (args .key) (args .ero .now) (args .session) (args .pst) _
           (c .before .before .is-board .ensures) (c .before .if1 .taken),
     )
@@ -42,9 +42,9 @@ target-requires : tie.Need-target-requires
 target-requires c κs =
     let args = c .before .before .before .before .before .before .before .before .before .before .before .before .args in
     board-proper
-    (boardOf (args .keys .now) (args .versions .now) (args .lengths .now) (args .version .now) (args .floor .now)) _
+    (tableOf (args .keys .now) (args .versions .now) (args .lengths .now) (args .version .now) (args .floor .now)) _
     (board-is
-    (boardOf (args .keys .now) (args .versions .now) (args .lengths .now) (args .version .now) (args .floor .now)) _ _
+    (tableOf (args .keys .now) (args .versions .now) (args .lengths .now) (args .version .now) (args .floor .now)) _ _
     (c .before .before .before .before .is-board .ensures) (c .before .before .before .if1 .left))
 
 body-size-requires : tie.Need-body-size-requires
@@ -62,19 +62,19 @@ returns-2 c =
     let before9 = before3 .before .before .before .before .before .before in
     let args = before9 .before .before .before .before .before .before .before .before .before .args in (
       report-refused
-          (boardOf (args .keys .now) (args .versions .now) (args .lengths .now) (args .version .now) (args .floor .now))
+          (tableOf (args .keys .now) (args .versions .now) (args .lengths .now) (args .version .now) (args .floor .now))
           (args .store .now) (args .key) (args .ero .now) (args .session) (args .pst) _
           (report-verdict
-          (boardOf (args .keys .now) (args .versions .now) (args .lengths .now) (args .version .now) (args .floor .now))
+          (tableOf (args .keys .now) (args .versions .now) (args .lengths .now) (args .version .now) (args .floor .now))
           (args .store .now) (args .key) (args .ero .now) (args .session) (args .pst) _ _ _ _ _
           (before9 .before .is-board .ensures) (before9 .if1 .left) (before3 .before .before .target .ensures)
           (before3 .before .body-size .ensures) (before3 .judge .ensures) (c .before .before .report-rules .ensures))
           (c .if2 .taken),
       store-refused
-          (boardOf (args .keys .now) (args .versions .now) (args .lengths .now) (args .version .now) (args .floor .now))
+          (tableOf (args .keys .now) (args .versions .now) (args .lengths .now) (args .version .now) (args .floor .now))
           (args .store .now) (args .key) (args .ero .now) (args .session) (args .pst) _
           (report-verdict
-          (boardOf (args .keys .now) (args .versions .now) (args .lengths .now) (args .version .now) (args .floor .now))
+          (tableOf (args .keys .now) (args .versions .now) (args .lengths .now) (args .version .now) (args .floor .now))
           (args .store .now) (args .key) (args .ero .now) (args .session) (args .pst) _ _ _ _ _
           (before9 .before .is-board .ensures) (before9 .if1 .left) (before3 .before .before .target .ensures)
           (before3 .before .body-size .ensures) (before3 .judge .ensures) (c .before .before .report-rules .ensures))
@@ -95,7 +95,7 @@ add-next c =
     let before12 = c .before .before .before .before .before .before .before .before .before .before .before .before in
     let args = before12 .before .before .before .before .before .before .before .before .before .args in
     let h = version-room
-    (boardOf (args .keys .now) (args .versions .now) (args .lengths .now) (args .version .now) (args .floor .now)) _ _
+    (tableOf (args .keys .now) (args .versions .now) (args .lengths .now) (args .version .now) (args .floor .now)) _ _
     (before12 .before .is-board .ensures) (before12 .if1 .left) in
     omega arith
 
@@ -144,7 +144,7 @@ lay-requires c κs =
     ((passed (args .key) (before8 .before .judge .result) (before10 .body-size .result) (args .version .now)
     (before10 .before .target .result) _ (before8 .report-rules .ensures) (before6 .if2 .left)) .size)
     (report-room
-    (boardOf (args .keys .now) (args .versions .now) (args .lengths .now) (args .version .now) (args .floor .now))
+    (tableOf (args .keys .now) (args .versions .now) (args .lengths .now) (args .version .now) (args .floor .now))
     (args .store .now) (args .key) (args .ero .now) (args .session) (args .pst) _ _
     (before15 .before .is-board .ensures) (before15 .if1 .left)
     ((passed (args .key) (before8 .before .judge .result) (before10 .body-size .result) (args .version .now)
@@ -242,10 +242,10 @@ returns-3 c =
     let before18 = before11 .before .before .before .before .before .before .before in
     let args = before18 .before .before .before .before .before .before .before .before .before .args in (
       report-accepted
-          (boardOf (args .keys .now) (args .versions .now) (args .lengths .now) (args .version .now) (args .floor .now))
+          (tableOf (args .keys .now) (args .versions .now) (args .lengths .now) (args .version .now) (args .floor .now))
           (args .store .now) (args .key) (args .ero .now) (args .session) (args .pst) _ _ _ _
           (report-verdict
-          (boardOf (args .keys .now) (args .versions .now) (args .lengths .now) (args .version .now) (args .floor .now))
+          (tableOf (args .keys .now) (args .versions .now) (args .lengths .now) (args .version .now) (args .floor .now))
           (args .store .now) (args .key) (args .ero .now) (args .session) (args .pst) _ _ _ _ _
           (before18 .before .is-board .ensures) (before18 .if1 .left) target-ensures
           (before11 .before .before .body-size .ensures) (before11 .before .judge .ensures)
@@ -254,10 +254,10 @@ returns-3 c =
           (c .before .before .before .before .before .before .floor-after .ensures (args .lengths .now)
           (args .version .now)),
       store-accepted
-          (boardOf (args .keys .now) (args .versions .now) (args .lengths .now) (args .version .now) (args .floor .now))
+          (tableOf (args .keys .now) (args .versions .now) (args .lengths .now) (args .version .now) (args .floor .now))
           (args .store .now) (args .key) (args .ero .now) (args .session) (args .pst) _ _ _ _
           (report-verdict
-          (boardOf (args .keys .now) (args .versions .now) (args .lengths .now) (args .version .now) (args .floor .now))
+          (tableOf (args .keys .now) (args .versions .now) (args .lengths .now) (args .version .now) (args .floor .now))
           (args .store .now) (args .key) (args .ero .now) (args .session) (args .pst) _ _ _ _ _
           (before18 .before .is-board .ensures) (before18 .if1 .left) target-ensures
           (before11 .before .before .body-size .ensures) (before11 .before .judge .ensures)
