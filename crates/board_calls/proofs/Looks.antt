@@ -1,4 +1,5 @@
--- What body and next hand out is what the definitions say. Assumes nothing.
+-- What body and next hand out is what the definitions say: one law for each way out of the code, whose premises are the code's own tests. Assumes
+-- nothing.
 use Prim.Native.Nat.{ℕ, zero, suc, _+_, _-_, _*_, _<_, _≤_}
 use native.Mathlib.Omega.{arith}
 use mathlib.Core.Path.{_≡_, refl, sym, ap, _∙_}
@@ -61,7 +62,8 @@ module _ (b : Table) (store : List ℕ) (k : ℕ) where
   unfolding lengthIn
   length-here at n l f = f ∙ rw (lt-ltb at 128 l)
 
-  pub body-room : (v : Verdict) (at n : ℕ) → v ≡ bodyNumber b store k → v .number ≡ 0 → at ≡ placeOf b k → n ≡ lengthIn (b .lengths) at → (at < places) × (room * at + n ≤ length store) × (room * at + n ≤ storeSize)
+  pub body-room : (v : Verdict) (at n : ℕ) → v ≡ bodyNumber b store k → v .number ≡ 0 → at ≡ placeOf b k → n ≡ lengthIn (b .lengths) at
+      → (at < places) × (room * at + n ≤ length store) × (room * at + n ≤ storeSize)
   body-room v at n e z p f =
       let l = body-here v e z in
       let w = whole v e z in

@@ -1,4 +1,5 @@
--- What a report answers and writes is what the definitions say, rule by rule. Assumes nothing.
+-- What a report answers and writes is what the definitions say, rule by rule: one law for each way out of the code, and what the passed rules say
+-- (`Passed`) for the needs between. Assumes nothing.
 use Prim.Native.Nat.{ℕ, zero, suc, _+_, _-_, _*_, _<_, _≤_, _%_}
 use native.Mathlib.Omega.{arith}
 use mathlib.Core.Path.{_≡_, refl, sym, ap, _∙_}
@@ -96,5 +97,6 @@ module _ (b : Table) (store : List ℕ) (k : ℕ) (ero : List ℕ) (session : Se
   pub report-room : (r : Bool) (at : ℕ) → r ≡ isBoard b (length store) → not r ≡ false → at < places → room * at + room ≤ length store
   report-room r at e t l = omega (arith, board-room b (length store) (board-is b (length store) r e t))
 
-pub lay-fits : (store ero : List ℕ) (at n from : ℕ) → n ≡ length ero - 4 → n ≤ room → room * at + room ≤ length store → from ≡ room * at → from + length (take (length ero - 4) (drop 4 ero)) ≤ length store
+pub lay-fits : (store ero : List ℕ) (at n from : ℕ) → n ≡ length ero - 4 → n ≤ room → room * at + room ≤ length store → from ≡ room * at
+    → from + length (take (length ero - 4) (drop 4 ero)) ≤ length store
 lay-fits store ero at n from e l h g = rw (rest-lent ero 4, length-drop 4 ero) (omega arith)

@@ -1,4 +1,5 @@
--- The sweep of a compaction, place by place. Assumes nothing.
+-- The sweep of a compaction, place by place: so far the first i places are swept and the others as they were (`Sweeping`), a turn takes one place more,
+-- and at the end both lists are those of the compacted table. Assumes nothing.
 use Prim.Native.Nat.{ℕ, zero, suc, _+_, _<_, _≤_, max}
 use native.Mathlib.Numerals.{add-one}
 use native.Mathlib.Omega.{arith}

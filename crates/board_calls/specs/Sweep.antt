@@ -1,3 +1,5 @@
+-- No promise rests on this file: it serves the contract of the sweep, an inner function.
+--
 -- The keys and the versions that a compaction at c leaves in the first n places: 0 where a mark is dropped.
 use Prim.Native.Nat.{ℕ}
 use mathlib.Core.Bool.{cond}

@@ -1,4 +1,5 @@
--- The laws of the chains, and of the pass over the places. Assumes nothing.
+-- The laws of the chains, and of the pass over the places. A walk of a number's chain meets every place below that has its hash, so it meets the number
+-- if that came before (`Walking`); one place more keeps the chains (`Chained`); and the pass ends with the test of properness. Assumes nothing.
 use Prim.Native.Nat.{ℕ, zero, suc, _+_, _-_, _<_, _≤_}
 use native.Mathlib.Numerals.{add-one}
 use native.Mathlib.Nat.{add-sub-cancel}
@@ -142,7 +143,8 @@ pub chained-skip : (xs hs ns : List ℕ) (i : ℕ) → Chained xs hs ns i → ge
 chained-skip xs hs ns i c e =
     record { heads = skip-heads xs hs i (c .heads) e; links = skip-links xs ns i (c .links) e; fine = all-more (newB xs) i (c .fine) (new-zero xs i e) }
 
-pub chained-more : (xs hs ns : List ℕ) (i k h : ℕ) (r : Bool) → Chained xs hs ns i → i < 128 → (getD xs i 0 ≡ 0 → ⊥) → k ≡ getD xs i 0 → h ≡ slotOf k → h < 512 → r ≡ freshB xs i (getD xs i 0) → not r ≡ false
+pub chained-more : (xs hs ns : List ℕ) (i k h : ℕ) (r : Bool) → Chained xs hs ns i → i < 128 → (getD xs i 0 ≡ 0 → ⊥) → k ≡ getD xs i 0
+    → h ≡ slotOf k → h < 512 → r ≡ freshB xs i (getD xs i 0) → not r ≡ false
     → Chained xs (set hs h (i + 1)) (set ns i (getD hs h 0)) (i + 1)
 chained-more xs hs ns i k h r c l u g o b f n =
     let e : h ≡ slotOf (getD xs i 0) = rw g at o in

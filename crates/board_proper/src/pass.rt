@@ -6,9 +6,9 @@ ghost use Rattle.board_record.specs.Proper.{properB};
 use super::chain::fresh32;
 use super::chain::fresh64;
 use super::chain::slot;
-use super::place::place_ok;
 use board_record::PLACES;
 use board_record::VERSION_MOST;
+use board_record::place_ok;
 use board_record::wide32;
 use octets::wide;
 

@@ -1,4 +1,6 @@
--- The places that the calls look for: the function of each names the place that the paper's words describe, which is one only. Assumes nothing.
+-- The places that the calls look for: the function of each names the place that the paper's words describe, which is one only. First what a search for
+-- the first, and for the least, ends at (`IsFirst`, `IsLeast`); then, for each place, that the function's has what its record asks, that where the
+-- function says 128 there is none, and that the record has one place. Assumes nothing.
 use Prim.Native.Nat.{ℕ, zero, suc, _+_, _<_, _≤_}
 use native.Mathlib.Numerals.{add-one}
 use native.Mathlib.Decide.{le-ind}
@@ -11,7 +13,8 @@ use borrow.Author.Tests.{eq-eqb, ne-eqb, eqb-true, eqb-false, lt-ltb, le-ltb, lt
 use borrow.Author.Count.{below-more}
 use Rattle.board_record.specs.Sizes.{places}
 use Rattle.board_record.specs.Table.{Table, keyAt, versionAt, lengthAt, Empty, Used, RemovalAt, PathAt, New, removalB}
-use Rattle.board_record.specs.Search.{firstWhere, leastWhere, KeyPlace, placeIn, placeOf, LowestEmpty, emptyOf, OldestRemoval, oldestOf, ReportPlace, keeps, takes, drops, targetOf, floorAfter, Wanted, path, removal, NextChange, wantedB, nextOf}
+use Rattle.board_record.specs.Search.{firstWhere, leastWhere, KeyPlace, placeIn, placeOf, LowestEmpty, emptyOf, OldestRemoval, oldestOf}
+use Rattle.board_record.specs.Search.{ReportPlace, keeps, takes, drops, targetOf, floorAfter, Wanted, path, removal, NextChange, wantedB, nextOf}
 use Rattle.board_record.specs.Proper.{Proper}
 use Rattle.board_record.proofs.Logic.{true≢false, and-true, same?, from?}
 

@@ -1,5 +1,5 @@
--- 17 is answered exactly if the store is shorter than 49,152 octets or the record isn't proper, by every call, before any other number. Assumes
--- nothing.
+-- 17 is answered exactly if the store is shorter than 49,152 octets or the record isn't proper, by every call, before any other number: it is the
+-- first rule of each, and no later rule, nor any route check, answers it. Assumes nothing.
 use Prim.Native.Nat.{ℕ, _+_, _<_, _≤_, max}
 use native.Mathlib.Omega.{arith}
 use mathlib.Core.Path.{_≡_, refl, sym, ap, _∙_}
@@ -66,7 +66,9 @@ low-subobjects broken (p ∷ ps) = (omega arith, (omega arith, (omega arith, (om
 
 low-all : (s : List ℕ) (ero : Bool) (session : Session) (pst : ℕ) → Low (checksOf s ero session pst)
 low-all s ero session pst =
-    let rest = low-append (subobjectChecks (brokenAt ero (session .n) s) (placesOf s)) (lastChecks ero (session .limit) (countOf s) (placesOf s)) (low-subobjects (brokenAt ero (session .n) s) (placesOf s)) (omega arith, tt) in
+    let broken = brokenAt ero (session .n) s in
+    let ps = placesOf s in
+    let rest = low-append (subobjectChecks broken ps) (lastChecks ero (session .limit) (countOf s) ps) (low-subobjects broken ps) (omega arith, tt) in
     (omega arith, (omega arith, (omega arith, (omega arith, (omega arith, rest)))))
 
 pub route-low : (s : List ℕ) (ero : Bool) (session : Session) (pst : ℕ) → judgeOf s ero session pst .number < 15

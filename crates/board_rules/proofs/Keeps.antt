@@ -1,5 +1,6 @@
--- Every call hands a proper record back if it got one; version and floor never fall, and the version rises by exactly 1 with each accepted report or
--- removal and with nothing else. Assumes nothing.
+-- Every call leaves a proper table if it got one; version and floor never fall, and the version rises by exactly 1 with each accepted report or
+-- removal and with nothing else. A report and a removal are a change at one place, which fits (`Fitting`) by the rules that were passed; a compaction
+-- leaves each place as it was or empty (`Left`). Assumes nothing.
 use Prim.Native.Nat.{ℕ, zero, suc, _+_, _*_, _<_, _≤_, _%_, max}
 use native.Mathlib.Omega.{arith}
 use mathlib.Core.Path.{_≡_, refl, sym, ap, _∙_, subst}

@@ -4,3 +4,4 @@ pub mod Words
 pub mod Keeps
 pub mod Exact
 pub mod Stores
+pub mod Inside

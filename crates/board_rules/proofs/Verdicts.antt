@@ -1,4 +1,6 @@
--- When a call answers which number: the passed rules of an acceptance, and the numbers that 01 gives exactly. Assumes nothing.
+-- When a call answers which number: the passed rules of an acceptance, and the numbers that 01 gives exactly. A call's rules are a chain of tests, so an
+-- acceptance says that each was passed (`rule-passed`), and a number that all rules before it let pass is answered exactly if its own test says so.
+-- Assumes nothing.
 use Prim.Native.Nat.{ℕ, zero, suc, _+_, _*_, _<_, _≤_, _%_, max}
 use native.Mathlib.Omega.{arith}
 use mathlib.Core.Path.{_≡_, refl, sym, ap, _∙_}
@@ -104,7 +106,8 @@ pub record Reached (b : Table) (store : List ℕ) (k : ℕ) (ero : List ℕ) (ro
   pub size : length (bodyIn ero) ≤ room
   pub versions-left : b .version ≡ versionMost → ⊥
 
-reached-rest : (b : Table) (store : List ℕ) (k : ℕ) (ero : List ℕ) (route : Verdict) → Reached b store k ero route → reportVerdict b store k ero route ≡ cond (leb places (targetOf b k)) (refusedBy allPaths 0) route
+reached-rest : (b : Table) (store : List ℕ) (k : ℕ) (ero : List ℕ) (route : Verdict) → Reached b store k ero route
+    → reportVerdict b store k ero route ≡ cond (leb places (targetOf b k)) (refusedBy allPaths 0) route
 unfolding reportVerdict reportRules
 reached-rest b store k ero route r =
     rw (r .board, r .key, eq-eqb (route .number) 0 (r .route-taken), le-ltb room (length (bodyIn ero)) (r .size), ne-eqb (b .version) versionMost (r .versions-left))

@@ -1,4 +1,5 @@
--- A search that keeps the best place so far ends at the place of the smallest version. Assumes nothing.
+-- A search that keeps the best place so far ends at the place of the smallest version. On a board an empty place has version 0 and every version is
+-- below the first best, so the tests that read no key are those of the table. Assumes nothing.
 use Prim.Native.Nat.{ℕ, zero, suc, _+_, _<_, _≤_}
 use native.Mathlib.Numerals.{add-one}
 use native.Mathlib.Omega.{arith}
@@ -39,7 +40,8 @@ tracks-step t v n b r l low = go (ltb (leastWhere t v n) 128) refl (t n) refl (l
     new : Best
     new = record { at = n; version = v n }
 
-    go : (p : Bool) → ltb (leastWhere t v n) 128 ≡ p → (q : Bool) → t n ≡ q → (y : Bool) → leb (b .version) (v n) ≡ y → Tracks t v (suc n) (cond (leb (b .version) (v n)) b (cond (t n) (record { at = n; version = v n }) b))
+    go : (p : Bool) → ltb (leastWhere t v n) 128 ≡ p → (q : Bool) → t n ≡ q → (y : Bool) → leb (b .version) (v n) ≡ y
+        → Tracks t v (suc n) (cond (leb (b .version) (v n)) b (cond (t n) (record { at = n; version = v n }) b))
     go true e q f true g =
         let h : b .version ≡ v (leastWhere t v n) = rw e at (r .version) in
         keep t v n b _ r (rw (leastWhere, e, ← h, g, and-false (t n))) (rw g)

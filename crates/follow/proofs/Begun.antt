@@ -63,7 +63,10 @@ module _ (b : Table) (store : List ℕ) (p : Proper b) (k : ℕ) where
           ⊎-elim (λ e. held-at l ∙ octets-mark b store (placeOf b k) (s .none e .1)) (λ u. absurd (omega (arith, last-at l, s .low u))) (same? (keyAt b (placeOf b k)) 0)
 
   pub begun-there : 0 < last (begun (beginning b store)) k → KeyPlace b k (placeOf b k) × Used b (placeOf b k) × (last (begun (beginning b store)) k ≡ versionAt b (placeOf b k))
-  begun-there v = ⊎-elim (λ l. absurd (omega (arith, last-none l))) (λ l. (key-place-is b k l, (λ e. omega (arith, last-at l, proper-sound b p (placeOf b k) l .none e .0)), last-at l)) (from? places (placeOf b k))
+  begun-there v =
+      ⊎-elim (λ l. absurd (omega (arith, last-none l)))
+      (λ l. (key-place-is b k l, (λ e. omega (arith, last-at l, proper-sound b p (placeOf b k) l .none e .0)), last-at l))
+      (from? places (placeOf b k))
 
 module _ (b : Table) (store : List ℕ) (p : Proper b) where
   pub begun-one : (j k : ℕ) → last (begun (beginning b store)) j ≡ last (begun (beginning b store)) k → 0 < last (begun (beginning b store)) j → j ≡ k

@@ -23,7 +23,9 @@ unfolding countBelow
 count-raise t u zero k l p q f = absurd (omega arith)
 count-raise t u (suc n) k l p q f = go (count-raise t u n k) (same? n k)
   where
-    go : (k < n → t k ≡ false → u k ≡ true → ((j : ℕ) → (j ≡ k → ⊥) → u j ≡ t j) → countBelow u n ≡ suc (countBelow t n)) → (n ≡ k) ⊎ (n ≡ k → ⊥) → cond (u n) (suc (countBelow u n)) (countBelow u n) ≡ suc (cond (t n) (suc (countBelow t n)) (countBelow t n))
+    go : (k < n → t k ≡ false → u k ≡ true → ((j : ℕ) → (j ≡ k → ⊥) → u j ≡ t j) → countBelow u n ≡ suc (countBelow t n))
+        → (n ≡ k) ⊎ (n ≡ k → ⊥)
+        → cond (u n) (suc (countBelow u n)) (countBelow u n) ≡ suc (cond (t n) (suc (countBelow t n)) (countBelow t n))
     go r (inl e) = rw (e, p, q) (ap suc (count-same t u k (λ j m. f j (λ z. omega arith))))
     go r (inr d) = rw (f n d, r (omega (arith, d)) p q f) (both (t n))
       where
@@ -57,7 +59,9 @@ keys-count-at m h b p zero l = none m
     none (suc q) = none q
 keys-count-at m h b p (suc n) l = go (eqb (keyAt b n) 0) refl (keys-count-at m h b p n (omega arith))
   where
-    go : (x : Bool) → eqb (keyAt b n) 0 ≡ x → countBelow (has b n) m ≡ countBelow (used b) n → countBelow (λ k. cond (eqb (keyAt b n) 0) (has b n k) (cond (eqb (keyAt b n) k) true (has b n k))) m ≡ cond (not (eqb (keyAt b n) 0)) (suc (countBelow (used b) n)) (countBelow (used b) n)
+    go : (x : Bool) → eqb (keyAt b n) 0 ≡ x → countBelow (has b n) m ≡ countBelow (used b) n
+        → countBelow (λ k. cond (eqb (keyAt b n) 0) (has b n k) (cond (eqb (keyAt b n) k) true (has b n k))) m
+        ≡ cond (not (eqb (keyAt b n) 0)) (suc (countBelow (used b) n)) (countBelow (used b) n)
     go true e r = rw e r
     go false e r = let z = eqb-false (keyAt b n) 0 e in
         rw e (count-raise (has b n) (λ k. cond (eqb (keyAt b n) k) true (has b n k)) m (keyAt b n) (omega (arith, proper-sound b p n l .key))

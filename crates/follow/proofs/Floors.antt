@@ -1,4 +1,5 @@
--- The board's floor is the story's. Assumes nothing.
+-- The board's floor is the story's: a key stands by the story exactly if a place has it, so as many keys stand as places are used, and the oldest removal
+-- that stands is the oldest on the table. Assumes nothing.
 use Prim.Native.Nat.{ℕ, zero, suc, _≤_, _<_}
 use native.Mathlib.Omega.{arith}
 use mathlib.Core.Path.{_≡_, refl, sym, ap, _∙_}
@@ -45,7 +46,10 @@ has-where b (suc n) k e = go (has-where b n k) (eqb (keyAt b n) 0) refl (eqb (ke
     up : (j : ℕ) × (j < n) × (keyAt b j ≡ k) × (keyAt b j ≡ 0 → ⊥) → (j : ℕ) × (j < suc n) × (keyAt b j ≡ k) × (keyAt b j ≡ 0 → ⊥)
     up y = (y .0, omega (arith, y .1), y .2, y .3)
 
-    go : (has b n k ≡ true → (j : ℕ) × (j < n) × (keyAt b j ≡ k) × (keyAt b j ≡ 0 → ⊥)) → (x : Bool) → eqb (keyAt b n) 0 ≡ x → (y : Bool) → eqb (keyAt b n) k ≡ y → cond x (has b n k) (cond y true (has b n k)) ≡ true → (j : ℕ) × (j < suc n) × (keyAt b j ≡ k) × (keyAt b j ≡ 0 → ⊥)
+    go : (has b n k ≡ true → (j : ℕ) × (j < n) × (keyAt b j ≡ k) × (keyAt b j ≡ 0 → ⊥))
+        → (x : Bool) → eqb (keyAt b n) 0 ≡ x → (y : Bool) → eqb (keyAt b n) k ≡ y
+        → cond x (has b n k) (cond y true (has b n k)) ≡ true
+        → (j : ℕ) × (j < suc n) × (keyAt b j ≡ k) × (keyAt b j ≡ 0 → ⊥)
     go r true p y q h = up (r h)
     go r false p true q h = (n, omega arith, eqb-true _ _ q, eqb-false _ _ p)
     go r false p false q h = up (r h)
@@ -118,16 +122,24 @@ data Min (t : ℕ → Bool) (v : ℕ → ℕ) (n x : ℕ) : Type 0 where
   no-one : x ≡ 0 → ((j : ℕ) → j < n → t j ≡ false) → Min t v n x
   someone : (k : ℕ) → k < n → t k ≡ true → x ≡ v k → ((j : ℕ) → j < n → t j ≡ true → v k ≤ v j) → Min t v n x
 
-min-step : (t : ℕ → Bool) (v : ℕ → ℕ) (n x : ℕ) → ((j : ℕ) → 0 < v j ⊎ (t j ≡ false)) → Min t v n x → (y : Bool) → t n ≡ y → Min t v (suc n) (cond y (cond (eqb x 0) (v n) (cond (leb x (v n)) x (v n))) x)
+min-step : (t : ℕ → Bool) (v : ℕ → ℕ) (n x : ℕ) → ((j : ℕ) → 0 < v j ⊎ (t j ≡ false)) → Min t v n x
+    → (y : Bool) → t n ≡ y
+    → Min t v (suc n) (cond y (cond (eqb x 0) (v n) (cond (leb x (v n)) x (v n))) x)
 min-step t v n x pos (no-one z f) false e = no-one z (λ j l. below-more (λ k. t k ≡ false) n f e j (omega arith))
-min-step t v n x pos (no-one z f) true e = rw (eq-eqb x 0 z) (someone n (omega arith) e refl (λ j l q. below-more (λ k. t k ≡ true → v n ≤ v k) n (λ k u p. absurd (true≢false (sym p ∙ f k u))) (λ p. omega arith) j (omega arith) q))
+min-step t v n x pos (no-one z f) true e =
+    rw (eq-eqb x 0 z)
+    (someone n (omega arith) e refl
+    (λ j l q. below-more (λ k. t k ≡ true → v n ≤ v k) n (λ k u p. absurd (true≢false (sym p ∙ f k u))) (λ p. omega arith) j (omega arith) q))
 min-step t v n x pos (someone k l p q f) false e = someone k (omega arith) p q (λ j m y. below-more (λ i. t i ≡ true → v k ≤ v i) n f (λ z. absurd (true≢false (sym z ∙ e))) j (omega arith) y)
 min-step t v n x pos (someone k l p q f) true e =
     ⊎-elim (λ u. rw (ne-eqb x 0 (λ z. omega arith)) (go (leb x (v n)) refl)) (λ u. absurd (true≢false (sym p ∙ u))) (pos k)
   where
     go : (y : Bool) → leb x (v n) ≡ y → Min t v (suc n) (cond y x (v n))
     go true y = let le = leb-true x (v n) y in someone k (omega arith) p q (λ j m z. below-more (λ i. t i ≡ true → v k ≤ v i) n f (λ w. omega arith) j (omega arith) z)
-    go false y = let lt = leb-false x (v n) y in someone n (omega arith) e refl (λ j m z. below-more (λ i. t i ≡ true → v n ≤ v i) n (λ i u w. omega (arith, f i u w)) (λ w. omega arith) j (omega arith) z)
+    go false y =
+        let lt = leb-false x (v n) y in
+        someone n (omega arith) e refl
+        (λ j m z. below-more (λ i. t i ≡ true → v n ≤ v i) n (λ i u w. omega (arith, f i u w)) (λ w. omega arith) j (omega arith) z)
 
 min-is : (t : ℕ → Bool) (v : ℕ → ℕ) → ((j : ℕ) → 0 < v j ⊎ (t j ≡ false)) → (n : ℕ) → Min t v n (leastValue t v n)
 unfolding leastValue

@@ -1,4 +1,5 @@
--- An accepted report or removal keeps the table in step with the story. Assumes nothing.
+-- An accepted report or removal keeps the table in step with the story: each is a change at one place that fits (`Fits`), in the three ways in which a
+-- report finds its place, and a removal at its key's. Assumes nothing.
 use Prim.Native.Nat.{ℕ, _+_, _*_, _≤_, _<_}
 use native.Mathlib.Omega.{arith}
 use mathlib.Core.Path.{_≡_, refl, sym, _∙_}
@@ -49,7 +50,8 @@ module _ (b : Table) (st : List ℕ) (h : Story) (k : ℕ) (src : List ℕ) (r :
           part-placed-other st (room * i) src (room * j) (lengthAt b j) fits-in (omega (arith, r .enough)) (⊎-elim (λ q. inr (omega arith)) (λ q. inl (omega arith)) (apart i j d)),
         )
 
-  report-fits : (i : ℕ) → i < places → Proper (changed b i (bearing b k (length src)) (floorAfter b k i)) → ReportPlace b k i → Fits b st (placed st (room * i) src) (sets k src) i (length src) (floorAfter b k i)
+  report-fits : (i : ℕ) → i < places → Proper (changed b i (bearing b k (length src)) (floorAfter b k i)) → ReportPlace b k i
+      → Fits b st (placed st (room * i) src) (sets k src) i (length src) (floorAfter b k i)
   report-fits i l p (keeps y) =
       let f = floor-keeps b k i (y .key) in
       record {
@@ -90,8 +92,14 @@ module _ (b : Table) (st : List ℕ) (h : Story) (k : ℕ) (src : List ℕ) (r :
         others = others-stay i l (floorAfter b k i);
       }
 
-  pub stands-report : targetOf b k < places → Proper (changed b (targetOf b k) (bearing b k (length src)) (floorAfter b k (targetOf b k))) → Stands (changed b (targetOf b k) (bearing b k (length src)) (floorAfter b k (targetOf b k))) (placed st (room * targetOf b k) src) (did (sets k src) h)
-  stands-report l p = stands-changed b st (placed st (room * targetOf b k) src) h (sets k src) (targetOf b k) (length src) (floorAfter b k (targetOf b k)) r (report-fits (targetOf b k) l p (report-place-is b k l))
+  -- the table after it
+  abbrev after : Table
+  after = changed b (targetOf b k) (bearing b k (length src)) (floorAfter b k (targetOf b k))
+
+  pub stands-report : targetOf b k < places → Proper after → Stands after (placed st (room * targetOf b k) src) (did (sets k src) h)
+  stands-report l p =
+      stands-changed b st (placed st (room * targetOf b k) src) h (sets k src) (targetOf b k) (length src) (floorAfter b k (targetOf b k)) r
+      (report-fits (targetOf b k) l p (report-place-is b k l))
 
 -- ---- a removal
 

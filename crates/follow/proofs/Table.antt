@@ -77,7 +77,8 @@ module _ (b : Table) (store : List ℕ) (h : Story) (s w : ℕ) (r : Stands b st
   none-lacked f n k x = let p = lacks-there f k x in searches.next-none b s w n (p .0) (p .1) (p .3)
 
   -- a place is found: it holds the oldest change that is lacked
-  pub oldest-lacked : b .floor ≤ max s w → nextOf b s w < places → Oldest h s w (keyAt b (nextOf b s w)) (versionAt b (nextOf b s w)) × (held h (keyAt b (nextOf b s w)) ≡ octets b store (nextOf b s w))
+  pub oldest-lacked : b .floor ≤ max s w → nextOf b s w < places
+      → Oldest h s w (keyAt b (nextOf b s w)) (versionAt b (nextOf b s w)) × (held h (keyAt b (nextOf b s w)) ≡ octets b store (nextOf b s w))
   oldest-lacked f n =
       let c = searches.next-is b s w n in
       let i = nextOf b s w in

@@ -1,3 +1,4 @@
+-- The invariant: the first i places are swept, the others as they were. A turn empties a place (`sweep-take`) or passes it (`sweep-skip`).
 use borrow.Author.Needs.{needs}
 use native.Mathlib.Omega.{arith}
 use Prim.Native.Nat.{_≤_, _-_}

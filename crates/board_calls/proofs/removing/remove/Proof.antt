@@ -1,3 +1,4 @@
+-- Each refusal is one law (`remove-not-board`, `remove-refused`), the acceptance another; the stores need that the key has a place (`remove-place`).
 use native.Mathlib.Omega.{arith}
 use Rattle.board_record.specs.Table.{tableOf}
 use Rattle.board_calls.proofs.Answers.{remove-not-board, remove-verdict, remove-refused, remove-accepted, remove-place, version-room}

@@ -1,3 +1,5 @@
+-- The board decides, then stores. Each refusal is one law (`report-not-board`, `report-refused`), the acceptance another; between them every need of a
+-- store is met by what the passed rules say (`passed`).
 use native.Mathlib.Omega.{arith}
 use Rattle.board_record.specs.Table.{tableOf}
 use Rattle.board_calls.proofs.Answers.{board-is, board-proper, version-room}

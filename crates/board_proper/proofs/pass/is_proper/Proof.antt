@@ -1,3 +1,5 @@
+-- The invariant: the first i places are sound, and the chains of keys and of versions hold all their numbers. A pass that stops has met a place that is
+-- not sound, or a key or a version that came before; one that ends has met none.
 use Prim.Native.Nat.{ℕ, _≤_, _-_, _<_}
 use native.Mathlib.Omega.{arith}
 use borrow.Author.Needs.{needs}

@@ -1,7 +1,7 @@
 use Rattle.board_record.specs.Proper.{placeOk}
 use Rattle.octets.proofs.Tests.{tests}
-use Rattle.board_proper.proofs.place.place_ok.Statement.{statement}
-use Rattle.board_proper.proofs.place.place_ok.Tie as tie
+use Rattle.board_record.proofs.place.place_ok.Statement.{statement}
+use Rattle.board_record.proofs.place.place_ok.Tie as tie
 
 returns : tie.Need-returns
 unfolding placeOk
