@@ -1,6 +1,6 @@
 // The board's calls with the record by value (document 01, "The board"): report, remove and compact hand it back, changed
 // or after a refusal as it was; body hands back a part of the lent store; next hands out a change. Each lends the record's
-// arrays to the call of board_calls.
+// arrays to the call of board_report, board_remove or board_look.
 mod answer;
 
 ghost use mathlib.Core.Path.{_≡_};
@@ -29,7 +29,7 @@ pub fn report(
     let mut lengths = b.lengths;
     let mut version = b.version;
     let mut floor = b.floor;
-    let verdict = board_calls::report(
+    let verdict = board_report::report(
         &mut keys,
         &mut versions,
         &mut lengths,
@@ -62,7 +62,7 @@ pub fn remove(b: Board, store: &[u8], key: u64) -> Answer
     let mut versions = b.versions;
     let mut lengths = b.lengths;
     let mut version = b.version;
-    let verdict = board_calls::remove(
+    let verdict = board_remove::remove(
         &keys,
         &mut versions,
         &mut lengths,
@@ -92,7 +92,7 @@ pub fn compact(b: Board, store: &[u8], c: u64) -> Answer
     let mut versions = b.versions;
     let lengths = b.lengths;
     let mut floor = b.floor;
-    let verdict = board_calls::compact(
+    let verdict = board_remove::compact(
         &mut keys,
         &mut versions,
         &lengths,
@@ -118,7 +118,7 @@ pub fn compact(b: Board, store: &[u8], c: u64) -> Answer
 pub fn body_number(b: Board, store: &[u8], key: u64) -> Verdict
     ensures number { λ r. ⌜ r ≡ bodyNumberOn b (now (store .entry)) key ⌝ }
 {
-    board_calls::body_number(
+    board_look::body_number(
         &b.keys,
         &b.versions,
         &b.lengths,
@@ -133,7 +133,7 @@ pub fn body_number(b: Board, store: &[u8], key: u64) -> Verdict
 pub fn body<'a>(b: Board, store: &'a [u8], key: u64) -> &'a [u8]
     ensures body { λ r. ⌜ now r ≡ bodyOn b (now (store .entry)) key ⌝ }
 {
-    board_calls::body(
+    board_look::body(
         &b.keys,
         &b.versions,
         &b.lengths,
@@ -148,7 +148,7 @@ pub fn body<'a>(b: Board, store: &'a [u8], key: u64) -> &'a [u8]
 pub fn next(b: Board, store: &[u8], s: u64, w: u64) -> Handed
     ensures next { λ r. ⌜ r ≡ nextOn b (now (store .entry)) s w ⌝ }
 {
-    board_calls::next(
+    board_look::next(
         &b.keys,
         &b.versions,
         &b.lengths,

@@ -5,3 +5,4 @@ pub mod Keeps
 pub mod Exact
 pub mod Stores
 pub mod Inside
+pub mod Told

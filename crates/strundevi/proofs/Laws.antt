@@ -19,7 +19,7 @@ use Rattle.board_record.specs.Table.{Table, lengthAt}
 use Rattle.board_record.specs.Search.{placeOf}
 use Rattle.board_rules.specs.Rules.{lengthIn}
 use Rattle.board_rules.specs.Body.{bodyNumber, bodyOf}
-use Rattle.board_calls.proofs.Looks.{body-none, body-here, body-is}
+use Rattle.board_look.proofs.Looks.{body-none, body-here, body-is}
 use Rattle.strundevi.specs.declared.boards.PartRecord.{PartRecord}
 use Rattle.strundevi.specs.Boards.{partOut}
 

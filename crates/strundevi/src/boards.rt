@@ -66,7 +66,7 @@ pub extern "C" fn strundevi_raw_report(
     ensures board { λ _. ⌜ tableOf (now (keys .exit)) (now (versions .exit)) (now (lengths .exit)) (now (version .exit)) (now (floor .exit)) ≡ reportAnswer (tableOf (now (keys .entry)) (now (versions .entry)) (now (lengths .entry)) (now (version .entry)) (now (floor .entry))) (now (store .entry)) key (now (ero .entry)) (sessionIn session) pst .table ⌝ }
     ensures octets { λ _. ⌜ now (store .exit) ≡ reportStore (tableOf (now (keys .entry)) (now (versions .entry)) (now (lengths .entry)) (now (version .entry)) (now (floor .entry))) (now (store .entry)) key (now (ero .entry)) (sessionIn session) pst ⌝ }
 {
-    border_records::verdict_out(board_calls::report(
+    border_records::verdict_out(board_report::report(
         keys,
         versions,
         lengths,
@@ -94,7 +94,7 @@ pub extern "C" fn strundevi_raw_remove(
     ensures verdict { λ r. ⌜ r ≡ verdictOut (removeAnswer (tableOf (now (keys .entry)) (now (versions .entry)) (now (lengths .entry)) (now (version .entry)) floor) (now (store .entry)) key .verdict) ⌝ }
     ensures board { λ _. ⌜ tableOf (now (keys .entry)) (now (versions .exit)) (now (lengths .exit)) (now (version .exit)) floor ≡ removeAnswer (tableOf (now (keys .entry)) (now (versions .entry)) (now (lengths .entry)) (now (version .entry)) floor) (now (store .entry)) key .table ⌝ }
 {
-    border_records::verdict_out(board_calls::remove(
+    border_records::verdict_out(board_remove::remove(
         keys,
         versions,
         lengths,
@@ -119,7 +119,7 @@ pub extern "C" fn strundevi_raw_compact(
     ensures verdict { λ r. ⌜ r ≡ verdictOut (compactAnswer (tableOf (now (keys .entry)) (now (versions .entry)) (now (lengths .entry)) version (now (floor .entry))) (now (store .entry)) c .verdict) ⌝ }
     ensures board { λ _. ⌜ tableOf (now (keys .exit)) (now (versions .exit)) (now (lengths .entry)) version (now (floor .exit)) ≡ compactAnswer (tableOf (now (keys .entry)) (now (versions .entry)) (now (lengths .entry)) version (now (floor .entry))) (now (store .entry)) c .table ⌝ }
 {
-    border_records::verdict_out(board_calls::compact(
+    border_records::verdict_out(board_remove::compact(
         keys,
         versions,
         lengths,
@@ -144,7 +144,7 @@ pub extern "C" fn strundevi_raw_body<'a>(
     ensures part { λ r. ⌜ r ≡ partOut (tableOf (now (keys .entry)) (now (versions .entry)) (now (lengths .entry)) version floor) (now (store .entry)) key ⌝ }
     ensures octets { λ r. ⌜ part (now (store .entry)) (r .start) (r .length) ≡ bodyOf (tableOf (now (keys .entry)) (now (versions .entry)) (now (lengths .entry)) version floor) (now (store .entry)) key ⌝ }
 {
-    let verdict = board_calls::body_number(keys, versions, lengths, version, floor, store, key);
+    let verdict = board_look::body_number(keys, versions, lengths, version, floor, store, key);
     if verdict.number != 0 {
         return PartRecord {
             number: verdict.number,
@@ -174,7 +174,7 @@ pub extern "C" fn strundevi_raw_next<'a>(
 ) -> ChangeRecord
     ensures next { λ r. ⌜ r ≡ changeOut (nextAnswer (tableOf (now (keys .entry)) (now (versions .entry)) (now (lengths .entry)) version floor) (now (store .entry)) s w) ⌝ }
 {
-    change_out(board_calls::next(keys, versions, lengths, version, floor, store, s, w))
+    change_out(board_look::next(keys, versions, lengths, version, floor, store, s, w))
 }
 
 // The mark of a follower that begins, and holds nothing, on a board of this version.

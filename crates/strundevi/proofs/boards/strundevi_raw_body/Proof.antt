@@ -1,6 +1,6 @@
 use native.Mathlib.Omega.{arith}
 use Rattle.board_record.specs.Table.{tableOf}
-use Rattle.board_calls.proofs.Looks.{body-here}
+use Rattle.board_look.proofs.Looks.{body-here}
 use Rattle.strundevi.proofs.Laws.{part-none, part-here}
 use borrow.Author.Needs.{needs}
 use Rattle.strundevi.proofs.boards.strundevi_raw_body.Statement.{statement}
