@@ -5,37 +5,33 @@ use mathlib.Core.List.{List}
 use Rattle.answers.specs.declared.verdict.Verdict.{Verdict}
 use Rattle.session.specs.declared.Session.{Session}
 use Rattle.board_record.specs.declared.record.Board.{Board}
-use Rattle.board_rules.specs.declared.answer.Answer.{Answer}
 use Rattle.board_rules.specs.declared.answer.Handed.{Handed}
 use Rattle.board_rules.specs.declared.answer.Mark.{Mark}
-use Rattle.board_rules.specs.Report.{reportAnswer, reportStore}
-use Rattle.board_rules.specs.Remove.{removeAnswer}
-use Rattle.board_rules.specs.Compact.{compactAnswer}
-use Rattle.board_rules.specs.Body.{bodyNumber, bodyOf}
-use Rattle.board_rules.specs.Next.{nextAnswer, freshMark}
+use Rattle.board_by_value.specs.declared.answer.Answer.{Answer}
+use Rattle.board_by_value.specs.ByValue.{reportOn, reportStoreOn, removeOn, compactOn, bodyNumberOn, bodyOn, nextOn, freshMarkOn}
 
 pub report-determined : (b : Board) (store : List ℕ) (k : ℕ) (ero : List ℕ) (session : Session) (pst : ℕ) (v w : Answer) (x y : List ℕ)
-    → v ≡ reportAnswer b store k ero session pst
-    → w ≡ reportAnswer b store k ero session pst
-    → x ≡ reportStore b store k ero session pst
-    → y ≡ reportStore b store k ero session pst
+    → v ≡ reportOn b store k ero session pst
+    → w ≡ reportOn b store k ero session pst
+    → x ≡ reportStoreOn b store k ero session pst
+    → y ≡ reportStoreOn b store k ero session pst
     → (v ≡ w) × (x ≡ y)
 report-determined b store k ero session pst v w x y p q r t = (p ∙ sym q, r ∙ sym t)
 
-pub remove-determined : (b : Board) (store : List ℕ) (k : ℕ) (v w : Answer) → v ≡ removeAnswer b store k → w ≡ removeAnswer b store k → v ≡ w
+pub remove-determined : (b : Board) (store : List ℕ) (k : ℕ) (v w : Answer) → v ≡ removeOn b store k → w ≡ removeOn b store k → v ≡ w
 remove-determined b store k v w p q = p ∙ sym q
 
-pub compact-determined : (b : Board) (store : List ℕ) (m : ℕ) (v w : Answer) → v ≡ compactAnswer b store m → w ≡ compactAnswer b store m → v ≡ w
+pub compact-determined : (b : Board) (store : List ℕ) (m : ℕ) (v w : Answer) → v ≡ compactOn b store m → w ≡ compactOn b store m → v ≡ w
 compact-determined b store m v w p q = p ∙ sym q
 
-pub number-determined : (b : Board) (store : List ℕ) (k : ℕ) (v w : Verdict) → v ≡ bodyNumber b store k → w ≡ bodyNumber b store k → v ≡ w
+pub number-determined : (b : Board) (store : List ℕ) (k : ℕ) (v w : Verdict) → v ≡ bodyNumberOn b store k → w ≡ bodyNumberOn b store k → v ≡ w
 number-determined b store k v w p q = p ∙ sym q
 
-pub body-determined : (b : Board) (store : List ℕ) (k : ℕ) (x y : List ℕ) → x ≡ bodyOf b store k → y ≡ bodyOf b store k → x ≡ y
+pub body-determined : (b : Board) (store : List ℕ) (k : ℕ) (x y : List ℕ) → x ≡ bodyOn b store k → y ≡ bodyOn b store k → x ≡ y
 body-determined b store k x y p q = p ∙ sym q
 
-pub next-determined : (b : Board) (store : List ℕ) (s w : ℕ) (x y : Handed) → x ≡ nextAnswer b store s w → y ≡ nextAnswer b store s w → x ≡ y
+pub next-determined : (b : Board) (store : List ℕ) (s w : ℕ) (x y : Handed) → x ≡ nextOn b store s w → y ≡ nextOn b store s w → x ≡ y
 next-determined b store s w x y p q = p ∙ sym q
 
-pub fresh-determined : (b : Board) (x y : Mark) → x ≡ freshMark b → y ≡ freshMark b → x ≡ y
+pub fresh-determined : (b : Board) (x y : Mark) → x ≡ freshMarkOn b → y ≡ freshMarkOn b → x ≡ y
 fresh-determined b x y p q = p ∙ sym q

@@ -1,15 +1,13 @@
 // The board's calls with the record by value (document 01, "The board"): report, remove and compact hand it back, changed
 // or after a refusal as it was; body hands back a part of the lent store; next hands out a change. Each lends the record's
-// arrays to the call of crate lent.
+// arrays to the call of board_report, board_remove or board_look.
+mod answer;
+
 ghost use mathlib.Core.Path.{_≡_};
-ghost use Rattle.board_rules.specs.Report.{reportAnswer, reportStore};
-ghost use Rattle.board_rules.specs.Remove.{removeAnswer};
-ghost use Rattle.board_rules.specs.Compact.{compactAnswer};
-ghost use Rattle.board_rules.specs.Body.{bodyNumber, bodyOf};
-ghost use Rattle.board_rules.specs.Next.{nextAnswer, freshMark};
+ghost use Rattle.board_by_value.specs.ByValue.{reportOn, reportStoreOn, removeOn, compactOn, bodyNumberOn, bodyOn, nextOn, freshMarkOn};
+pub use answer::Answer;
 use answers::Verdict;
 use board_record::Board;
-use board_rules::Answer;
 use board_rules::Handed;
 use board_rules::Mark;
 use session::Session;
@@ -23,15 +21,15 @@ pub fn report(
     session: Session,
     pst: u64,
 ) -> Answer
-    ensures answer { λ r. ⌜ r ≡ reportAnswer b (now (store .entry)) key (now (ero .entry)) session pst ⌝ }
-    ensures octets { λ r. ⌜ now (store .exit) ≡ reportStore b (now (store .entry)) key (now (ero .entry)) session pst ⌝ }
+    ensures answer { λ r. ⌜ r ≡ reportOn b (now (store .entry)) key (now (ero .entry)) session pst ⌝ }
+    ensures octets { λ r. ⌜ now (store .exit) ≡ reportStoreOn b (now (store .entry)) key (now (ero .entry)) session pst ⌝ }
 {
     let mut keys = b.keys;
     let mut versions = b.versions;
     let mut lengths = b.lengths;
     let mut version = b.version;
     let mut floor = b.floor;
-    let verdict = board_calls::report(
+    let verdict = board_report::report(
         &mut keys,
         &mut versions,
         &mut lengths,
@@ -58,13 +56,13 @@ pub fn report(
 
 // Remove (key).
 pub fn remove(b: Board, store: &[u8], key: u64) -> Answer
-    ensures answer { λ r. ⌜ r ≡ removeAnswer b (now (store .entry)) key ⌝ }
+    ensures answer { λ r. ⌜ r ≡ removeOn b (now (store .entry)) key ⌝ }
 {
     let keys = b.keys;
     let mut versions = b.versions;
     let mut lengths = b.lengths;
     let mut version = b.version;
-    let verdict = board_calls::remove(
+    let verdict = board_remove::remove(
         &keys,
         &mut versions,
         &mut lengths,
@@ -88,13 +86,13 @@ pub fn remove(b: Board, store: &[u8], key: u64) -> Answer
 
 // Compact (c).
 pub fn compact(b: Board, store: &[u8], c: u64) -> Answer
-    ensures answer { λ r. ⌜ r ≡ compactAnswer b (now (store .entry)) c ⌝ }
+    ensures answer { λ r. ⌜ r ≡ compactOn b (now (store .entry)) c ⌝ }
 {
     let mut keys = b.keys;
     let mut versions = b.versions;
     let lengths = b.lengths;
     let mut floor = b.floor;
-    let verdict = board_calls::compact(
+    let verdict = board_remove::compact(
         &mut keys,
         &mut versions,
         &lengths,
@@ -118,9 +116,9 @@ pub fn compact(b: Board, store: &[u8], c: u64) -> Answer
 
 // The number of Body (key).
 pub fn body_number(b: Board, store: &[u8], key: u64) -> Verdict
-    ensures number { λ r. ⌜ r ≡ bodyNumber b (now (store .entry)) key ⌝ }
+    ensures number { λ r. ⌜ r ≡ bodyNumberOn b (now (store .entry)) key ⌝ }
 {
-    board_calls::body_number(
+    board_look::body_number(
         &b.keys,
         &b.versions,
         &b.lengths,
@@ -133,9 +131,9 @@ pub fn body_number(b: Board, store: &[u8], key: u64) -> Verdict
 
 // Body (key): the path's octets, a part of the store; empty on refusal.
 pub fn body<'a>(b: Board, store: &'a [u8], key: u64) -> &'a [u8]
-    ensures body { λ r. ⌜ now r ≡ bodyOf b (now (store .entry)) key ⌝ }
+    ensures body { λ r. ⌜ now r ≡ bodyOn b (now (store .entry)) key ⌝ }
 {
-    board_calls::body(
+    board_look::body(
         &b.keys,
         &b.versions,
         &b.lengths,
@@ -148,9 +146,9 @@ pub fn body<'a>(b: Board, store: &'a [u8], key: u64) -> &'a [u8]
 
 // Next (mark s, w).
 pub fn next(b: Board, store: &[u8], s: u64, w: u64) -> Handed
-    ensures next { λ r. ⌜ r ≡ nextAnswer b (now (store .entry)) s w ⌝ }
+    ensures next { λ r. ⌜ r ≡ nextOn b (now (store .entry)) s w ⌝ }
 {
-    board_calls::next(
+    board_look::next(
         &b.keys,
         &b.versions,
         &b.lengths,
@@ -165,7 +163,7 @@ pub fn next(b: Board, store: &[u8], s: u64, w: u64) -> Handed
 // A fresh mark is the board's version for s and 0 for w, with the follower empty. It has no number: it reads the version
 // only, and next answers 17 to a mark of a record that is no board.
 pub fn fresh_mark(b: Board) -> Mark
-    ensures fresh { λ r. ⌜ r ≡ freshMark b ⌝ }
+    ensures fresh { λ r. ⌜ r ≡ freshMarkOn b ⌝ }
 {
     Mark { s: b.version, w: 0 }
 }

@@ -1,4 +1,5 @@
--- The laws of the chains, and of the pass over the places. Assumes nothing.
+-- The laws of the chains, and of the pass over the places. A walk of a number's chain meets every place below that has its hash, so it meets the number
+-- if that came before (`Walking`); one place more keeps the chains (`Chained`); and the pass ends with the test of properness. Assumes nothing.
 use Prim.Native.Nat.{ℕ, zero, suc, _+_, _-_, _<_, _≤_}
 use native.Mathlib.Numerals.{add-one}
 use native.Mathlib.Nat.{add-sub-cancel}
@@ -11,7 +12,7 @@ use lib.ListN.{getD, set, length, length-set, replicate, length-replicate, getD-
 use lib.Dec.{eqb, leb, ltb}
 use borrow.Author.Tests.{le-leb, eq-eqb, ne-eqb, not-true, not-false}
 use Rattle.board_record.specs.Sizes.{versionMost}
-use Rattle.board_record.specs.Table.{boardOf}
+use Rattle.board_record.specs.Table.{Table, tableOf, Entry, entryAt}
 use Rattle.board_record.specs.Proper.{allBelow, placeOk, soundB, freshB, newB, distinctB, properB}
 use Rattle.board_record.proofs.Logic.{and-false, or-true, same?, from?, at-set}
 use Rattle.board_record.proofs.All.{all-none, all-more, all-fails, all-of}
@@ -142,7 +143,8 @@ pub chained-skip : (xs hs ns : List ℕ) (i : ℕ) → Chained xs hs ns i → ge
 chained-skip xs hs ns i c e =
     record { heads = skip-heads xs hs i (c .heads) e; links = skip-links xs ns i (c .links) e; fine = all-more (newB xs) i (c .fine) (new-zero xs i e) }
 
-pub chained-more : (xs hs ns : List ℕ) (i k h : ℕ) (r : Bool) → Chained xs hs ns i → i < 128 → (getD xs i 0 ≡ 0 → ⊥) → k ≡ getD xs i 0 → h ≡ slotOf k → h < 512 → r ≡ freshB xs i (getD xs i 0) → not r ≡ false
+pub chained-more : (xs hs ns : List ℕ) (i k h : ℕ) (r : Bool) → Chained xs hs ns i → i < 128 → (getD xs i 0 ≡ 0 → ⊥) → k ≡ getD xs i 0
+    → h ≡ slotOf k → h < 512 → r ≡ freshB xs i (getD xs i 0) → not r ≡ false
     → Chained xs (set hs h (i + 1)) (set ns i (getD hs h 0)) (i + 1)
 chained-more xs hs ns i k h r c l u g o b f n =
     let e : h ≡ slotOf (getD xs i 0) = rw g at o in
@@ -157,42 +159,45 @@ pub chained-walk : (xs hs ns : List ℕ) (i k h p : ℕ) → Chained xs hs ns i 
 chained-walk xs hs ns i k h p c u g e q = rw (q, e, g) (walk-starts xs hs i (getD xs i 0) (c .heads) u)
 
 -- ---- what one place says of its version
-pub empty-version : (k v l top floor : ℕ) (r : Bool) → r ≡ placeOk k v l top floor → not r ≡ false → k ≡ 0 → v ≡ 0
-empty-version k v l top floor r e n z = sound k v l top floor (sym e ∙ not-false r n) .none z .0
+pub empty-version : (x : Entry) (top floor : ℕ) (r : Bool) → r ≡ placeOk x top floor → not r ≡ false → x .key ≡ 0 → x .version ≡ 0
+empty-version x top floor r e n z = sound x top floor (sym e ∙ not-false r n) .none z .0
 
-pub used-version : (k v l top floor : ℕ) (r : Bool) → r ≡ placeOk k v l top floor → not r ≡ false → (k ≡ 0 → ⊥) → v ≡ 0 → ⊥
-used-version k v l top floor r e n u z = omega (arith, sound k v l top floor (sym e ∙ not-false r n) .low u)
+pub used-version : (x : Entry) (top floor : ℕ) (r : Bool) → r ≡ placeOk x top floor → not r ≡ false → (x .key ≡ 0 → ⊥) → x .version ≡ 0 → ⊥
+used-version x top floor r e n u z = omega (arith, sound x top floor (sym e ∙ not-false r n) .low u)
 
 -- ---- the pass
 module _ (ks vs ls : List ℕ) (top floor : ℕ) where
-  pub places-more : (i : ℕ) (r : Bool) → r ≡ placeOk (getD ks i 0) (getD vs i 0) (getD ls i 0) top floor → not r ≡ false
-      → allBelow (soundB (boardOf ks vs ls top floor)) i ≡ true
-      → allBelow (soundB (boardOf ks vs ls top floor)) (i + 1) ≡ true
+  abbrev table : Table
+  table = tableOf ks vs ls top floor
+
+  pub places-more : (i : ℕ) (r : Bool) → r ≡ placeOk (entryAt table i) top floor → not r ≡ false
+      → allBelow (soundB table) i ≡ true
+      → allBelow (soundB table) (i + 1) ≡ true
   unfolding soundB
-  places-more i r e n h = all-more (soundB (boardOf ks vs ls top floor)) i h (sym e ∙ not-false r n)
+  places-more i r e n h = all-more (soundB table) i h (sym e ∙ not-false r n)
 
   -- it stops at a place that is not sound, at a key and at a version that came before
-  pub pass-place : (i : ℕ) (r : Bool) → i < 128 → r ≡ placeOk (getD ks i 0) (getD vs i 0) (getD ls i 0) top floor → not r ≡ true → false ≡ properB (boardOf ks vs ls top floor)
+  pub pass-place : (i : ℕ) (r : Bool) → i < 128 → r ≡ placeOk (entryAt table i) top floor → not r ≡ true → false ≡ properB table
   unfolding properB soundB
   pass-place i r l e n =
-      rw (all-fails (soundB (boardOf ks vs ls top floor)) 128 i l (sym e ∙ not-true r n), and-false (leb floor top && leb top versionMost))
+      rw (all-fails (soundB table) 128 i l (sym e ∙ not-true r n), and-false (leb floor top && leb top versionMost))
 
-  pub pass-key : (i : ℕ) (r : Bool) → i < 128 → (getD ks i 0 ≡ 0 → ⊥) → r ≡ freshB ks i (getD ks i 0) → not r ≡ true → false ≡ properB (boardOf ks vs ls top floor)
+  pub pass-key : (i : ℕ) (r : Bool) → i < 128 → (getD ks i 0 ≡ 0 → ⊥) → r ≡ freshB ks i (getD ks i 0) → not r ≡ true → false ≡ properB table
   unfolding properB
   pass-key i r l u e n =
-      rw (← not-distinct ks i r l u e n, and-false (leb floor top && leb top versionMost && allBelow (soundB (boardOf ks vs ls top floor)) 128))
+      rw (← not-distinct ks i r l u e n, and-false (leb floor top && leb top versionMost && allBelow (soundB table) 128))
 
-  pub pass-version : (i : ℕ) (r : Bool) → i < 128 → (getD vs i 0 ≡ 0 → ⊥) → r ≡ freshB vs i (getD vs i 0) → not r ≡ true → false ≡ properB (boardOf ks vs ls top floor)
+  pub pass-version : (i : ℕ) (r : Bool) → i < 128 → (getD vs i 0 ≡ 0 → ⊥) → r ≡ freshB vs i (getD vs i 0) → not r ≡ true → false ≡ properB table
   unfolding properB
   pass-version i r l u e n =
-      rw (← not-distinct vs i r l u e n, and-false (leb floor top && leb top versionMost && allBelow (soundB (boardOf ks vs ls top floor)) 128 && distinctB ks))
+      rw (← not-distinct vs i r l u e n, and-false (leb floor top && leb top versionMost && allBelow (soundB table) 128 && distinctB ks))
 
   -- it ends
   pub pass-all : (i : ℕ) {hs ns gs ms : List ℕ} → floor ≤ top → top ≤ versionMost → i ≤ 128 → 128 ≤ i → Chained ks hs ns i → Chained vs gs ms i
-      → allBelow (soundB (boardOf ks vs ls top floor)) i ≡ true
-      → true ≡ properB (boardOf ks vs ls top floor)
+      → allBelow (soundB table) i ≡ true
+      → true ≡ properB table
   unfolding properB
   pass-all i f t h l a b e =
       let q : i ≡ 128 = omega arith in
-      let p : allBelow (soundB (boardOf ks vs ls top floor)) 128 ≡ true = rw q at e in
+      let p : allBelow (soundB table) 128 ≡ true = rw q at e in
       rw (le-leb floor top f, le-leb top versionMost t, p, ← is-distinct ks i h l (a .fine), ← is-distinct vs i h l (b .fine))

@@ -1,3 +1,5 @@
+-- No promise rests on this file: it serves the contracts of the pass's inner functions.
+--
 -- Chains of a hash over a list of numbers, 0 standing for none: the places of the numbers with one hash, the last one first. The list of heads has for each
 -- hash 1 more than the last place below i with it, the list of links for each place 1 more than the place before it in its chain; 0 ends a chain.
 use Prim.Native.Nat.{ℕ, _+_, _-_, _*_, _<_, _≤_, _%_, _/_}

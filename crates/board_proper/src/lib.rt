@@ -2,6 +2,5 @@
 // versions are distinct is seen by chains of a hash: each number is compared with those below it that have its hash.
 mod chain;
 mod pass;
-mod place;
 
 pub use pass::is_proper;

@@ -1,14 +1,14 @@
 // The pass over the places. `heads[h]` is 1 more than the last key's place whose hash is h, and `nexts` its chain;
 // `vheads` and `vnexts` are those of the versions.
 ghost use mathlib.Core.Path.{_≡_};
-ghost use Rattle.board_record.specs.Table.{boardOf};
+ghost use Rattle.board_record.specs.Table.{tableOf};
 ghost use Rattle.board_record.specs.Proper.{properB};
 use super::chain::fresh32;
 use super::chain::fresh64;
 use super::chain::slot;
-use super::place::place_ok;
 use board_record::PLACES;
 use board_record::VERSION_MOST;
+use board_record::place_ok;
 use board_record::wide32;
 use octets::wide;
 
@@ -19,7 +19,7 @@ pub fn is_proper<'a>(
     top: u64,
     floor: u64,
 ) -> bool
-    ensures proper { λ r. ⌜ r ≡ properB (boardOf (now (keys .entry)) (now (versions .entry)) (now (lengths .entry)) top floor) ⌝ }
+    ensures proper { λ r. ⌜ r ≡ properB (tableOf (now (keys .entry)) (now (versions .entry)) (now (lengths .entry)) top floor) ⌝ }
 {
     if top < floor {
         return false;

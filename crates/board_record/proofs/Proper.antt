@@ -1,4 +1,5 @@
--- Properness, the record and the test, are equal; the empty board is proper. Assumes nothing.
+-- Properness, the record and the test, are equal; the empty table is proper. Both ways go place by place (`Sound`), then over all places. Assumes
+-- nothing.
 use Prim.Native.Nat.{ℕ, zero, suc, _+_, _<_, _≤_, _%_}
 use native.Mathlib.Omega.{arith}
 use mathlib.Core.Path.{_≡_, refl, sym, ap, _∙_}
@@ -8,66 +9,106 @@ use mathlib.Core.Logic.{_⊎_, inl, inr, ⊎-elim}
 use lib.ListN.{getD, replicate, length-replicate, getD-replicate}
 use lib.Dec.{eqb, ltb, leb}
 use borrow.Author.Tests.{eqb-true, eqb-false, leb-true, leb-false, ltb-true, ltb-false, eq-eqb, ne-eqb, lt-ltb, le-leb, not-true, not-false}
-use Rattle.board_record.specs.declared.record.Board.{Board}
 use Rattle.board_record.specs.Sizes.{places, room, keyLeast, keyMost, versionMost, unit, bodyLeast}
-use Rattle.board_record.specs.Table.{emptyBoard, Sized, keyAt, versionAt, lengthAt, Empty, Used, Removal, Path}
+use Rattle.board_record.specs.Table.{Table, emptyTable, Sized, Entry, keyAt, versionAt, lengthAt, entryAt, Empty, Used, RemovalAt, PathAt}
 use Rattle.board_record.specs.Proper.{Proper, allBelow, placeOk, soundB, distinctB, properB}
 use Rattle.board_record.proofs.Logic.{and-true, same?, test-is}
 use Rattle.board_record.proofs.All.{all-at, all-of, distinct-one, one-distinct}
 
 -- ---- one place
-pub record Sound (k v l top floor : ℕ) : Type 0 where
-  pub none : k ≡ 0 → (v ≡ 0) × (l ≡ 0)
-  pub key : k ≤ keyMost
-  pub low : (k ≡ 0 → ⊥) → 1 ≤ v
-  pub high : v ≤ top
-  pub mark : (k ≡ 0 → ⊥) → l ≡ 0 → floor < v
-  pub least : (l ≡ 0 → ⊥) → bodyLeast ≤ l
-  pub most : l ≤ room
-  pub four : l % unit ≡ 0
+pub record Sound (e : Entry) (top floor : ℕ) : Type 0 where
+  pub none : e .key ≡ 0 → (e .version ≡ 0) × (e .length ≡ 0)
+  pub key : e .key ≤ keyMost
+  pub low : (e .key ≡ 0 → ⊥) → 1 ≤ e .version
+  pub high : e .version ≤ top
+  pub mark : (e .key ≡ 0 → ⊥) → e .length ≡ 0 → floor < e .version
+  pub least : (e .length ≡ 0 → ⊥) → bodyLeast ≤ e .length
+  pub most : e .length ≤ room
+  pub four : e .length % unit ≡ 0
 
-pub sound : (k v l top floor : ℕ) → placeOk k v l top floor ≡ true → Sound k v l top floor
-unfolding placeOk
-sound k v l top floor e = go (eqb k 0) refl e
-  where
-    size : (x : Bool) → eqb l 0 ≡ x → (k ≡ 0 → ⊥) → k ≤ 1048574 → 1 ≤ v → v ≤ top → cond x (ltb floor v) (eqb (l % 4) 0 && leb 24 l && leb l 384) ≡ true → Sound k v l top floor
-    size true q n a b c h =
-        let z = eqb-true l 0 q in
-        let f = ltb-true floor v h in
-        record { none = λ y. absurd (n y); key = a; low = λ y. b; high = c; mark = λ y w. f; least = λ y. absurd (y z); most = omega arith; four = omega arith }
-    size false q n a b c h =
-        let p = and-true _ _ h in
-        let r = and-true _ _ (p .0) in
-        let z = eqb-false l 0 q in
-        record { none = λ y. absurd (n y); key = a; low = λ y. b; high = c; mark = λ y w. absurd (z w); least = λ y. leb-true 24 l (r .1); most = leb-true l 384 (p .1); four = eqb-true (l % 4) 0 (r .0) }
+module _ (e : Entry) (top floor : ℕ) where
+  -- what the test asks of a used place, by whether it is a removal
+  abbrev size? : Bool → Bool
+  size? bare = cond bare (ltb floor (e .version)) (eqb (e .length % unit) 0 && leb bodyLeast (e .length) && leb (e .length) room)
 
-    go : (x : Bool) → eqb k 0 ≡ x → cond x (eqb l 0 && eqb v 0) (leb k 1048574 && leb 1 v && leb v top && cond (eqb l 0) (ltb floor v) (eqb (l % 4) 0 && leb 24 l && leb l 384)) ≡ true → Sound k v l top floor
-    go true q h =
-        let p = and-true _ _ h in
-        let z = eqb-true k 0 q in
-        let a = eqb-true v 0 (p .1) in
-        let b = eqb-true l 0 (p .0) in
-        record { none = λ y. (a, b); key = omega arith; low = λ y. absurd (y z); high = omega arith; mark = λ y w. absurd (y z); least = λ y. absurd (y b); most = omega arith; four = omega arith }
-    go false q h =
-        let p = and-true _ _ h in
-        let r = and-true _ _ (p .0) in
-        let s = and-true _ _ (r .0) in
-        size (eqb l 0) refl (eqb-false k 0 q) (leb-true k 1048574 (s .0)) (leb-true 1 v (s .1)) (leb-true v top (r .1)) (p .1)
+  -- and of a place, by whether it is empty
+  abbrev place? : Bool → Bool
+  place? empty =
+      cond empty (eqb (e .length) 0 && eqb (e .version) 0)
+      (leb (e .key) keyMost && leb 1 (e .version) && leb (e .version) top && size? (eqb (e .length) 0))
 
-pub is-sound : (k v l top floor : ℕ) → Sound k v l top floor → placeOk k v l top floor ≡ true
-unfolding placeOk
-is-sound k v l top floor r = go (eqb k 0) refl
-  where
-    size : (x : Bool) → eqb l 0 ≡ x → (k ≡ 0 → ⊥) → cond x (ltb floor v) (eqb (l % 4) 0 && leb 24 l && leb l 384) ≡ true
-    size true q n = lt-ltb _ _ (r .mark n (eqb-true l 0 q))
-    size false q n = rw (eq-eqb (l % 4) 0 (r .four), le-leb 24 l (r .least (eqb-false l 0 q)), le-leb l 384 (r .most))
+  pub sound : placeOk e top floor ≡ true → Sound e top floor
+  unfolding placeOk
+  sound t = go (eqb (e .key) 0) refl t
+    where
+      size : (x : Bool) → eqb (e .length) 0 ≡ x → (e .key ≡ 0 → ⊥) → e .key ≤ keyMost → 1 ≤ e .version → e .version ≤ top → size? x ≡ true → Sound e top floor
+      size true q n a b c h =
+          let z = eqb-true (e .length) 0 q in
+          let f = ltb-true floor (e .version) h in
+          record {
+            none = λ y. absurd (n y);
+            key = a;
+            low = λ y. b;
+            high = c;
+            mark = λ y w. f;
+            least = λ y. absurd (y z);
+            most = omega arith;
+            four = omega arith;
+          }
+      size false q n a b c h =
+          let p = and-true _ _ h in
+          let r = and-true _ _ (p .0) in
+          let z = eqb-false (e .length) 0 q in
+          record {
+            none = λ y. absurd (n y);
+            key = a;
+            low = λ y. b;
+            high = c;
+            mark = λ y w. absurd (z w);
+            least = λ y. leb-true bodyLeast (e .length) (r .1);
+            most = leb-true (e .length) room (p .1);
+            four = eqb-true (e .length % unit) 0 (r .0);
+          }
 
-    go : (x : Bool) → eqb k 0 ≡ x → cond x (eqb l 0 && eqb v 0) (leb k 1048574 && leb 1 v && leb v top && cond (eqb l 0) (ltb floor v) (eqb (l % 4) 0 && leb 24 l && leb l 384)) ≡ true
-    go true q = let z = r .none (eqb-true k 0 q) in rw (eq-eqb v 0 (z .0), eq-eqb l 0 (z .1))
-    go false q = let n = eqb-false k 0 q in rw (le-leb k 1048574 (r .key), le-leb 1 v (r .low n), le-leb v top (r .high)) (size (eqb l 0) refl n)
+      go : (x : Bool) → eqb (e .key) 0 ≡ x → place? x ≡ true → Sound e top floor
+      go true q h =
+          let p = and-true _ _ h in
+          let z = eqb-true (e .key) 0 q in
+          let a = eqb-true (e .version) 0 (p .1) in
+          let b = eqb-true (e .length) 0 (p .0) in
+          record {
+            none = λ y. (a, b);
+            key = omega arith;
+            low = λ y. absurd (y z);
+            high = omega arith;
+            mark = λ y w. absurd (y z);
+            least = λ y. absurd (y b);
+            most = omega arith;
+            four = omega arith;
+          }
+      go false q h =
+          let p = and-true _ _ h in
+          let r = and-true _ _ (p .0) in
+          let s = and-true _ _ (r .0) in
+          size (eqb (e .length) 0) refl (eqb-false (e .key) 0 q) (leb-true (e .key) keyMost (s .0)) (leb-true 1 (e .version) (s .1)) (leb-true (e .version) top (r .1)) (p .1)
+
+  pub is-sound : Sound e top floor → placeOk e top floor ≡ true
+  unfolding placeOk
+  is-sound r = go (eqb (e .key) 0) refl
+    where
+      size : (x : Bool) → eqb (e .length) 0 ≡ x → (e .key ≡ 0 → ⊥) → size? x ≡ true
+      size true q n = lt-ltb _ _ (r .mark n (eqb-true (e .length) 0 q))
+      size false q n =
+          rw (eq-eqb (e .length % unit) 0 (r .four), le-leb bodyLeast (e .length) (r .least (eqb-false (e .length) 0 q)), le-leb (e .length) room (r .most))
+
+      go : (x : Bool) → eqb (e .key) 0 ≡ x → place? x ≡ true
+      go true q = let z = r .none (eqb-true (e .key) 0 q) in rw (eq-eqb (e .version) 0 (z .0), eq-eqb (e .length) 0 (z .1))
+      go false q =
+          let n = eqb-false (e .key) 0 q in
+          rw (le-leb (e .key) keyMost (r .key), le-leb 1 (e .version) (r .low n), le-leb (e .version) top (r .high)) (size (eqb (e .length) 0) refl n)
 
 -- ---- the whole, from its places
-pub sound-proper : (b : Board) → b .floor ≤ b .version → b .version ≤ versionMost → ((i : ℕ) → i < places → Sound (keyAt b i) (versionAt b i) (lengthAt b i) (b .version) (b .floor))
+pub sound-proper : (b : Table) → b .floor ≤ b .version → b .version ≤ versionMost → ((i : ℕ) → i < places → Sound (entryAt b i) (b .version) (b .floor))
     → ((i j : ℕ) → i < places → j < places → Used b i → keyAt b i ≡ keyAt b j → i ≡ j)
     → ((i j : ℕ) → i < places → j < places → Used b i → versionAt b i ≡ versionAt b j → i ≡ j)
     → Proper b
@@ -90,40 +131,40 @@ sound-proper b f t at ks vs =
     }
 
 -- ---- from the test to the record
-pub properB-sound : (b : Board) → properB b ≡ true → (i : ℕ) → i < places → Sound (keyAt b i) (versionAt b i) (lengthAt b i) (b .version) (b .floor)
+pub properB-sound : (b : Table) → properB b ≡ true → (i : ℕ) → i < places → Sound (entryAt b i) (b .version) (b .floor)
 unfolding properB soundB
 properB-sound b e i l =
     let p = and-true (leb (b .floor) (b .version) && leb (b .version) versionMost && allBelow (soundB b) places && distinctB (b .keys)) _ e in
     let q = and-true (leb (b .floor) (b .version) && leb (b .version) versionMost && allBelow (soundB b) places) _ (p .0) in
     let r = and-true (leb (b .floor) (b .version) && leb (b .version) versionMost) _ (q .0) in
-    sound (keyAt b i) (versionAt b i) (lengthAt b i) (b .version) (b .floor) (all-at (soundB b) places (r .1) i l)
+    sound (entryAt b i) (b .version) (b .floor) (all-at (soundB b) places (r .1) i l)
 
-pub proper-is : (b : Board) → properB b ≡ true → Proper b
+pub proper-is : (b : Table) → properB b ≡ true → Proper b
 unfolding properB
 proper-is b e =
     let p = and-true (leb (b .floor) (b .version) && leb (b .version) versionMost && allBelow (soundB b) places && distinctB (b .keys)) _ e in
     let q = and-true (leb (b .floor) (b .version) && leb (b .version) versionMost && allBelow (soundB b) places) _ (p .0) in
     let r = and-true (leb (b .floor) (b .version) && leb (b .version) versionMost) _ (q .0) in
     let s = and-true (leb (b .floor) (b .version)) _ (r .0) in
-    let at : (i : ℕ) → i < places → Sound (keyAt b i) (versionAt b i) (lengthAt b i) (b .version) (b .floor) = properB-sound b e in
+    let at : (i : ℕ) → i < places → Sound (entryAt b i) (b .version) (b .floor) = properB-sound b e in
     sound-proper b (leb-true (b .floor) (b .version) (s .0)) (leb-true (b .version) versionMost (s .1)) at
     (λ i j l m u y. distinct-one (b .keys) (q .1) i j l m u y)
     (λ i j l m u y. distinct-one (b .versions) (p .1) i j l m (λ z. omega (arith, at i l .low u)) y)
 
 -- ---- and from the record to the test
-pub proper-sound : (b : Board) → Proper b → (i : ℕ) → i < places → Sound (keyAt b i) (versionAt b i) (lengthAt b i) (b .version) (b .floor)
+pub proper-sound : (b : Table) → Proper b → (i : ℕ) → i < places → Sound (entryAt b i) (b .version) (b .floor)
 proper-sound b p i l = ⊎-elim none used (same? (keyAt b i) 0)
   where
-    none : keyAt b i ≡ 0 → Sound (keyAt b i) (versionAt b i) (lengthAt b i) (b .version) (b .floor)
+    none : keyAt b i ≡ 0 → Sound (entryAt b i) (b .version) (b .floor)
     none e =
         let v = p .empty-version i l e in
         let n = p .empty-length i l e in
         record { none = λ y. (v, n); key = omega arith; low = λ y. absurd (y e); high = omega arith; mark = λ y w. absurd (y e); least = λ y. absurd (y n); most = omega arith; four = omega arith }
 
-    used : Used b i → Sound (keyAt b i) (versionAt b i) (lengthAt b i) (b .version) (b .floor)
+    used : Used b i → Sound (entryAt b i) (b .version) (b .floor)
     used u = ⊎-elim bare body (same? (lengthAt b i) 0)
       where
-        bare : lengthAt b i ≡ 0 → Sound (keyAt b i) (versionAt b i) (lengthAt b i) (b .version) (b .floor)
+        bare : lengthAt b i ≡ 0 → Sound (entryAt b i) (b .version) (b .floor)
         bare n =
             record {
               none = λ y. absurd (u y);
@@ -136,9 +177,9 @@ proper-sound b p i l = ⊎-elim none used (same? (keyAt b i) 0)
               four = omega arith;
             }
 
-        body : (lengthAt b i ≡ 0 → ⊥) → Sound (keyAt b i) (versionAt b i) (lengthAt b i) (b .version) (b .floor)
+        body : (lengthAt b i ≡ 0 → ⊥) → Sound (entryAt b i) (b .version) (b .floor)
         body n =
-            let y : Path b i = record { used = u; body = n } in
+            let y : PathAt b i = record { used = u; body = n } in
             record {
               none = λ z. absurd (u z);
               key = p .key-most i l u;
@@ -150,22 +191,22 @@ proper-sound b p i l = ⊎-elim none used (same? (keyAt b i) 0)
               four = p .length-unit i l y;
             }
 
-pub is-proper : (b : Board) → Proper b → properB b ≡ true
+pub is-proper : (b : Table) → Proper b → properB b ≡ true
 unfolding properB soundB
 is-proper b p =
     let keys : distinctB (b .keys) ≡ true = one-distinct (b .keys) (p .keys-distinct) in
     let versions : distinctB (b .versions) ≡ true = one-distinct (b .versions) (λ i j l m u y. p .versions-distinct i j l m (λ e. u (p .empty-version i l e)) y) in
-    let all : allBelow (soundB b) places ≡ true = all-of (soundB b) places (λ i l. is-sound (keyAt b i) (versionAt b i) (lengthAt b i) (b .version) (b .floor) (proper-sound b p i l)) in
+    let all : allBelow (soundB b) places ≡ true = all-of (soundB b) places (λ i l. is-sound (entryAt b i) (b .version) (b .floor) (proper-sound b p i l)) in
     rw (le-leb (b .floor) (b .version) (p .floor-in), le-leb (b .version) versionMost (p .version-in), all, keys, versions)
 
 -- ---- the empty board
 zeros : (i : ℕ) → i < places → getD {A = ℕ} (replicate 128 0) i 0 ≡ 0
 zeros i l = getD-replicate 128 i 0 0 l
 
-pub empty-sized : Sized emptyBoard
+pub empty-sized : Sized emptyTable
 empty-sized = record { keys = length-replicate {A = ℕ} 128 0; versions = length-replicate {A = ℕ} 128 0; lengths = length-replicate {A = ℕ} 128 0 }
 
-pub empty-proper : Proper emptyBoard
+pub empty-proper : Proper emptyTable
 empty-proper =
     record {
       key-least = λ i l u. absurd (u (zeros i l));

@@ -1,4 +1,6 @@
--- The places that the calls look for: the function of each names the place that the paper's words describe, which is one only. Assumes nothing.
+-- The places that the calls look for: the function of each names the place that the paper's words describe, which is one only. First what a search for
+-- the first, and for the least, ends at (`IsFirst`, `IsLeast`); then, for each place, that the function's has what its record asks, that where the
+-- function says 128 there is none, and that the record has one place. Assumes nothing.
 use Prim.Native.Nat.{ℕ, zero, suc, _+_, _<_, _≤_}
 use native.Mathlib.Numerals.{add-one}
 use native.Mathlib.Decide.{le-ind}
@@ -9,10 +11,10 @@ use mathlib.Core.Logic.{_⊎_, inl, inr, ⊎-elim}
 use lib.Dec.{eqb, ltb, leb}
 use borrow.Author.Tests.{eq-eqb, ne-eqb, eqb-true, eqb-false, lt-ltb, le-ltb, ltb-true, ltb-false, le-leb, lt-leb, leb-true, leb-false, not-true, not-false}
 use borrow.Author.Count.{below-more}
-use Rattle.board_record.specs.declared.record.Board.{Board}
 use Rattle.board_record.specs.Sizes.{places}
-use Rattle.board_record.specs.Table.{keyAt, versionAt, lengthAt, Empty, Used, Removal, Path, New, removalB}
-use Rattle.board_record.specs.Search.{firstWhere, leastWhere, KeyPlace, placeIn, placeOf, LowestEmpty, emptyOf, OldestRemoval, oldestOf, ReportPlace, keeps, takes, drops, targetOf, floorAfter, Wanted, path, removal, NextChange, wantedB, nextOf}
+use Rattle.board_record.specs.Table.{Table, keyAt, versionAt, lengthAt, Empty, Used, RemovalAt, PathAt, New, removalB}
+use Rattle.board_record.specs.Search.{firstWhere, leastWhere, KeyPlace, placeIn, placeOf, LowestEmpty, emptyOf, OldestRemoval, oldestOf}
+use Rattle.board_record.specs.Search.{ReportPlace, keeps, takes, drops, targetOf, floorAfter, Wanted, path, removal, NextChange, wantedB, nextOf}
 use Rattle.board_record.specs.Proper.{Proper}
 use Rattle.board_record.proofs.Logic.{true≢false, and-true, same?, from?}
 
@@ -82,17 +84,17 @@ least-is t v zero l = nobody refl (λ j m. absurd (omega arith))
 least-is t v (suc n) l = least-step t v n (leastWhere t v n) (omega arith) (least-is t v n (omega arith)) (t n) refl
 
 -- ---- the tests of a place
-pub removal-is : (b : Board) (i : ℕ) → removalB b i ≡ true → Removal b i
+pub removal-is : (b : Table) (i : ℕ) → removalB b i ≡ true → RemovalAt b i
 unfolding removalB
 removal-is b i e =
     let p = and-true (not (eqb (keyAt b i) 0)) (eqb (lengthAt b i) 0) e in
     record { used = eqb-false (keyAt b i) 0 (not-true (eqb (keyAt b i) 0) (p .0)); bare = eqb-true (lengthAt b i) 0 (p .1) }
 
-pub is-removal : (b : Board) (i : ℕ) → Removal b i → removalB b i ≡ true
+pub is-removal : (b : Table) (i : ℕ) → RemovalAt b i → removalB b i ≡ true
 unfolding removalB
 is-removal b i r = rw (ne-eqb (keyAt b i) 0 (r .used), eq-eqb (lengthAt b i) 0 (r .bare))
 
-pub wanted-is : (b : Board) (s w i : ℕ) → wantedB b s w i ≡ true → Wanted b s w i
+pub wanted-is : (b : Table) (s w i : ℕ) → wantedB b s w i ≡ true → Wanted b s w i
 unfolding wantedB
 wanted-is b s w i e = go (eqb (lengthAt b i) 0) refl (p .1)
   where
@@ -112,28 +114,28 @@ wanted-is b s w i e = go (eqb (lengthAt b i) 0) refl (p .1)
     go true y h = removal (record { used = used; bare = eqb-true (lengthAt b i) 0 y }) above (ltb-true s (versionAt b i) h)
     go false y h = path (record { used = used; body = eqb-false (lengthAt b i) 0 y }) above
 
-pub is-wanted : (b : Board) (s w i : ℕ) → Wanted b s w i → wantedB b s w i ≡ true
+pub is-wanted : (b : Table) (s w i : ℕ) → Wanted b s w i → wantedB b s w i ≡ true
 unfolding wantedB
 is-wanted b s w i (path p l) = rw (ne-eqb (keyAt b i) 0 (p .used), lt-ltb w (versionAt b i) l, ne-eqb (lengthAt b i) 0 (p .body))
 is-wanted b s w i (removal r l m) = rw (ne-eqb (keyAt b i) 0 (r .used), lt-ltb w (versionAt b i) l, eq-eqb (lengthAt b i) 0 (r .bare), lt-ltb s (versionAt b i) m)
 
-pub wanted-used : (b : Board) (s w i : ℕ) → Wanted b s w i → Used b i
+pub wanted-used : (b : Table) (s w i : ℕ) → Wanted b s w i → Used b i
 wanted-used b s w i (path p l) = p .used
 wanted-used b s w i (removal r l m) = r .used
 
 -- ---- the place of a key
-pub key-place-is : (b : Board) (k : ℕ) → placeOf b k < places → KeyPlace b k (placeOf b k)
+pub key-place-is : (b : Table) (k : ℕ) → placeOf b k < places → KeyPlace b k (placeOf b k)
 unfolding placeIn
 key-place-is b k l = record { here = l; key = eqb-true (keyAt b (firstWhere (λ i. eqb (keyAt b i) k) 128)) k (first-hit (λ i. eqb (keyAt b i) k) 128 l) }
 
-pub key-place-none : (b : Board) (k : ℕ) → places ≤ placeOf b k → New b k
+pub key-place-none : (b : Table) (k : ℕ) → places ≤ placeOf b k → New b k
 unfolding placeIn
 key-place-none b k l j m = eqb-false (keyAt b j) k (first-before (λ i. eqb (keyAt b i) k) 128 j m (omega arith))
 
-pub key-place-one : (b : Board) → Proper b → (k i j : ℕ) → (k ≡ 0 → ⊥) → KeyPlace b k i → KeyPlace b k j → i ≡ j
+pub key-place-one : (b : Table) → Proper b → (k i j : ℕ) → (k ≡ 0 → ⊥) → KeyPlace b k i → KeyPlace b k j → i ≡ j
 key-place-one b p k i j z x y = p .keys-distinct i j (x .here) (y .here) (λ e. z (sym (x .key) ∙ e)) (x .key ∙ sym (y .key))
 
-pub place-most : (b : Board) (k : ℕ) → placeOf b k ≤ places
+pub place-most : (b : Table) (k : ℕ) → placeOf b k ≤ places
 unfolding placeIn
 place-most b k = go (firstWhere (λ i. eqb (keyAt b i) k) 128) (first-is (λ i. eqb (keyAt b i) k) 128)
   where
@@ -142,12 +144,12 @@ place-most b k = go (firstWhere (λ i. eqb (keyAt b i) k) 128) (first-is (λ i. 
     go i (this u e f) = omega arith
 
 -- a key on the table is at the place that the search names
-pub key-place-found : (b : Board) → Proper b → (k i : ℕ) → (k ≡ 0 → ⊥) → KeyPlace b k i → placeOf b k ≡ i
+pub key-place-found : (b : Table) → Proper b → (k i : ℕ) → (k ≡ 0 → ⊥) → KeyPlace b k i → placeOf b k ≡ i
 key-place-found b p k i z x =
     ⊎-elim (λ l. absurd (key-place-none b k l i (x .here) (x .key))) (λ l. key-place-one b p k (placeOf b k) i z (key-place-is b k l) x) (from? 128 (placeOf b k))
 
 -- ---- the lowest empty place
-pub lowest-is : (b : Board) → emptyOf b < places → LowestEmpty b (emptyOf b)
+pub lowest-is : (b : Table) → emptyOf b < places → LowestEmpty b (emptyOf b)
 unfolding placeIn
 lowest-is b l =
     record {
@@ -156,16 +158,16 @@ lowest-is b l =
       lowest = λ j m. eqb-false (keyAt b j) 0 (first-before (λ i. eqb (keyAt b i) 0) 128 j (omega arith) m);
     }
 
-pub lowest-none : (b : Board) → places ≤ emptyOf b → (j : ℕ) → j < places → Used b j
+pub lowest-none : (b : Table) → places ≤ emptyOf b → (j : ℕ) → j < places → Used b j
 unfolding placeIn
 lowest-none b l j m = eqb-false (keyAt b j) 0 (first-before (λ i. eqb (keyAt b i) 0) 128 j m (omega arith))
 
-pub lowest-one : (b : Board) (i j : ℕ) → LowestEmpty b i → LowestEmpty b j → i ≡ j
+pub lowest-one : (b : Table) (i j : ℕ) → LowestEmpty b i → LowestEmpty b j → i ≡ j
 lowest-one b i j x y =
     ⊎-elim (λ e. e) (λ d. absurd (⊎-elim (λ l. y .lowest i (omega (arith, d)) (x .empty)) (λ l. x .lowest j l (y .empty)) (from? i j))) (same? i j)
 
 -- ---- the oldest removal
-pub oldest-is : (b : Board) → oldestOf b < places → OldestRemoval b (oldestOf b)
+pub oldest-is : (b : Table) → oldestOf b < places → OldestRemoval b (oldestOf b)
 unfolding oldestOf
 oldest-is b l = go (leastWhere (removalB b) (versionAt b) 128) (least-is (removalB b) (versionAt b) 128 (omega arith)) l
   where
@@ -173,7 +175,7 @@ oldest-is b l = go (leastWhere (removalB b) (versionAt b) 128) (least-is (remova
     go i (nobody e f) m = absurd (omega arith)
     go i (this a c e f) m = record { here = c; removal = removal-is b i e; oldest = λ j n r. f j n (is-removal b j r) }
 
-pub oldest-none : (b : Board) → places ≤ oldestOf b → (j : ℕ) → j < places → Removal b j → ⊥
+pub oldest-none : (b : Table) → places ≤ oldestOf b → (j : ℕ) → j < places → RemovalAt b j → ⊥
 unfolding oldestOf
 oldest-none b l j m r = go (leastWhere (removalB b) (versionAt b) 128) (least-is (removalB b) (versionAt b) 128 (omega arith)) l
   where
@@ -181,24 +183,24 @@ oldest-none b l j m r = go (leastWhere (removalB b) (versionAt b) 128) (least-is
     go i (nobody e f) n = true≢false (sym (is-removal b j r) ∙ f j m)
     go i (this a c e f) n = omega arith
 
-pub oldest-one : (b : Board) → Proper b → (i j : ℕ) → OldestRemoval b i → OldestRemoval b j → i ≡ j
+pub oldest-one : (b : Table) → Proper b → (i j : ℕ) → OldestRemoval b i → OldestRemoval b j → i ≡ j
 oldest-one b p i j x y =
     p .versions-distinct i j (x .here) (y .here) (x .removal .used) (omega (arith, x .oldest j (y .here) (y .removal), y .oldest i (x .here) (x .removal)))
 
 -- ---- where a report goes
-target-known : (b : Board) (k : ℕ) → placeOf b k < places → targetOf b k ≡ placeOf b k
+target-known : (b : Table) (k : ℕ) → placeOf b k < places → targetOf b k ≡ placeOf b k
 unfolding targetOf
 target-known b k l = rw (lt-ltb (placeOf b k) 128 l)
 
-target-empty : (b : Board) (k : ℕ) → places ≤ placeOf b k → emptyOf b < places → targetOf b k ≡ emptyOf b
+target-empty : (b : Table) (k : ℕ) → places ≤ placeOf b k → emptyOf b < places → targetOf b k ≡ emptyOf b
 unfolding targetOf
 target-empty b k l m = rw (le-ltb (placeOf b k) 128 l, lt-ltb (emptyOf b) 128 m)
 
-target-oldest : (b : Board) (k : ℕ) → places ≤ placeOf b k → places ≤ emptyOf b → targetOf b k ≡ oldestOf b
+target-oldest : (b : Table) (k : ℕ) → places ≤ placeOf b k → places ≤ emptyOf b → targetOf b k ≡ oldestOf b
 unfolding targetOf
 target-oldest b k l m = rw (le-ltb (placeOf b k) 128 l, le-ltb (emptyOf b) 128 m)
 
-pub report-place-is : (b : Board) (k : ℕ) → targetOf b k < places → ReportPlace b k (targetOf b k)
+pub report-place-is : (b : Table) (k : ℕ) → targetOf b k < places → ReportPlace b k (targetOf b k)
 report-place-is b k l = ⊎-elim new known (from? 128 (placeOf b k))
   where
     known : placeOf b k < 128 → ReportPlace b k (targetOf b k)
@@ -215,7 +217,7 @@ report-place-is b k l = ⊎-elim new known (from? 128 (placeOf b k))
             let e = target-oldest b k m n in
             drops (key-place-none b k m) (lowest-none b n) (subst (λ (i : ℕ). OldestRemoval b i) (sym e) (oldest-is b (omega arith)))
 
-pub report-place-one : (b : Board) → Proper b → (k i j : ℕ) → (k ≡ 0 → ⊥) → ReportPlace b k i → ReportPlace b k j → i ≡ j
+pub report-place-one : (b : Table) → Proper b → (k i j : ℕ) → (k ≡ 0 → ⊥) → ReportPlace b k i → ReportPlace b k j → i ≡ j
 report-place-one b p k i j z (keeps x) (keeps y) = key-place-one b p k i j z x y
 report-place-one b p k i j z (keeps x) (takes n y) = absurd (n i (x .here) (x .key))
 report-place-one b p k i j z (keeps x) (drops n u y) = absurd (n i (x .here) (x .key))
@@ -227,11 +229,11 @@ report-place-one b p k i j z (drops n u x) (takes m y) = absurd (u j (y .here) (
 report-place-one b p k i j z (drops n u x) (drops m v y) = oldest-one b p i j x y
 
 -- "21 exactly if the key is new and all 128 hold paths": a report has nowhere to go
-pub record Full (b : Board) (k : ℕ) : Type 0 where
+pub record Full (b : Table) (k : ℕ) : Type 0 where
   pub new : New b k
-  pub paths : (j : ℕ) → j < places → Path b j
+  pub paths : (j : ℕ) → j < places → PathAt b j
 
-pub full-is : (b : Board) (k : ℕ) → places ≤ targetOf b k → Full b k
+pub full-is : (b : Table) (k : ℕ) → places ≤ targetOf b k → Full b k
 full-is b k l = ⊎-elim new known (from? 128 (placeOf b k))
   where
     known : placeOf b k < 128 → Full b k
@@ -250,7 +252,7 @@ full-is b k l = ⊎-elim new known (from? 128 (placeOf b k))
               paths = λ j h. record { used = lowest-none b n j h; body = λ e. oldest-none b (omega (arith, target-oldest b k m n)) j h (record { used = lowest-none b n j h; bare = e }) };
             }
 
-pub is-full : (b : Board) (k : ℕ) → Full b k → places ≤ targetOf b k
+pub is-full : (b : Table) (k : ℕ) → Full b k → places ≤ targetOf b k
 is-full b k f = ⊎-elim (λ l. l) (λ l. absurd (go (targetOf b k) (report-place-is b k l))) (from? 128 (targetOf b k))
   where
     go : (i : ℕ) → ReportPlace b k i → ⊥
@@ -259,7 +261,7 @@ is-full b k f = ⊎-elim (λ l. l) (λ l. absurd (go (targetOf b k) (report-plac
     go i (drops n u x) = f .paths i (x .here) .body (x .removal .bare)
 
 -- ---- the floor after a report
-pub floor-keeps : (b : Board) (k i : ℕ) → keyAt b i ≡ k → floorAfter b k i ≡ b .floor
+pub floor-keeps : (b : Table) (k i : ℕ) → keyAt b i ≡ k → floorAfter b k i ≡ b .floor
 unfolding floorAfter
 floor-keeps b k i e = go (eqb (keyAt b i) 0)
   where
@@ -267,16 +269,16 @@ floor-keeps b k i e = go (eqb (keyAt b i) 0)
     go true = refl
     go false = rw (eq-eqb (keyAt b i) k e)
 
-pub floor-takes : (b : Board) (k i : ℕ) → Empty b i → floorAfter b k i ≡ b .floor
+pub floor-takes : (b : Table) (k i : ℕ) → Empty b i → floorAfter b k i ≡ b .floor
 unfolding floorAfter
 floor-takes b k i e = rw (eq-eqb (keyAt b i) 0 e)
 
-pub floor-drops : (b : Board) (k i : ℕ) → Used b i → (keyAt b i ≡ k → ⊥) → floorAfter b k i ≡ versionAt b i
+pub floor-drops : (b : Table) (k i : ℕ) → Used b i → (keyAt b i ≡ k → ⊥) → floorAfter b k i ≡ versionAt b i
 unfolding floorAfter
 floor-drops b k i u d = rw (ne-eqb (keyAt b i) 0 u, ne-eqb (keyAt b i) k d)
 
 -- ---- the next change
-pub next-is : (b : Board) (s w : ℕ) → nextOf b s w < places → NextChange b s w (nextOf b s w)
+pub next-is : (b : Table) (s w : ℕ) → nextOf b s w < places → NextChange b s w (nextOf b s w)
 unfolding nextOf
 next-is b s w l = go (leastWhere (wantedB b s w) (versionAt b) 128) (least-is (wantedB b s w) (versionAt b) 128 (omega arith)) l
   where
@@ -284,7 +286,7 @@ next-is b s w l = go (leastWhere (wantedB b s w) (versionAt b) 128) (least-is (w
     go i (nobody e f) m = absurd (omega arith)
     go i (this a c e f) m = record { here = c; wanted = wanted-is b s w i e; smallest = λ j n r. f j n (is-wanted b s w j r) }
 
-pub next-none : (b : Board) (s w : ℕ) → places ≤ nextOf b s w → (j : ℕ) → j < places → Wanted b s w j → ⊥
+pub next-none : (b : Table) (s w : ℕ) → places ≤ nextOf b s w → (j : ℕ) → j < places → Wanted b s w j → ⊥
 unfolding nextOf
 next-none b s w l j m r = go (leastWhere (wantedB b s w) (versionAt b) 128) (least-is (wantedB b s w) (versionAt b) 128 (omega arith)) l
   where
@@ -292,6 +294,6 @@ next-none b s w l j m r = go (leastWhere (wantedB b s w) (versionAt b) 128) (lea
     go i (nobody e f) n = true≢false (sym (is-wanted b s w j r) ∙ f j m)
     go i (this a c e f) n = omega arith
 
-pub next-one : (b : Board) → Proper b → (s w i j : ℕ) → NextChange b s w i → NextChange b s w j → i ≡ j
+pub next-one : (b : Table) → Proper b → (s w i j : ℕ) → NextChange b s w i → NextChange b s w j → i ≡ j
 next-one b p s w i j x y =
     p .versions-distinct i j (x .here) (y .here) (wanted-used b s w i (x .wanted)) (omega (arith, x .smallest j (y .here) (y .wanted), y .smallest i (x .here) (x .wanted)))

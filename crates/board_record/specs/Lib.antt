@@ -1,4 +1,5 @@
 pub mod Sizes
 pub mod Table
+pub mod Record
 pub mod Search
 pub mod Proper

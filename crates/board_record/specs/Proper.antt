@@ -1,30 +1,29 @@
--- When a record is a board's (document 01, "The board": "Proper: keys of used places in range and distinct, their versions distinct, from 1 to
+-- When a table is a board's (document 01, "The board": "Proper: keys of used places in range and distinct, their versions distinct, from 1 to
 -- the board's version; removals above the floor; floor at most the version, that at most 2^64-2; path lengths multiples of 4 from 24 to 384;
--- removals' lengths and all numbers of empty places 0"). A removal's length is 0 by what the record calls a removal.
+-- removals' lengths and all numbers of empty places 0"). A removal's length is 0 by what the table calls a removal.
 use Prim.Native.Nat.{ℕ, zero, suc, _<_, _≤_, _%_}
 use mathlib.Core.Path.{_≡_}
 use mathlib.Core.Bool.{Bool, true, false, not, cond, _&&_, _||_}
 use mathlib.Core.List.{List}
 use lib.ListN.{getD}
 use lib.Dec.{eqb, ltb, leb}
-use Rattle.board_record.specs.declared.record.Board.{Board}
 use Rattle.board_record.specs.Sizes.{places, room, keyLeast, keyMost, versionMost, unit, bodyLeast}
-use Rattle.board_record.specs.Table.{keyAt, versionAt, lengthAt, Empty, Used, Removal, Path}
+use Rattle.board_record.specs.Table.{Table, Entry, keyAt, versionAt, lengthAt, entryAt, Empty, Used, RemovalAt, PathAt}
 
 -- the parts by name; of two places with one key or one version it is enough to say that they are the same place
-pub record Proper (b : Board) : Type 0 where
+pub record Proper (b : Table) : Type 0 where
   pub key-least : (i : ℕ) → i < places → Used b i → keyLeast ≤ keyAt b i
   pub key-most : (i : ℕ) → i < places → Used b i → keyAt b i ≤ keyMost
   pub keys-distinct : (i j : ℕ) → i < places → j < places → Used b i → keyAt b i ≡ keyAt b j → i ≡ j
   pub versions-distinct : (i j : ℕ) → i < places → j < places → Used b i → versionAt b i ≡ versionAt b j → i ≡ j
   pub version-least : (i : ℕ) → i < places → Used b i → 1 ≤ versionAt b i
   pub version-most : (i : ℕ) → i < places → Used b i → versionAt b i ≤ b .version
-  pub removal-above : (i : ℕ) → i < places → Removal b i → b .floor < versionAt b i
+  pub removal-above : (i : ℕ) → i < places → RemovalAt b i → b .floor < versionAt b i
   pub floor-in : b .floor ≤ b .version
   pub version-in : b .version ≤ versionMost
-  pub length-unit : (i : ℕ) → i < places → Path b i → lengthAt b i % unit ≡ 0
-  pub length-least : (i : ℕ) → i < places → Path b i → bodyLeast ≤ lengthAt b i
-  pub length-most : (i : ℕ) → i < places → Path b i → lengthAt b i ≤ room
+  pub length-unit : (i : ℕ) → i < places → PathAt b i → lengthAt b i % unit ≡ 0
+  pub length-least : (i : ℕ) → i < places → PathAt b i → bodyLeast ≤ lengthAt b i
+  pub length-most : (i : ℕ) → i < places → PathAt b i → lengthAt b i ≤ room
   pub empty-version : (i : ℕ) → i < places → Empty b i → versionAt b i ≡ 0
   pub empty-length : (i : ℕ) → i < places → Empty b i → lengthAt b i ≡ 0
 
@@ -34,14 +33,15 @@ unfoldable pub allBelow : (ℕ → Bool) → ℕ → Bool
 allBelow t zero = true
 allBelow t (suc n) = allBelow t n && t n
 
--- one place by itself: key, version and length, under a board's version and floor
-unfoldable pub placeOk : ℕ → ℕ → ℕ → ℕ → ℕ → Bool
-placeOk k v l top floor =
-    cond (eqb k 0) (eqb l 0 && eqb v 0)
-    (leb k keyMost && leb 1 v && leb v top && cond (eqb l 0) (ltb floor v) (eqb (l % unit) 0 && leb bodyLeast l && leb l room))
+-- one place by itself: what it holds, under a board's version and floor
+unfoldable pub placeOk : Entry → ℕ → ℕ → Bool
+placeOk e top floor =
+    cond (eqb (e .key) 0) (eqb (e .length) 0 && eqb (e .version) 0)
+    (leb (e .key) keyMost && leb 1 (e .version) && leb (e .version) top
+    && cond (eqb (e .length) 0) (ltb floor (e .version)) (eqb (e .length % unit) 0 && leb bodyLeast (e .length) && leb (e .length) room))
 
-unfoldable pub soundB : Board → ℕ → Bool
-soundB b i = placeOk (keyAt b i) (versionAt b i) (lengthAt b i) (b .version) (b .floor)
+unfoldable pub soundB : Table → ℕ → Bool
+soundB b i = placeOk (entryAt b i) (b .version) (b .floor)
 
 -- none of the first i numbers is k
 unfoldable pub freshB : List ℕ → ℕ → ℕ → Bool
@@ -55,5 +55,5 @@ newB xs i = eqb (getD xs i 0) 0 || freshB xs i (getD xs i 0)
 unfoldable pub distinctB : List ℕ → Bool
 distinctB xs = allBelow (newB xs) places
 
-unfoldable pub properB : Board → Bool
+unfoldable pub properB : Table → Bool
 properB b = leb (b .floor) (b .version) && leb (b .version) versionMost && allBelow (soundB b) places && distinctB (b .keys) && distinctB (b .versions)

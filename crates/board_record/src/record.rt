@@ -1,7 +1,7 @@
 // The record of a board. Place i is `keys[i]`, `versions[i]` and `lengths[i]`: key 0 is an empty place, a key with
 // length 0 the mark of a removal, a key with another length a path whose body has that many octets.
 ghost use mathlib.Core.Path.{_≡_};
-ghost use Rattle.board_record.specs.Table.{emptyBoard};
+ghost use Rattle.board_record.specs.Record.{emptyBoard};
 
 pub struct Board {
     pub keys: [u32; 128],

@@ -1,5 +1,5 @@
--- 17 is answered exactly if the store is shorter than 49,152 octets or the record isn't proper, by every call, before any other number. Assumes
--- nothing.
+-- 17 is answered exactly if the store is shorter than 49,152 octets or the record isn't proper, by every call, before any other number: it is the
+-- first rule of each, and no later rule, nor any route check, answers it. Assumes nothing.
 use Prim.Native.Nat.{ℕ, _+_, _<_, _≤_, max}
 use native.Mathlib.Omega.{arith}
 use mathlib.Core.Path.{_≡_, refl, sym, ap, _∙_}
@@ -13,10 +13,9 @@ use Rattle.answers.specs.Verdicts.{refusedBy, acceptedWith}
 use Rattle.session.specs.declared.Session.{Session}
 use Rattle.route.specs.Routes.{judgeOf}
 use Rattle.route.proofs.Numbers.{judge-low}
-use Rattle.board_record.specs.declared.record.Board.{Board}
 use Rattle.board_record.specs.Sizes.{places, room, versionMost}
+use Rattle.board_record.specs.Table.{Table}
 use Rattle.board_record.specs.Search.{targetOf}
-use Rattle.board_rules.specs.declared.answer.Answer.{Answer}
 use Rattle.board_rules.specs.declared.answer.Handed.{Handed}
 use Rattle.board_rules.specs.declared.answer.Handed.the-variants.{Refused, Path, Removed, Level}
 use Rattle.board_rules.specs.Rules.{isBoard, inRange, hasPath}
@@ -28,10 +27,10 @@ use Rattle.board_rules.specs.Next.{nextRules, nextVerdict, nextAnswer}
 use Rattle.board_rules.proofs.Verdicts.{Whole, board-whole, whole-board}
 
 -- no board: the store is short or the record not proper
-abbrev pub NoBoard : Board → ℕ → Type 0
+abbrev pub NoBoard : Table → ℕ → Type 0
 NoBoard b n = Whole b n → ⊥
 
-no-board : (b : Board) (n : ℕ) → NoBoard b n → isBoard b n ≡ false
+no-board : (b : Table) (n : ℕ) → NoBoard b n → isBoard b n ≡ false
 no-board b n f = go (isBoard b n) refl
   where
     go : (x : Bool) → isBoard b n ≡ x → isBoard b n ≡ false
@@ -44,7 +43,7 @@ other true n x f g e = f e
 other false n x f g e = g e
 
 -- ---- report
-module _ (b : Board) (store : List ℕ) (k : ℕ) (ero : List ℕ) (session : Session) (pst : ℕ) where
+module _ (b : Table) (store : List ℕ) (k : ℕ) (ero : List ℕ) (session : Session) (pst : ℕ) where
   pub report-17-then : NoBoard b (length store) → reportAnswer b store k ero session pst .verdict ≡ refusedBy notABoard 0
   unfolding reportAnswer reportWith reportVerdict reportRules
   report-17-then f = rw (no-board b (length store) f)
@@ -76,7 +75,7 @@ module _ (b : Board) (store : List ℕ) (k : ℕ) (ero : List ℕ) (session : Se
               (other (eqb (b .version) versionMost) 20 _ (λ y. omega arith) (other (leb places (targetOf b k)) 21 route (λ y. omega arith) (λ y. omega arith))) z
 
 -- ---- remove
-module _ (b : Board) (store : List ℕ) (k : ℕ) where
+module _ (b : Table) (store : List ℕ) (k : ℕ) where
   pub remove-17-then : NoBoard b (length store) → removeAnswer b store k .verdict ≡ refusedBy notABoard 0
   unfolding removeAnswer removeVerdict removeRules
   remove-17-then f = rw (no-board b (length store) f)
@@ -100,7 +99,7 @@ module _ (b : Board) (store : List ℕ) (k : ℕ) where
       (rw (whole-board b (length store) w) at e)
 
 -- ---- compact
-module _ (b : Board) (store : List ℕ) (m : ℕ) where
+module _ (b : Table) (store : List ℕ) (m : ℕ) where
   pub compact-17-then : NoBoard b (length store) → compactAnswer b store m .verdict ≡ refusedBy notABoard 0
   unfolding compactAnswer compactVerdict compactRules
   compact-17-then f = rw (no-board b (length store) f)
@@ -110,7 +109,7 @@ module _ (b : Board) (store : List ℕ) (m : ℕ) where
   compact-17-only e w = other (ltb (b .version) m) 24 (acceptedWith 0) (λ y. omega arith) (λ y. omega arith) (rw (whole-board b (length store) w) at e)
 
 -- ---- next
-module _ (b : Board) (store : List ℕ) (s w : ℕ) where
+module _ (b : Table) (store : List ℕ) (s w : ℕ) where
   pub next-17-then : NoBoard b (length store) → nextAnswer b store s w ≡ Refused (refusedBy notABoard 0)
   unfolding nextAnswer nextVerdict nextRules
   next-17-then f = rw (no-board b (length store) f)

@@ -1,5 +1,6 @@
--- Every call hands a proper record back if it got one; version and floor never fall, and the version rises by exactly 1 with each accepted report or
--- removal and with nothing else. Assumes nothing.
+-- Every call leaves a proper table if it got one; version and floor never fall, and the version rises by exactly 1 with each accepted report or
+-- removal and with nothing else. A report and a removal are a change at one place, which fits (`Fitting`) by the rules that were passed; a compaction
+-- leaves each place as it was or empty (`Left`). Assumes nothing.
 use Prim.Native.Nat.{ℕ, zero, suc, _+_, _*_, _<_, _≤_, _%_, max}
 use native.Mathlib.Omega.{arith}
 use mathlib.Core.Path.{_≡_, refl, sym, ap, _∙_, subst}
@@ -15,28 +16,26 @@ use Rattle.answers.specs.Verdicts.{kept}
 use Rattle.session.specs.declared.Session.{Session}
 use Rattle.route.specs.Routes.{judgeOf}
 use Rattle.route.proofs.Answer.{accepted-body}
-use Rattle.board_record.specs.declared.record.Board.{Board}
 use Rattle.board_record.specs.Sizes.{places, room, unit, bodyLeast, versionMost}
-use Rattle.board_record.specs.Table.{boardOf, Sized, keyAt, versionAt, lengthAt, Empty, Used, Removal, changed, removalB}
+use Rattle.board_record.specs.Table.{Table, tableOf, Sized, keyAt, versionAt, lengthAt, Empty, Used, RemovalAt, bearing, entryAt, changed, removalB}
 use Rattle.board_record.specs.Search.{KeyPlace, placeOf, LowestEmpty, OldestRemoval, ReportPlace, keeps, takes, drops, targetOf, floorAfter}
 use Rattle.board_record.specs.Proper.{Proper}
 use Rattle.board_record.proofs.Logic.{true≢false, and-true, same?}
 use Rattle.board_record.proofs.Search.{removal-is, is-removal, report-place-is, floor-keeps, floor-takes, floor-drops}
 use Rattle.board_record.proofs.Proper.{Sound, proper-sound, sound-proper}
 use Rattle.board_record.proofs.Changed.{Storable, Fitting, changed-sized, changed-proper}
-use Rattle.board_rules.specs.declared.answer.Answer.{Answer}
 use Rattle.board_rules.specs.Report.{bodyIn, reportVerdict, reported, reportWith, reportAnswer}
 use Rattle.board_rules.specs.Remove.{removeVerdict, removed, removeAnswer}
 use Rattle.board_rules.specs.Compact.{compactVerdict, dropped, row, compacted, compactAnswer}
 use Rattle.board_rules.proofs.Verdicts.{kept-old, kept-new, ReportPassed, report-passed, RemovePassed, remove-passed, CompactPassed, compact-passed}
 
 -- ---- report
-pub record Body (ero : List ℕ) : Type 0 where
+pub record BodyFits (ero : List ℕ) : Type 0 where
   pub least : bodyLeast ≤ length (bodyIn ero)
   pub four : length (bodyIn ero) % unit ≡ 0
 
 -- where a report goes, and the floor after it, fit the board
-report-fits : (b : Board) → Proper b → (k n i : ℕ) → 1 ≤ k → k ≤ 1048574 → Storable n → (b .version ≡ versionMost → ⊥) → i < places → ReportPlace b k i → Fitting b i k n (floorAfter b k i)
+report-fits : (b : Table) → Proper b → (k n i : ℕ) → 1 ≤ k → k ≤ 1048574 → Storable n → (b .version ≡ versionMost → ⊥) → i < places → ReportPlace b k i → Fitting b i (bearing b k n) (floorAfter b k i)
 report-fits b p k n i low high size left here (keeps x) =
     let e = floor-keeps b k i (x .key) in
     record {
@@ -44,6 +43,7 @@ report-fits b p k n i low high size left here (keeps x) =
       low = low;
       high = high;
       size = size;
+      newer = omega arith;
       top = omega (arith, p .version-in, left);
       floor = omega (arith, e, p .floor-in);
       only = λ j l d q. d (p .keys-distinct j i l here (λ z. omega (arith, sym q ∙ z)) (q ∙ sym (x .key)));
@@ -56,6 +56,7 @@ report-fits b p k n i low high size left here (takes new x) =
       low = low;
       high = high;
       size = size;
+      newer = omega arith;
       top = omega (arith, p .version-in, left);
       floor = omega (arith, e, p .floor-in);
       only = λ j l d. new j l;
@@ -68,6 +69,7 @@ report-fits b p k n i low high size left here (drops new used x) =
       low = low;
       high = high;
       size = size;
+      newer = omega arith;
       top = omega (arith, p .version-in, left);
       floor = omega (arith, e, p .version-most i here (x .removal .used));
       only = λ j l d. new j l;
@@ -76,20 +78,20 @@ report-fits b p k n i low high size left here (drops new used x) =
           omega (arith, e, x .oldest j l r, apart);
     }
 
-pub reported-proper : (b : Board) (store : List ℕ) (k : ℕ) (ero : List ℕ) (route : Verdict) → Sized b → Body ero → reportVerdict b store k ero route .number ≡ 0 → Proper (reported b k ero)
+pub reported-proper : (b : Table) (store : List ℕ) (k : ℕ) (ero : List ℕ) (route : Verdict) → Sized b → BodyFits ero → reportVerdict b store k ero route .number ≡ 0 → Proper (reported b k ero)
 unfolding reported
 reported-proper b store k ero route s y z =
     let g = report-passed b store k ero route z in
     let p = g .whole .proper in
     let size : Storable (length (bodyIn ero)) = record { most = g .size; four = y .four; least = λ d. y .least } in
-    changed-proper b (targetOf b k) k (length (bodyIn ero)) (floorAfter b k (targetOf b k)) s p
+    changed-proper b (targetOf b k) (bearing b k (length (bodyIn ero))) (floorAfter b k (targetOf b k)) s p
     (report-fits b p k (length (bodyIn ero)) (targetOf b k) (g .key-least) (g .key-most) size (g .versions-left) (g .place) (report-place-is b k (g .place)))
 
 -- a test on whether a verdict is an acceptance
 taken? : (v : Verdict) → (v .number ≡ 0) ⊎ (v .number ≡ 0 → ⊥)
 taken? v = same? (v .number) 0
 
-pub report-proper : (b : Board) (store : List ℕ) (k : ℕ) (ero : List ℕ) (session : Session) (pst : ℕ) → Sized b → Proper b → Proper (reportAnswer b store k ero session pst .board)
+pub report-proper : (b : Table) (store : List ℕ) (k : ℕ) (ero : List ℕ) (session : Session) (pst : ℕ) → Sized b → Proper b → Proper (reportAnswer b store k ero session pst .table)
 unfolding reportAnswer reportWith
 report-proper b store k ero session pst s p = ⊎-elim yes no (taken? (reportVerdict b store k ero (judgeOf ero true session pst)))
   where
@@ -104,24 +106,25 @@ report-proper b store k ero session pst s p = ⊎-elim yes no (taken? (reportVer
     no d = rw (kept-old (reportVerdict b store k ero (judgeOf ero true session pst) .number) b (reported b k ero) d) p
 
 -- ---- remove
-pub removed-proper : (b : Board) (store : List ℕ) (k : ℕ) → Sized b → removeVerdict b store k .number ≡ 0 → Proper (removed b k)
+pub removed-proper : (b : Table) (store : List ℕ) (k : ℕ) → Sized b → removeVerdict b store k .number ≡ 0 → Proper (removed b k)
 unfolding removed
 removed-proper b store k s z =
     let g = remove-passed b store k z in
     let p = g .whole .proper in
-    changed-proper b (placeOf b k) k 0 (b .floor) s p
+    changed-proper b (placeOf b k) (bearing b k 0) (b .floor) s p
     (record {
       here = g .place .here;
       low = g .key-least;
       high = g .key-most;
       size = record { most = omega arith; four = refl; least = λ d. absurd (d refl) };
+      newer = omega arith;
       top = omega (arith, p .version-in, g .versions-left);
       floor = p .floor-in;
       only = λ j l d q. d (p .keys-distinct j (placeOf b k) l (g .place .here) (λ e. omega (arith, g .key-least, sym q ∙ e)) (q ∙ sym (g .place .key)));
       marks = λ j l d r. p .removal-above j l r;
     })
 
-pub remove-proper : (b : Board) (store : List ℕ) (k : ℕ) → Sized b → Proper b → Proper (removeAnswer b store k .board)
+pub remove-proper : (b : Table) (store : List ℕ) (k : ℕ) → Sized b → Proper b → Proper (removeAnswer b store k .table)
 unfolding removeAnswer
 remove-proper b store k s p =
     ⊎-elim (λ z. rw (kept-new (removeVerdict b store k .number) b (removed b k) z) (removed-proper b store k s z))
@@ -144,7 +147,7 @@ row-at f (suc n) i l = go (row-at f n i) (same? i n)
         ap (λ (m : ℕ). getD (row f n ++ (f n ∷ [])) m 0) q ∙ getD-append-add (row f n) (f n ∷ []) 0 0 ∙ ap f (sym e)
     go p (inr d) = List·getD-append (row f n) (f n ∷ []) 0 i (omega (arith, d, length-row f n)) ∙ p (omega (arith, d))
 
-module _ (b : Board) (m : ℕ) where
+module _ (b : Table) (m : ℕ) where
   pub compacted-key : (i : ℕ) → i < places → keyAt (compacted b m) i ≡ cond (dropped b m i) 0 (keyAt b i)
   unfolding compacted
   compacted-key i l = row-at (λ j. cond (dropped b m j) 0 (keyAt b j)) 128 i l
@@ -153,11 +156,11 @@ module _ (b : Board) (m : ℕ) where
   unfolding compacted
   compacted-version i l = row-at (λ j. cond (dropped b m j) 0 (versionAt b j)) 128 i l
 
-  dropped-is : (i : ℕ) → dropped b m i ≡ true → Removal b i × (versionAt b i ≤ m)
+  dropped-is : (i : ℕ) → dropped b m i ≡ true → RemovalAt b i × (versionAt b i ≤ m)
   unfolding dropped
   dropped-is i e = let p = and-true (removalB b i) (leb (versionAt b i) m) e in (removal-is b i (p .0), leb-true (versionAt b i) m (p .1))
 
-  kept-above : (i : ℕ) → dropped b m i ≡ false → Removal b i → m < versionAt b i
+  kept-above : (i : ℕ) → dropped b m i ≡ false → RemovalAt b i → m < versionAt b i
   unfolding dropped
   kept-above i e r = leb-false (versionAt b i) m (rw (is-removal b i r) at e)
 
@@ -181,7 +184,7 @@ module _ (b : Board) (m : ℕ) where
       (λ i j l k u e. keys i j l k u e (left i l) (left j k))
       (λ i j l k u e. versions i j l k u e (left i l) (left j k))
     where
-      at : (i : ℕ) → i < places → Left i → Sound (keyAt (compacted b m) i) (versionAt (compacted b m) i) (lengthAt (compacted b m) i) (b .version) (max (b .floor) m)
+      at : (i : ℕ) → i < places → Left i → Sound (entryAt (compacted b m) i) (b .version) (max (b .floor) m)
       at i l (gone e f g) =
           record { none = λ y. (f, g); key = omega arith; low = λ y. absurd (y e); high = omega arith; mark = λ y w. absurd (y e); least = λ y. absurd (y g); most = omega arith; four = omega arith }
       at i l (same d e f) =
@@ -192,7 +195,7 @@ module _ (b : Board) (m : ℕ) where
             key = o .key;
             low = o .low;
             high = o .high;
-            mark = λ y w. let r : Removal b i = record { used = y; bare = w } in omega (arith, kept-above i d r, o .mark y w);
+            mark = λ y w. let r : RemovalAt b i = record { used = y; bare = w } in omega (arith, kept-above i d r, o .mark y w);
             least = o .least;
             most = o .most;
             four = o .four;
@@ -208,19 +211,19 @@ module _ (b : Board) (m : ℕ) where
       versions i j l k u e (same d x y) (gone x′ y′ z′) = absurd (omega (arith, p .version-least i l (λ z. u (x ∙ z)), sym y ∙ e ∙ y′))
       versions i j l k u e (same d x y) (same d′ x′ y′) = p .versions-distinct i j l k (λ z. u (x ∙ z)) (sym y ∙ e ∙ y′)
 
-pub compact-proper : (b : Board) (store : List ℕ) (m : ℕ) → Proper b → Proper (compactAnswer b store m .board)
+pub compact-proper : (b : Table) (store : List ℕ) (m : ℕ) → Proper b → Proper (compactAnswer b store m .table)
 unfolding compactAnswer
 compact-proper b store m p =
     ⊎-elim (λ z. rw (kept-new (compactVerdict b store m .number) b (compacted b m) z) (compacted-proper b m p (compact-passed b store m z .reached)))
     (λ d. rw (kept-old (compactVerdict b store m .number) b (compacted b m) d) p) (taken? (compactVerdict b store m))
 
 -- ---- version and floor
-module _ (b : Board) (store : List ℕ) (k : ℕ) (ero : List ℕ) (session : Session) (pst : ℕ) where
-  pub report-raises : reportAnswer b store k ero session pst .verdict .number ≡ 0 → reportAnswer b store k ero session pst .board .version ≡ b .version + 1
+module _ (b : Table) (store : List ℕ) (k : ℕ) (ero : List ℕ) (session : Session) (pst : ℕ) where
+  pub report-raises : reportAnswer b store k ero session pst .verdict .number ≡ 0 → reportAnswer b store k ero session pst .table .version ≡ b .version + 1
   unfolding reportAnswer reportWith reported
-  report-raises z = ap (λ (x : Board). x .version) (kept-new (reportVerdict b store k ero (judgeOf ero true session pst) .number) b (reported b k ero) z)
+  report-raises z = ap (λ (x : Table). x .version) (kept-new (reportVerdict b store k ero (judgeOf ero true session pst) .number) b (reported b k ero) z)
 
-  pub report-refused-keeps : (reportAnswer b store k ero session pst .verdict .number ≡ 0 → ⊥) → reportAnswer b store k ero session pst .board ≡ b
+  pub report-refused-keeps : (reportAnswer b store k ero session pst .verdict .number ≡ 0 → ⊥) → reportAnswer b store k ero session pst .table ≡ b
   unfolding reportAnswer reportWith
   report-refused-keeps d = kept-old (reportVerdict b store k ero (judgeOf ero true session pst) .number) b (reported b k ero) d
 
@@ -235,40 +238,40 @@ module _ (b : Board) (store : List ℕ) (k : ℕ) (ero : List ℕ) (session : Se
       rises i p (takes n x) = omega (arith, floor-takes b k i (x .empty))
       rises i p (drops n u x) = omega (arith, floor-drops b k i (x .removal .used) (n i (x .here)), p .removal-above i (x .here) (x .removal))
 
-  pub report-floor : b .floor ≤ reportAnswer b store k ero session pst .board .floor
+  pub report-floor : b .floor ≤ reportAnswer b store k ero session pst .table .floor
   unfolding reportAnswer reportWith
   report-floor =
       ⊎-elim (λ z. rw (kept-new (reportVerdict b store k ero (judgeOf ero true session pst) .number) b (reported b k ero) z) (reported-floor z))
       (λ d. rw (kept-old (reportVerdict b store k ero (judgeOf ero true session pst) .number) b (reported b k ero) d) (omega arith))
       (taken? (reportVerdict b store k ero (judgeOf ero true session pst)))
 
-module _ (b : Board) (store : List ℕ) (k : ℕ) where
-  pub remove-raises : removeAnswer b store k .verdict .number ≡ 0 → removeAnswer b store k .board .version ≡ b .version + 1
+module _ (b : Table) (store : List ℕ) (k : ℕ) where
+  pub remove-raises : removeAnswer b store k .verdict .number ≡ 0 → removeAnswer b store k .table .version ≡ b .version + 1
   unfolding removeAnswer removed
-  remove-raises z = ap (λ (x : Board). x .version) (kept-new (removeVerdict b store k .number) b (removed b k) z)
+  remove-raises z = ap (λ (x : Table). x .version) (kept-new (removeVerdict b store k .number) b (removed b k) z)
 
-  pub remove-refused-keeps : (removeAnswer b store k .verdict .number ≡ 0 → ⊥) → removeAnswer b store k .board ≡ b
+  pub remove-refused-keeps : (removeAnswer b store k .verdict .number ≡ 0 → ⊥) → removeAnswer b store k .table ≡ b
   unfolding removeAnswer
   remove-refused-keeps d = kept-old (removeVerdict b store k .number) b (removed b k) d
 
-  pub remove-floor : removeAnswer b store k .board .floor ≡ b .floor
+  pub remove-floor : removeAnswer b store k .table .floor ≡ b .floor
   unfolding removeAnswer removed
   remove-floor =
-      ⊎-elim (λ z. ap (λ (x : Board). x .floor) (kept-new (removeVerdict b store k .number) b (removed b k) z))
-      (λ d. ap (λ (x : Board). x .floor) (kept-old (removeVerdict b store k .number) b (removed b k) d)) (taken? (removeVerdict b store k))
+      ⊎-elim (λ z. ap (λ (x : Table). x .floor) (kept-new (removeVerdict b store k .number) b (removed b k) z))
+      (λ d. ap (λ (x : Table). x .floor) (kept-old (removeVerdict b store k .number) b (removed b k) d)) (taken? (removeVerdict b store k))
 
-module _ (b : Board) (store : List ℕ) (m : ℕ) where
-  pub compact-keeps-version : compactAnswer b store m .board .version ≡ b .version
+module _ (b : Table) (store : List ℕ) (m : ℕ) where
+  pub compact-keeps-version : compactAnswer b store m .table .version ≡ b .version
   unfolding compactAnswer compacted
   compact-keeps-version =
-      ⊎-elim (λ z. ap (λ (x : Board). x .version) (kept-new (compactVerdict b store m .number) b (compacted b m) z))
-      (λ d. ap (λ (x : Board). x .version) (kept-old (compactVerdict b store m .number) b (compacted b m) d)) (taken? (compactVerdict b store m))
+      ⊎-elim (λ z. ap (λ (x : Table). x .version) (kept-new (compactVerdict b store m .number) b (compacted b m) z))
+      (λ d. ap (λ (x : Table). x .version) (kept-old (compactVerdict b store m .number) b (compacted b m) d)) (taken? (compactVerdict b store m))
 
-  pub compact-refused-keeps : (compactAnswer b store m .verdict .number ≡ 0 → ⊥) → compactAnswer b store m .board ≡ b
+  pub compact-refused-keeps : (compactAnswer b store m .verdict .number ≡ 0 → ⊥) → compactAnswer b store m .table ≡ b
   unfolding compactAnswer
   compact-refused-keeps d = kept-old (compactVerdict b store m .number) b (compacted b m) d
 
   -- "the floor becomes c if that is higher"
-  pub compact-floor : compactAnswer b store m .verdict .number ≡ 0 → compactAnswer b store m .board .floor ≡ max (b .floor) m
+  pub compact-floor : compactAnswer b store m .verdict .number ≡ 0 → compactAnswer b store m .table .floor ≡ max (b .floor) m
   unfolding compactAnswer compacted
-  compact-floor z = ap (λ (x : Board). x .floor) (kept-new (compactVerdict b store m .number) b (compacted b m) z)
+  compact-floor z = ap (λ (x : Table). x .floor) (kept-new (compactVerdict b store m .number) b (compacted b m) z)

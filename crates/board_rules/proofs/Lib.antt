@@ -4,3 +4,5 @@ pub mod Words
 pub mod Keeps
 pub mod Exact
 pub mod Stores
+pub mod Inside
+pub mod Told

@@ -7,19 +7,18 @@ use lib.ListN.{getD}
 use lib.Dec.{eqb, ltb}
 use borrow.Author.Tests.{lt-ltb, le-ltb, le-leb}
 use native.Mathlib.Omega.{arith}
-use Rattle.board_record.specs.declared.record.Board.{Board}
 use Rattle.board_record.specs.Sizes.{places, storeSize}
-use Rattle.board_record.specs.Table.{lengthAt}
+use Rattle.board_record.specs.Table.{Table, lengthAt}
 use Rattle.board_record.specs.Search.{placeOf}
 use Rattle.board_record.specs.Proper.{properB}
 use Rattle.board_rules.specs.Rules.{isBoard, lengthIn, hasPath}
 
-pub board-long : (b : Board) (n : ℕ) (r : Bool) → storeSize ≤ n → r ≡ properB b → r ≡ isBoard b n
+pub board-long : (b : Table) (n : ℕ) (r : Bool) → storeSize ≤ n → r ≡ properB b → r ≡ isBoard b n
 unfolding isBoard
 board-long b n r l e = rw (le-leb 49152 n l) e
 
 -- the test for a path, on the numbers that the code has
-pub path-test : (b : Board) (k at n : ℕ) → at ≡ placeOf b k → n ≡ lengthIn (b .lengths) at → (ltb at places && not (eqb n 0)) ≡ hasPath b k
+pub path-test : (b : Table) (k at n : ℕ) → at ≡ placeOf b k → n ≡ lengthIn (b .lengths) at → (ltb at places && not (eqb n 0)) ≡ hasPath b k
 unfolding hasPath lengthIn
 path-test b k at n e f = rw (f, ← e) (go (ltb at places))
   where

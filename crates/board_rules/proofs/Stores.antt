@@ -11,20 +11,18 @@ use Rattle.octets.specs.Octets.{part, placed}
 use Rattle.octets.proofs.Laws.{length-placed, getD-before, getD-behind, part-placed-same}
 use Rattle.session.specs.declared.Session.{Session}
 use Rattle.route.specs.Routes.{judgeOf}
-use Rattle.board_record.specs.declared.record.Board.{Board}
 use Rattle.board_record.specs.Sizes.{room}
-use Rattle.board_record.specs.Table.{Sized}
+use Rattle.board_record.specs.Table.{Table, Sized, bearing}
 use Rattle.board_record.specs.Search.{targetOf, placeOf, floorAfter}
 use Rattle.board_record.proofs.Logic.{same?}
 use Rattle.board_record.proofs.Changed.{changed-sized}
-use Rattle.board_rules.specs.declared.answer.Answer.{Answer}
 use Rattle.board_rules.specs.Report.{bodyIn, reportVerdict, reported, reportWith, storeWith, reportAnswer, reportStore}
 use Rattle.board_rules.specs.Remove.{removeVerdict, removed, removeAnswer}
 use Rattle.board_rules.specs.Compact.{compactVerdict, compacted, compactAnswer}
 use Rattle.board_rules.proofs.Verdicts.{kept-old, kept-new, report-passed}
 use Rattle.board_rules.proofs.Keeps.{length-row}
 
-module _ (b : Board) (store : List ℕ) (k : ℕ) (ero : List ℕ) (session : Session) (pst : ℕ) where
+module _ (b : Table) (store : List ℕ) (k : ℕ) (ero : List ℕ) (session : Session) (pst : ℕ) where
   pub report-refused-writes-nothing : (reportAnswer b store k ero session pst .verdict .number ≡ 0 → ⊥) → reportStore b store k ero session pst ≡ store
   unfolding reportAnswer reportWith reportStore storeWith
   report-refused-writes-nothing d = kept-old (reportVerdict b store k ero (judgeOf ero true session pst) .number) store (placed store (room * targetOf b k) (bodyIn ero)) d
@@ -53,22 +51,22 @@ module _ (b : Board) (store : List ℕ) (k : ℕ) (ero : List ℕ) (session : Se
       (λ d. ap (λ (s : List ℕ). getD s m 0) (report-refused-writes-nothing d)) (same? (reportAnswer b store k ero session pst .verdict .number) 0)
 
   -- ---- and the record keeps its size
-  pub report-sized : Sized b → Sized (reportAnswer b store k ero session pst .board)
+  pub report-sized : Sized b → Sized (reportAnswer b store k ero session pst .table)
   unfolding reportAnswer reportWith reported
   report-sized s =
       ⊎-elim
       (λ z. rw (kept-new (reportVerdict b store k ero (judgeOf ero true session pst) .number) b (reported b k ero) z)
-      (changed-sized b (targetOf b k) k (length (bodyIn ero)) (floorAfter b k (targetOf b k)) s))
+      (changed-sized b (targetOf b k) (bearing b k (length (bodyIn ero))) (floorAfter b k (targetOf b k)) s))
       (λ d. rw (kept-old (reportVerdict b store k ero (judgeOf ero true session pst) .number) b (reported b k ero) d) s)
       (same? (reportVerdict b store k ero (judgeOf ero true session pst) .number) 0)
 
-pub remove-sized : (b : Board) (store : List ℕ) (k : ℕ) → Sized b → Sized (removeAnswer b store k .board)
+pub remove-sized : (b : Table) (store : List ℕ) (k : ℕ) → Sized b → Sized (removeAnswer b store k .table)
 unfolding removeAnswer removed
 remove-sized b store k s =
-    ⊎-elim (λ z. rw (kept-new (removeVerdict b store k .number) b (removed b k) z) (changed-sized b (placeOf b k) k 0 (b .floor) s))
+    ⊎-elim (λ z. rw (kept-new (removeVerdict b store k .number) b (removed b k) z) (changed-sized b (placeOf b k) (bearing b k 0) (b .floor) s))
     (λ d. rw (kept-old (removeVerdict b store k .number) b (removed b k) d) s) (same? (removeVerdict b store k .number) 0)
 
-pub compact-sized : (b : Board) (store : List ℕ) (m : ℕ) → Sized b → Sized (compactAnswer b store m .board)
+pub compact-sized : (b : Table) (store : List ℕ) (m : ℕ) → Sized b → Sized (compactAnswer b store m .table)
 unfolding compactAnswer compacted
 compact-sized b store m s =
     ⊎-elim (λ z. rw (kept-new (compactVerdict b store m .number) b (compacted b m) z) (record { keys = length-row _ 128; versions = length-row _ 128; lengths = s .lengths }))

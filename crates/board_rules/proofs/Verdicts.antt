@@ -1,4 +1,6 @@
--- When a call answers which number: the passed rules of an acceptance, and the numbers that 01 gives exactly. Assumes nothing.
+-- When a call answers which number: the passed rules of an acceptance, and the numbers that 01 gives exactly. A call's rules are a chain of tests, so an
+-- acceptance says that each was passed (`rule-passed`), and a number that all rules before it let pass is answered exactly if its own test says so.
+-- Assumes nothing.
 use Prim.Native.Nat.{ℕ, zero, suc, _+_, _*_, _<_, _≤_, _%_, max}
 use native.Mathlib.Omega.{arith}
 use mathlib.Core.Path.{_≡_, refl, sym, ap, _∙_}
@@ -11,9 +13,8 @@ use borrow.Author.Tests.{eq-eqb, ne-eqb, eqb-true, eqb-false, lt-ltb, le-ltb, lt
 use Rattle.answers.specs.declared.verdict.Verdict.{Verdict}
 use Rattle.answers.specs.Numbers.{notABoard, keyOutOfRange, bodyTooLong, versionsUsedUp, allPaths, noPath, markTooOld, markAhead}
 use Rattle.answers.specs.Verdicts.{refusedBy, acceptedWith, kept}
-use Rattle.board_record.specs.declared.record.Board.{Board}
 use Rattle.board_record.specs.Sizes.{places, room, storeSize, keyLeast, keyMost, versionMost}
-use Rattle.board_record.specs.Table.{lengthAt, Path}
+use Rattle.board_record.specs.Table.{Table, lengthAt, PathAt}
 use Rattle.board_record.specs.Search.{placeOf, KeyPlace, targetOf}
 use Rattle.board_record.specs.Proper.{Proper, properB}
 use Rattle.board_record.proofs.Logic.{true≢false, and-true, and-false, from?}
@@ -54,22 +55,22 @@ range-passed k e =
     (leb-true keyLeast k (p .0), leb-true k keyMost (p .1))
 
 -- ---- 17: "exactly if the store is shorter than 49,152 octets or the record isn't proper"
-pub record Whole (b : Board) (n : ℕ) : Type 0 where
+pub record Whole (b : Table) (n : ℕ) : Type 0 where
   pub store : storeSize ≤ n
   pub proper : Proper b
 
-pub board-whole : (b : Board) (n : ℕ) → isBoard b n ≡ true → Whole b n
+pub board-whole : (b : Table) (n : ℕ) → isBoard b n ≡ true → Whole b n
 unfolding isBoard
 board-whole b n e =
     let p = and-true (leb storeSize n) (properB b) e in
     record { store = leb-true storeSize n (p .0); proper = proper-is b (p .1) }
 
-pub whole-board : (b : Board) (n : ℕ) → Whole b n → isBoard b n ≡ true
+pub whole-board : (b : Table) (n : ℕ) → Whole b n → isBoard b n ≡ true
 unfolding isBoard
 whole-board b n w = rw (le-leb storeSize n (w .store), is-proper b (w .proper))
 
 -- ---- report
-pub record ReportPassed (b : Board) (store : List ℕ) (k : ℕ) (ero : List ℕ) (route : Verdict) : Type 0 where
+pub record ReportPassed (b : Table) (store : List ℕ) (k : ℕ) (ero : List ℕ) (route : Verdict) : Type 0 where
   pub whole : Whole b (length store)
   pub key-least : keyLeast ≤ k
   pub key-most : k ≤ keyMost
@@ -78,7 +79,7 @@ pub record ReportPassed (b : Board) (store : List ℕ) (k : ℕ) (ero : List ℕ
   pub versions-left : b .version ≡ versionMost → ⊥
   pub place : targetOf b k < places
 
-pub report-passed : (b : Board) (store : List ℕ) (k : ℕ) (ero : List ℕ) (route : Verdict) → reportVerdict b store k ero route .number ≡ 0 → ReportPassed b store k ero route
+pub report-passed : (b : Table) (store : List ℕ) (k : ℕ) (ero : List ℕ) (route : Verdict) → reportVerdict b store k ero route .number ≡ 0 → ReportPassed b store k ero route
 unfolding reportVerdict reportRules
 report-passed b store k ero route z =
     let w = rule-passed (not (isBoard b (length store))) 16 0 _ z in
@@ -98,23 +99,24 @@ report-passed b store k ero route z =
     }
 
 -- a report that every rule before 21 lets pass
-pub record Reached (b : Board) (store : List ℕ) (k : ℕ) (ero : List ℕ) (route : Verdict) : Type 0 where
+pub record Reached (b : Table) (store : List ℕ) (k : ℕ) (ero : List ℕ) (route : Verdict) : Type 0 where
   pub board : isBoard b (length store) ≡ true
   pub key : inRange k ≡ true
   pub route-taken : route .number ≡ 0
   pub size : length (bodyIn ero) ≤ room
   pub versions-left : b .version ≡ versionMost → ⊥
 
-reached-rest : (b : Board) (store : List ℕ) (k : ℕ) (ero : List ℕ) (route : Verdict) → Reached b store k ero route → reportVerdict b store k ero route ≡ cond (leb places (targetOf b k)) (refusedBy allPaths 0) route
+reached-rest : (b : Table) (store : List ℕ) (k : ℕ) (ero : List ℕ) (route : Verdict) → Reached b store k ero route
+    → reportVerdict b store k ero route ≡ cond (leb places (targetOf b k)) (refusedBy allPaths 0) route
 unfolding reportVerdict reportRules
 reached-rest b store k ero route r =
     rw (r .board, r .key, eq-eqb (route .number) 0 (r .route-taken), le-ltb room (length (bodyIn ero)) (r .size), ne-eqb (b .version) versionMost (r .versions-left))
 
 -- "21 exactly if the key is new and all 128 hold paths"
-pub all-paths-then : (b : Board) (store : List ℕ) (k : ℕ) (ero : List ℕ) (route : Verdict) → Reached b store k ero route → Full b k → reportVerdict b store k ero route ≡ refusedBy allPaths 0
+pub all-paths-then : (b : Table) (store : List ℕ) (k : ℕ) (ero : List ℕ) (route : Verdict) → Reached b store k ero route → Full b k → reportVerdict b store k ero route ≡ refusedBy allPaths 0
 all-paths-then b store k ero route r f = reached-rest b store k ero route r ∙ rw (le-leb places (targetOf b k) (is-full b k f))
 
-pub all-paths-only : (b : Board) (store : List ℕ) (k : ℕ) (ero : List ℕ) (route : Verdict) → Reached b store k ero route → reportVerdict b store k ero route .number ≡ allPaths → Full b k
+pub all-paths-only : (b : Table) (store : List ℕ) (k : ℕ) (ero : List ℕ) (route : Verdict) → Reached b store k ero route → reportVerdict b store k ero route .number ≡ allPaths → Full b k
 all-paths-only b store k ero route r e = ⊎-elim (λ l. full-is b k l) (λ l. absurd (omega (arith, free l, r .route-taken))) (from? 128 (targetOf b k))
   where
     free : targetOf b k < 128 → route .number ≡ allPaths
@@ -123,12 +125,12 @@ all-paths-only b store k ero route r e = ⊎-elim (λ l. full-is b k l) (λ l. a
         sym (ap (λ (y : Verdict). y .number) q) ∙ e
 
 -- and every other report that got that far is accepted, with the number of segments
-pub reported-otherwise : (b : Board) (store : List ℕ) (k : ℕ) (ero : List ℕ) (route : Verdict) → Reached b store k ero route → (Full b k → ⊥) → reportVerdict b store k ero route ≡ route
+pub reported-otherwise : (b : Table) (store : List ℕ) (k : ℕ) (ero : List ℕ) (route : Verdict) → Reached b store k ero route → (Full b k → ⊥) → reportVerdict b store k ero route ≡ route
 reported-otherwise b store k ero route r n =
     ⊎-elim (λ l. absurd (n (full-is b k l))) (λ l. reached-rest b store k ero route r ∙ rw (lt-leb 128 (targetOf b k) l)) (from? 128 (targetOf b k))
 
 -- ---- remove
-pub record RemovePassed (b : Board) (store : List ℕ) (k : ℕ) : Type 0 where
+pub record RemovePassed (b : Table) (store : List ℕ) (k : ℕ) : Type 0 where
   pub whole : Whole b (length store)
   pub key-least : keyLeast ≤ k
   pub key-most : k ≤ keyMost
@@ -136,13 +138,13 @@ pub record RemovePassed (b : Board) (store : List ℕ) (k : ℕ) : Type 0 where
   pub body : lengthAt b (placeOf b k) ≡ 0 → ⊥
   pub versions-left : b .version ≡ versionMost → ⊥
 
-pub path-there : (b : Board) (k : ℕ) → not (hasPath b k) ≡ false → KeyPlace b k (placeOf b k) × (lengthAt b (placeOf b k) ≡ 0 → ⊥)
+pub path-there : (b : Table) (k : ℕ) → not (hasPath b k) ≡ false → KeyPlace b k (placeOf b k) × (lengthAt b (placeOf b k) ≡ 0 → ⊥)
 unfolding hasPath
 path-there b k e =
     let p = and-true (ltb (placeOf b k) places) (not (eqb (lengthAt b (placeOf b k)) 0)) (not-false (ltb (placeOf b k) places && not (eqb (lengthAt b (placeOf b k)) 0)) e) in
     (key-place-is b k (ltb-true (placeOf b k) places (p .0)), eqb-false (lengthAt b (placeOf b k)) 0 (not-true (eqb (lengthAt b (placeOf b k)) 0) (p .1)))
 
-pub remove-passed : (b : Board) (store : List ℕ) (k : ℕ) → removeVerdict b store k .number ≡ 0 → RemovePassed b store k
+pub remove-passed : (b : Table) (store : List ℕ) (k : ℕ) → removeVerdict b store k .number ≡ 0 → RemovePassed b store k
 unfolding removeVerdict removeRules
 remove-passed b store k z =
     let w = rule-passed (not (isBoard b (length store))) 16 0 _ z in
@@ -159,11 +161,11 @@ remove-passed b store k z =
     }
 
 -- ---- compact
-pub record CompactPassed (b : Board) (store : List ℕ) (m : ℕ) : Type 0 where
+pub record CompactPassed (b : Table) (store : List ℕ) (m : ℕ) : Type 0 where
   pub whole : Whole b (length store)
   pub reached : m ≤ b .version
 
-pub compact-passed : (b : Board) (store : List ℕ) (m : ℕ) → compactVerdict b store m .number ≡ 0 → CompactPassed b store m
+pub compact-passed : (b : Table) (store : List ℕ) (m : ℕ) → compactVerdict b store m .number ≡ 0 → CompactPassed b store m
 unfolding compactVerdict compactRules
 compact-passed b store m z =
     let w = rule-passed (not (isBoard b (length store))) 16 0 _ z in
@@ -171,21 +173,21 @@ compact-passed b store m z =
     record { whole = board-whole b (length store) (not-false (isBoard b (length store)) (w .0)); reached = ltb-false (b .version) m (a .0) }
 
 -- ---- next: "23 exactly if the floor is above the larger of s and w", among marks that are not ahead
-pub record MarkReached (b : Board) (store : List ℕ) (s w : ℕ) : Type 0 where
+pub record MarkReached (b : Table) (store : List ℕ) (s w : ℕ) : Type 0 where
   pub board : isBoard b (length store) ≡ true
   pub s-in : s ≤ b .version
   pub w-in : w ≤ b .version
 
-mark-rest : (b : Board) (store : List ℕ) (s w : ℕ) → MarkReached b store s w → nextVerdict b store s w ≡ cond (ltb (max s w) (b .floor)) (refusedBy markTooOld 0) (acceptedWith 0)
+mark-rest : (b : Table) (store : List ℕ) (s w : ℕ) → MarkReached b store s w → nextVerdict b store s w ≡ cond (ltb (max s w) (b .floor)) (refusedBy markTooOld 0) (acceptedWith 0)
 unfolding nextVerdict nextRules
 mark-rest b store s w r = rw (r .board, le-ltb (b .version) s (r .s-in), le-ltb (b .version) w (r .w-in))
 
-pub too-old-then : (b : Board) (store : List ℕ) (s w : ℕ) → MarkReached b store s w → max s w < b .floor → nextVerdict b store s w ≡ refusedBy markTooOld 0
+pub too-old-then : (b : Table) (store : List ℕ) (s w : ℕ) → MarkReached b store s w → max s w < b .floor → nextVerdict b store s w ≡ refusedBy markTooOld 0
 too-old-then b store s w r l = mark-rest b store s w r ∙ rw (lt-ltb (max s w) (b .floor) l)
 
-pub not-too-old : (b : Board) (store : List ℕ) (s w : ℕ) → MarkReached b store s w → b .floor ≤ max s w → nextVerdict b store s w ≡ acceptedWith 0
+pub not-too-old : (b : Table) (store : List ℕ) (s w : ℕ) → MarkReached b store s w → b .floor ≤ max s w → nextVerdict b store s w ≡ acceptedWith 0
 not-too-old b store s w r l = mark-rest b store s w r ∙ rw (le-ltb (max s w) (b .floor) l)
 
-pub too-old-only : (b : Board) (store : List ℕ) (s w : ℕ) → MarkReached b store s w → nextVerdict b store s w .number ≡ markTooOld → max s w < b .floor
+pub too-old-only : (b : Table) (store : List ℕ) (s w : ℕ) → MarkReached b store s w → nextVerdict b store s w .number ≡ markTooOld → max s w < b .floor
 too-old-only b store s w r e =
     ⊎-elim (λ l. absurd (omega (arith, sym (ap (λ (y : Verdict). y .number) (not-too-old b store s w r l)) ∙ e))) (λ l. l) (from? (b .floor) (max s w))

@@ -10,9 +10,8 @@ use lib.Dec.{eqb, ltb, leb}
 use borrow.Author.Tests.{eq-eqb, ne-eqb, lt-ltb, le-ltb, le-leb}
 use Rattle.answers.specs.declared.verdict.Verdict.{Verdict}
 use Rattle.answers.specs.Verdicts.{acceptedWith}
-use Rattle.board_record.specs.declared.record.Board.{Board}
 use Rattle.board_record.specs.Sizes.{places, keyLeast, keyMost}
-use Rattle.board_record.specs.Table.{lengthAt, Path, changed}
+use Rattle.board_record.specs.Table.{Table, lengthAt, PathAt, bearing, changed}
 use Rattle.board_record.specs.Search.{KeyPlace, placeOf, ReportPlace, keeps, takes, drops, targetOf, floorAfter, Wanted, NextChange, nextOf}
 use Rattle.board_record.specs.Proper.{Proper}
 use Rattle.board_record.proofs.Logic.{from?}
@@ -27,26 +26,26 @@ use Rattle.board_rules.specs.Next.{nextVerdict, changeAt, handedAt, next
 use Rattle.board_rules.proofs.Verdicts.{Whole, whole-board, kept-new}
 
 -- ---- report: "A key on the table, path or removal, keeps its place"; "A new key takes the lowest empty place; with none, that of the oldest removal"
-no-place-full : (b : Board) (k i : ℕ) → Full b k → ReportPlace b k i → ⊥
+no-place-full : (b : Table) (k i : ℕ) → Full b k → ReportPlace b k i → ⊥
 no-place-full b k i f (keeps x) = f .new i (x .here) (x .key)
 no-place-full b k i f (takes n x) = f .paths i (x .here) .used (x .empty)
 no-place-full b k i f (drops n u x) = f .paths i (x .here) .body (x .removal .bare)
 
-pub report-goes : (b : Board) → Proper b → (k i : ℕ) → (k ≡ 0 → ⊥) → ReportPlace b k i → targetOf b k ≡ i
+pub report-goes : (b : Table) → Proper b → (k i : ℕ) → (k ≡ 0 → ⊥) → ReportPlace b k i → targetOf b k ≡ i
 report-goes b p k i z r =
     ⊎-elim (λ l. absurd (no-place-full b k i (full-is b k l) r)) (λ l. report-place-one b p k (targetOf b k) i z (report-place-is b k l) r) (from? 128 (targetOf b k))
 
-pub report-stores : (b : Board) → Proper b → (k i : ℕ) (ero : List ℕ) → (k ≡ 0 → ⊥) → ReportPlace b k i → reported b k ero ≡ changed b i k (length (bodyIn ero)) (floorAfter b k i)
+pub report-stores : (b : Table) → Proper b → (k i : ℕ) (ero : List ℕ) → (k ≡ 0 → ⊥) → ReportPlace b k i → reported b k ero ≡ changed b i (bearing b k (length (bodyIn ero))) (floorAfter b k i)
 unfolding reported
 report-stores b p k i ero z r = rw (report-goes b p k i z r)
 
 -- ---- remove: "The removal stays as a mark", at the key's place
-pub remove-marks : (b : Board) → Proper b → (k i : ℕ) → (k ≡ 0 → ⊥) → KeyPlace b k i → removed b k ≡ changed b i k 0 (b .floor)
+pub remove-marks : (b : Table) → Proper b → (k i : ℕ) → (k ≡ 0 → ⊥) → KeyPlace b k i → removed b k ≡ changed b i (bearing b k 0) (b .floor)
 unfolding removed
 remove-marks b p k i z x = rw (key-place-found b p k i z x)
 
 -- ---- body: "The path's octets are handed back"
-module _ (b : Board) (store : List ℕ) (k i : ℕ) (w : Whole b (length store)) (low : keyLeast ≤ k) (high : k ≤ keyMost) (x : KeyPlace b k i) (y : Path b i) where
+module _ (b : Table) (store : List ℕ) (k i : ℕ) (w : Whole b (length store)) (low : keyLeast ≤ k) (high : k ≤ keyMost) (x : KeyPlace b k i) (y : PathAt b i) where
   found : placeOf b k ≡ i
   found = key-place-found b (w .proper) k i (λ z. omega arith) x
 
@@ -67,7 +66,7 @@ module _ (b : Board) (store : List ℕ) (k i : ℕ) (w : Whole b (length store))
   body-handed = rw (body-accepted, found)
 
 -- ---- next: "the change of smallest version above w that is a path, or is a removal above s; or level with the board's version"
-module _ (b : Board) (store : List ℕ) (s w : ℕ) (z : nextVerdict b store s w .number ≡ 0) where
+module _ (b : Table) (store : List ℕ) (s w : ℕ) (z : nextVerdict b store s w .number ≡ 0) where
   pub next-hands : Proper b → (i : ℕ) → NextChange b s w i → nextAnswer b store s w ≡ changeAt b i
   unfolding nextAnswer handedAt
   next-hands p i x = rw (eq-eqb (nextVerdict b store s w .number) 0 z, handedAt, at, lt-ltb i 128 (x .here))

@@ -8,9 +8,8 @@ use Rattle.answers.specs.declared.verdict.Verdict.{Verdict}
 use Rattle.answers.specs.Numbers.{notABoard, keyOutOfRange, noPath}
 use Rattle.answers.specs.Verdicts.{refusedBy, acceptedWith, kept}
 use Rattle.octets.specs.Octets.{part}
-use Rattle.board_record.specs.declared.record.Board.{Board}
 use Rattle.board_record.specs.Sizes.{room}
-use Rattle.board_record.specs.Table.{lengthAt}
+use Rattle.board_record.specs.Table.{Table, lengthAt}
 use Rattle.board_record.specs.Search.{placeOf}
 use Rattle.board_rules.specs.Rules.{isBoard, inRange, hasPath}
 
@@ -23,12 +22,12 @@ bodyRules whole k path =
     (acceptedWith 0)))
 
 -- what the call for the number answers
-unfoldable pub bodyNumber : Board → List ℕ → ℕ → Verdict
+unfoldable pub bodyNumber : Table → List ℕ → ℕ → Verdict
 bodyNumber b store k = bodyRules (isBoard b (length store)) k (hasPath b k)
 
 -- the octets of place i
-unfoldable pub octetsAt : Board → List ℕ → ℕ → List ℕ
+unfoldable pub octetsAt : Table → List ℕ → ℕ → List ℕ
 octetsAt b store i = part store (room * i) (lengthAt b i)
 
-unfoldable pub bodyOf : Board → List ℕ → ℕ → List ℕ
+unfoldable pub bodyOf : Table → List ℕ → ℕ → List ℕ
 bodyOf b store k = kept (bodyNumber b store k .number) [] (octetsAt b store (placeOf b k))

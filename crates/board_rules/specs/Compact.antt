@@ -8,11 +8,9 @@ use lib.Dec.{ltb, leb}
 use Rattle.answers.specs.declared.verdict.Verdict.{Verdict}
 use Rattle.answers.specs.Numbers.{notABoard, markAhead}
 use Rattle.answers.specs.Verdicts.{refusedBy, acceptedWith, kept}
-use Rattle.board_record.specs.declared.record.Board.{Board}
 use Rattle.board_record.specs.Sizes.{places}
-use Rattle.board_record.specs.Table.{boardOf, keyAt, versionAt, removalB}
-use Rattle.board_rules.specs.declared.answer.Answer.{Answer}
-use Rattle.board_rules.specs.Rules.{isBoard}
+use Rattle.board_record.specs.Table.{Table, tableOf, keyAt, versionAt, removalB}
+use Rattle.board_rules.specs.Rules.{Outcome, isBoard}
 
 -- The first broken rule. `whole`: it is a board; top: the board's version.
 unfoldable pub compactRules : Bool → ℕ → ℕ → Verdict
@@ -21,11 +19,11 @@ compactRules whole c top =
     (cond (ltb top c) (refusedBy markAhead 0)
     (acceptedWith 0))
 
-unfoldable pub compactVerdict : Board → List ℕ → ℕ → Verdict
+unfoldable pub compactVerdict : Table → List ℕ → ℕ → Verdict
 compactVerdict b store c = compactRules (isBoard b (length store)) c (b .version)
 
 -- a mark "with version at most c"
-unfoldable pub dropped : Board → ℕ → ℕ → Bool
+unfoldable pub dropped : Table → ℕ → ℕ → Bool
 dropped b c i = removalB b i && leb (versionAt b i) c
 
 -- f 0, f 1, .. , f (n - 1)
@@ -33,11 +31,11 @@ unfoldable pub row : (ℕ → ℕ) → ℕ → List ℕ
 row f zero = []
 row f (suc n) = row f n ++ (f n ∷ [])
 
--- the board after an accepted compaction: a place whose mark is dropped is empty, every other one is as it was
-unfoldable pub compacted : Board → ℕ → Board
+-- the table after an accepted compaction: a place whose mark is dropped is empty, every other one is as it was
+unfoldable pub compacted : Table → ℕ → Table
 compacted b c =
-    boardOf (row (λ i. cond (dropped b c i) 0 (keyAt b i)) places) (row (λ i. cond (dropped b c i) 0 (versionAt b i)) places) (b .lengths)
+    tableOf (row (λ i. cond (dropped b c i) 0 (keyAt b i)) places) (row (λ i. cond (dropped b c i) 0 (versionAt b i)) places) (b .lengths)
     (b .version) (max (b .floor) c)
 
-unfoldable pub compactAnswer : Board → List ℕ → ℕ → Answer
-compactAnswer b store c = record { verdict = compactVerdict b store c; board = kept (compactVerdict b store c .number) b (compacted b c) }
+unfoldable pub compactAnswer : Table → List ℕ → ℕ → Outcome
+compactAnswer b store c = record { verdict = compactVerdict b store c; table = kept (compactVerdict b store c .number) b (compacted b c) }

@@ -13,9 +13,8 @@ use lib.Dec.{eqb, ltb, leb}
 use Rattle.answers.specs.declared.verdict.Verdict.{Verdict}
 use Rattle.answers.specs.Numbers.{notABoard, markTooOld, markAhead}
 use Rattle.answers.specs.Verdicts.{refusedBy, acceptedWith}
-use Rattle.board_record.specs.declared.record.Board.{Board}
 use Rattle.board_record.specs.Sizes.{places}
-use Rattle.board_record.specs.Table.{keyAt, versionAt, lengthAt}
+use Rattle.board_record.specs.Table.{Table, keyAt, versionAt, lengthAt}
 use Rattle.board_record.specs.Search.{nextOf}
 use Rattle.board_rules.specs.declared.answer.Change.{Change}
 use Rattle.board_rules.specs.declared.answer.Octets.{Octets}
@@ -33,20 +32,20 @@ nextRules whole s w top floor =
     (cond (ltb (max s w) floor) (refusedBy markTooOld 0)
     (acceptedWith 0))))
 
-unfoldable pub nextVerdict : Board → List ℕ → ℕ → ℕ → Verdict
+unfoldable pub nextVerdict : Table → List ℕ → ℕ → ℕ → Verdict
 nextVerdict b store s w = nextRules (isBoard b (length store)) s w (b .version) (b .floor)
 
 -- the change at place i: key and version, and a path's octets by place and length
-unfoldable pub changeAt : Board → ℕ → Handed
+unfoldable pub changeAt : Table → ℕ → Handed
 changeAt b i =
     cond (eqb (lengthAt b i) 0) (Removed (record { key = keyAt b i; version = versionAt b i }))
     (Path (record { key = keyAt b i; version = versionAt b i }) (record { place = i; length = lengthAt b i }))
 
 -- the change at the place found, or level where there is none
-unfoldable pub handedAt : Board → ℕ → Handed
+unfoldable pub handedAt : Table → ℕ → Handed
 handedAt b i = cond (ltb i places) (changeAt b i) (Level (b .version))
 
-unfoldable pub nextAnswer : Board → List ℕ → ℕ → ℕ → Handed
+unfoldable pub nextAnswer : Table → List ℕ → ℕ → ℕ → Handed
 nextAnswer b store s w = cond (eqb (nextVerdict b store s w .number) 0) (handedAt b (nextOf b s w)) (Refused (nextVerdict b store s w))
 
 -- the number that an answer stands for
@@ -57,5 +56,5 @@ numberIn (Removed c) = 0
 numberIn (Level v) = 0
 
 -- "A fresh mark is the board's version for s and 0 for w, with the follower empty."
-abbrev pub freshMark : Board → Mark
+abbrev pub freshMark : Table → Mark
 freshMark b = record { s = b .version; w = 0 }

@@ -7,12 +7,10 @@ use lib.Dec.{eqb}
 use Rattle.answers.specs.declared.verdict.Verdict.{Verdict}
 use Rattle.answers.specs.Numbers.{notABoard, keyOutOfRange, noPath, versionsUsedUp}
 use Rattle.answers.specs.Verdicts.{refusedBy, acceptedWith, kept}
-use Rattle.board_record.specs.declared.record.Board.{Board}
 use Rattle.board_record.specs.Sizes.{versionMost}
-use Rattle.board_record.specs.Table.{changed}
+use Rattle.board_record.specs.Table.{Table, bearing, changed}
 use Rattle.board_record.specs.Search.{placeOf}
-use Rattle.board_rules.specs.declared.answer.Answer.{Answer}
-use Rattle.board_rules.specs.Rules.{isBoard, inRange, hasPath}
+use Rattle.board_rules.specs.Rules.{Outcome, isBoard, inRange, hasPath}
 
 -- The first broken rule. `whole`: it is a board; `path`: the key has a path; top: the board's version.
 unfoldable pub removeRules : Bool → ℕ → Bool → ℕ → Verdict
@@ -23,12 +21,12 @@ removeRules whole k path top =
     (cond (eqb top versionMost) (refusedBy versionsUsedUp 0)
     (acceptedWith 0))))
 
-unfoldable pub removeVerdict : Board → List ℕ → ℕ → Verdict
+unfoldable pub removeVerdict : Table → List ℕ → ℕ → Verdict
 removeVerdict b store k = removeRules (isBoard b (length store)) k (hasPath b k) (b .version)
 
--- the board after an accepted removal: the key keeps its place, with no body and the version that the removal bears
-unfoldable pub removed : Board → ℕ → Board
-removed b k = changed b (placeOf b k) k 0 (b .floor)
+-- the table after an accepted removal: the key keeps its place, with no body and the version that the removal bears
+unfoldable pub removed : Table → ℕ → Table
+removed b k = changed b (placeOf b k) (bearing b k 0) (b .floor)
 
-unfoldable pub removeAnswer : Board → List ℕ → ℕ → Answer
-removeAnswer b store k = record { verdict = removeVerdict b store k; board = kept (removeVerdict b store k .number) b (removed b k) }
+unfoldable pub removeAnswer : Table → List ℕ → ℕ → Outcome
+removeAnswer b store k = record { verdict = removeVerdict b store k; table = kept (removeVerdict b store k .number) b (removed b k) }

@@ -10,12 +10,10 @@ use Rattle.answers.specs.Verdicts.{refusedBy, kept}
 use Rattle.octets.specs.Octets.{placed}
 use Rattle.session.specs.declared.Session.{Session}
 use Rattle.route.specs.Routes.{judgeOf}
-use Rattle.board_record.specs.declared.record.Board.{Board}
 use Rattle.board_record.specs.Sizes.{places, room, versionMost, header}
-use Rattle.board_record.specs.Table.{changed}
+use Rattle.board_record.specs.Table.{Table, bearing, changed}
 use Rattle.board_record.specs.Search.{targetOf, floorAfter}
-use Rattle.board_rules.specs.declared.answer.Answer.{Answer}
-use Rattle.board_rules.specs.Rules.{isBoard, inRange}
+use Rattle.board_rules.specs.Rules.{Outcome, isBoard, inRange}
 
 -- "a path body (the ERO after its header)"
 abbrev pub bodyIn : List ℕ → List ℕ
@@ -33,26 +31,26 @@ reportRules whole k route n top target =
     (cond (leb places target) (refusedBy allPaths 0)
     route)))))
 
-unfoldable pub reportVerdict : Board → List ℕ → ℕ → List ℕ → Verdict → Verdict
+unfoldable pub reportVerdict : Table → List ℕ → ℕ → List ℕ → Verdict → Verdict
 reportVerdict b store k ero route = reportRules (isBoard b (length store)) k route (length (bodyIn ero)) (b .version) (targetOf b k)
 
--- the board after an accepted report: "each accepted report .. raises the version by 1 and the change bears that"
-unfoldable pub reported : Board → ℕ → List ℕ → Board
-reported b k ero = changed b (targetOf b k) k (length (bodyIn ero)) (floorAfter b k (targetOf b k))
+-- the table after an accepted report: "each accepted report .. raises the version by 1 and the change bears that"
+unfoldable pub reported : Table → ℕ → List ℕ → Table
+reported b k ero = changed b (targetOf b k) (bearing b k (length (bodyIn ero))) (floorAfter b k (targetOf b k))
 
 -- the answer to a report whose route checks answer `route`; "Every refusal returns its number and place and no other content; board .. as they were"
-unfoldable pub reportWith : Board → List ℕ → ℕ → List ℕ → Verdict → Answer
+unfoldable pub reportWith : Table → List ℕ → ℕ → List ℕ → Verdict → Outcome
 reportWith b store k ero route =
-    record { verdict = reportVerdict b store k ero route; board = kept (reportVerdict b store k ero route .number) b (reported b k ero) }
+    record { verdict = reportVerdict b store k ero route; table = kept (reportVerdict b store k ero route .number) b (reported b k ero) }
 
 -- the store after it: "the body is written at the place's start, and no call here writes other octets of the store"
-unfoldable pub storeWith : Board → List ℕ → ℕ → List ℕ → Verdict → List ℕ
+unfoldable pub storeWith : Table → List ℕ → ℕ → List ℕ → Verdict → List ℕ
 storeWith b store k ero route =
     kept (reportVerdict b store k ero route .number) store (placed store (room * targetOf b k) (bodyIn ero))
 
 -- "Report (key, ERO, session, PST)": the route checks are those of an ERO under the session and the PST
-unfoldable pub reportAnswer : Board → List ℕ → ℕ → List ℕ → Session → ℕ → Answer
+unfoldable pub reportAnswer : Table → List ℕ → ℕ → List ℕ → Session → ℕ → Outcome
 reportAnswer b store k ero session pst = reportWith b store k ero (judgeOf ero true session pst)
 
-unfoldable pub reportStore : Board → List ℕ → ℕ → List ℕ → Session → ℕ → List ℕ
+unfoldable pub reportStore : Table → List ℕ → ℕ → List ℕ → Session → ℕ → List ℕ
 reportStore b store k ero session pst = storeWith b store k ero (judgeOf ero true session pst)

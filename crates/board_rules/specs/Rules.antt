@@ -5,15 +5,13 @@ use mathlib.Core.List.{List}
 use lib.ListN.{getD}
 use lib.Dec.{eqb, ltb, leb}
 use Rattle.answers.specs.declared.verdict.Verdict.{Verdict}
-use Rattle.board_record.specs.declared.record.Board.{Board}
 use Rattle.board_record.specs.Sizes.{places, storeSize, keyLeast, keyMost}
-use Rattle.board_record.specs.Table.{lengthAt}
+use Rattle.board_record.specs.Table.{Table, lengthAt}
 use Rattle.board_record.specs.Search.{placeOf}
 use Rattle.board_record.specs.Proper.{properB}
-use Rattle.board_rules.specs.declared.answer.Answer.{Answer}
 
 -- 17 "is answered exactly if the store is shorter than 49,152 octets or the record isn't proper": that it isn't answered, for a store of n octets
-unfoldable pub isBoard : Board → ℕ → Bool
+unfoldable pub isBoard : Table → ℕ → Bool
 isBoard b n = leb storeSize n && properB b
 
 -- 18 "key out of range"; "Keys are 1 to 1,048,574."
@@ -25,9 +23,13 @@ unfoldable pub lengthIn : List ℕ → ℕ → ℕ
 lengthIn lengths at = cond (ltb at places) (getD lengths at 0) 0
 
 -- 22 "key has no path": that it has one
-unfoldable pub hasPath : Board → ℕ → Bool
+unfoldable pub hasPath : Table → ℕ → Bool
 hasPath b k = ltb (placeOf b k) places && not (eqb (lengthAt b (placeOf b k)) 0)
 
--- what report, remove and compact answer: a verdict, with the board handed back
-abbrev pub answerOf : Verdict → Board → Answer
-answerOf verdict board = record { verdict = verdict; board = board }
+-- what report, remove and compact answer: a verdict, and the table that they leave
+pub record Outcome : Type 0 where
+  pub verdict : Verdict
+  pub table : Table
+
+abbrev pub outcomeOf : Verdict → Table → Outcome
+outcomeOf verdict table = record { verdict = verdict; table = table }

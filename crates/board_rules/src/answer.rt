@@ -1,12 +1,5 @@
 // What the board's calls answer.
 use answers::Verdict;
-use board_record::Board;
-
-// Report, remove and compact hand the board back: changed, or after a refusal as it was.
-pub struct Answer {
-    pub verdict: Verdict,
-    pub board: Board,
-}
 
 // A change comes with its key and version.
 pub struct Change {

@@ -4,7 +4,6 @@ mod answer;
 mod rule;
 mod whole;
 
-pub use answer::Answer;
 pub use answer::Change;
 pub use answer::Handed;
 pub use answer::Mark;

@@ -2,7 +2,7 @@
 ghost use mathlib.Core.Path.{_≡_};
 ghost use Prim.Native.Nat.{_*_, _<_};
 ghost use Rattle.board_record.specs.Sizes.{places, room};
-ghost use Rattle.board_record.specs.Table.{boardOf};
+ghost use Rattle.board_record.specs.Table.{tableOf};
 ghost use Rattle.board_rules.specs.Rules.{isBoard, lengthIn};
 use board_record::PLACES;
 use board_record::ROOM;
@@ -18,7 +18,7 @@ pub fn is_board<'a>(
     top: u64,
     floor: u64,
 ) -> bool
-    ensures board { λ r. ⌜ r ≡ isBoard (boardOf (now (keys .entry)) (now (versions .entry)) (now (lengths .entry)) top floor) n ⌝ }
+    ensures board { λ r. ⌜ r ≡ isBoard (tableOf (now (keys .entry)) (now (versions .entry)) (now (lengths .entry)) top floor) n ⌝ }
 {
     if n < STORE {
         return false;

@@ -3,11 +3,11 @@ use Prim.Native.Nat.{ℕ, _<_, _≤_}
 use mathlib.Core.Path.{_≡_, refl, sym, ap, _∙_}
 use lib.Dec.{ltb}
 use borrow.Author.Tests.{lt-ltb, le-ltb}
-use Rattle.board_record.specs.declared.record.Board.{Board}
 use Rattle.board_record.specs.Sizes.{places}
+use Rattle.board_record.specs.Table.{Table}
 use Rattle.board_record.specs.Search.{placeIn, oldestOf, targetOf}
 
-module _ (b : Board) (k : ℕ) where
+module _ (b : Table) (k : ℕ) where
   pub target-known : (i : ℕ) → i ≡ placeIn (b .keys) k → i < places → i ≡ targetOf b k
   unfolding targetOf
   target-known i e l = rw (← e, lt-ltb i 128 l)

@@ -1,4 +1,5 @@
--- A search that keeps the best place so far ends at the place of the smallest version. Assumes nothing.
+-- A search that keeps the best place so far ends at the place of the smallest version. On a board an empty place has version 0 and every version is
+-- below the first best, so the tests that read no key are those of the table. Assumes nothing.
 use Prim.Native.Nat.{ℕ, zero, suc, _+_, _<_, _≤_}
 use native.Mathlib.Numerals.{add-one}
 use native.Mathlib.Omega.{arith}
@@ -8,9 +9,8 @@ use mathlib.Core.List.{List}
 use lib.ListN.{getD}
 use lib.Dec.{eqb, ltb, leb}
 use borrow.Author.Tests.{eq-eqb, ne-eqb, eqb-true, eqb-false, lt-ltb, le-ltb, ltb-true, ltb-false, lt-leb, leb-true, leb-false}
-use Rattle.board_record.specs.declared.record.Board.{Board}
 use Rattle.board_record.specs.Sizes.{places}
-use Rattle.board_record.specs.Table.{boardOf, keyAt, versionAt, lengthAt, removalB}
+use Rattle.board_record.specs.Table.{Table, tableOf, keyAt, versionAt, lengthAt, removalB, entryAt}
 use Rattle.board_record.specs.Search.{leastWhere, oldestOf, wantedB, nextOf}
 use Rattle.board_record.specs.Proper.{properB}
 use Rattle.board_record.proofs.Logic.{and-false}
@@ -40,7 +40,8 @@ tracks-step t v n b r l low = go (ltb (leastWhere t v n) 128) refl (t n) refl (l
     new : Best
     new = record { at = n; version = v n }
 
-    go : (p : Bool) → ltb (leastWhere t v n) 128 ≡ p → (q : Bool) → t n ≡ q → (y : Bool) → leb (b .version) (v n) ≡ y → Tracks t v (suc n) (cond (leb (b .version) (v n)) b (cond (t n) (record { at = n; version = v n }) b))
+    go : (p : Bool) → ltb (leastWhere t v n) 128 ≡ p → (q : Bool) → t n ≡ q → (y : Bool) → leb (b .version) (v n) ≡ y
+        → Tracks t v (suc n) (cond (leb (b .version) (v n)) b (cond (t n) (record { at = n; version = v n }) b))
     go true e q f true g =
         let h : b .version ≡ v (leastWhere t v n) = rw e at (r .version) in
         keep t v n b _ r (rw (leastWhere, e, ← h, g, and-false (t n))) (rw g)
@@ -65,16 +66,19 @@ tracks-done : (t u : ℕ → Bool) (v : ℕ → ℕ) (i : ℕ) (b : Best) → Tr
 tracks-done t u v i b r h l f = let q : i ≡ 128 = omega arith in rw q at (r .at) ∙ least-same t u v 128 f
 
 -- ---- what the tests say on a board
-module _ (ks vs ls : List ℕ) (top floor : ℕ) (p : properB (boardOf ks vs ls top floor) ≡ true) where
-  pub below : (i : ℕ) → i < places → getD vs i 0 < 18446744073709551615
-  below i l = omega (arith, properB-sound (boardOf ks vs ls top floor) p i l .high, proper-is (boardOf ks vs ls top floor) p .version-in)
+module _ (ks vs ls : List ℕ) (top floor : ℕ) (p : properB (tableOf ks vs ls top floor) ≡ true) where
+  abbrev table : Table
+  table = tableOf ks vs ls top floor
 
-  bare-is : (i : ℕ) → i < places → bare (getD vs i 0) (getD ls i 0) ≡ removalB (boardOf ks vs ls top floor) i
+  pub below : (i : ℕ) → i < places → getD vs i 0 < 18446744073709551615
+  below i l = omega (arith, properB-sound table p i l .high, proper-is table p .version-in)
+
+  bare-is : (i : ℕ) → i < places → bare (getD vs i 0) (getD ls i 0) ≡ removalB table i
   unfolding bare removalB
   bare-is i l = go (eqb (getD ks i 0) 0) refl (eqb (getD ls i 0) 0)
     where
-      o : Sound (getD ks i 0) (getD vs i 0) (getD ls i 0) top floor
-      o = properB-sound (boardOf ks vs ls top floor) p i l
+      o : Sound (entryAt table i) top floor
+      o = properB-sound table p i l
 
       swap : (x : Bool) → x && true ≡ x
       swap true = refl
@@ -84,12 +88,12 @@ module _ (ks vs ls : List ℕ) (top floor : ℕ) (p : properB (boardOf ks vs ls 
       go true e y = rw (eq-eqb (getD vs i 0) 0 (o .none (eqb-true (getD ks i 0) 0 e) .0)) (and-false y)
       go false e y = rw (ne-eqb (getD vs i 0) 0 (λ z. omega (arith, o .low (eqb-false (getD ks i 0) 0 e)))) (swap y)
 
-  wanted-of-is : (s w i : ℕ) → i < places → wantedOf s w (getD vs i 0) (getD ls i 0) ≡ wantedB (boardOf ks vs ls top floor) s w i
+  wanted-of-is : (s w i : ℕ) → i < places → wantedOf s w (getD vs i 0) (getD ls i 0) ≡ wantedB table s w i
   unfolding wantedOf wantedB
   wanted-of-is s w i l = go (eqb (getD ks i 0) 0) refl
     where
-      o : Sound (getD ks i 0) (getD vs i 0) (getD ls i 0) top floor
-      o = properB-sound (boardOf ks vs ls top floor) p i l
+      o : Sound (entryAt table i) top floor
+      o = properB-sound table p i l
 
       swap : (x y : Bool) → x || y ≡ y || x
       swap true true = refl
@@ -103,10 +107,10 @@ module _ (ks vs ls : List ℕ) (top floor : ℕ) (p : properB (boardOf ks vs ls 
       go false e = rw (swap (ltb s (getD vs i 0)) (not (eqb (getD ls i 0) 0)))
 
   -- the two searches end
-  pub oldest-done : (i : ℕ) (b : Best) → Tracks (λ j. bare (getD vs j 0) (getD ls j 0)) (λ j. getD vs j 0) i b → i ≤ places → places ≤ i → b .at ≡ oldestOf (boardOf ks vs ls top floor)
+  pub oldest-done : (i : ℕ) (b : Best) → Tracks (λ j. bare (getD vs j 0) (getD ls j 0)) (λ j. getD vs j 0) i b → i ≤ places → places ≤ i → b .at ≡ oldestOf table
   unfolding oldestOf
-  oldest-done i b r h l = tracks-done _ (removalB (boardOf ks vs ls top floor)) _ i b r h l bare-is
+  oldest-done i b r h l = tracks-done _ (removalB table) _ i b r h l bare-is
 
-  pub next-done : (s w i : ℕ) (b : Best) → Tracks (λ j. wantedOf s w (getD vs j 0) (getD ls j 0)) (λ j. getD vs j 0) i b → i ≤ places → places ≤ i → b .at ≡ nextOf (boardOf ks vs ls top floor) s w
+  pub next-done : (s w i : ℕ) (b : Best) → Tracks (λ j. wantedOf s w (getD vs j 0) (getD ls j 0)) (λ j. getD vs j 0) i b → i ≤ places → places ≤ i → b .at ≡ nextOf table s w
   unfolding nextOf
-  next-done s w i b r h l = tracks-done _ (wantedB (boardOf ks vs ls top floor) s w) _ i b r h l (wanted-of-is s w)
+  next-done s w i b r h l = tracks-done _ (wantedB table s w) _ i b r h l (wanted-of-is s w)

@@ -1,3 +1,5 @@
+-- No promise rests on this file: it serves the contracts of the searches' inner functions.
+--
 -- A search for the smallest version keeps the best place so far; proofs/Tracks.antt shows that it ends at `leastWhere`.
 use Prim.Native.Nat.{ℕ}
 use mathlib.Core.Bool.{Bool, not, cond, _&&_, _||_}

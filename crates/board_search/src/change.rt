@@ -1,7 +1,7 @@
 // The next change for a mark: a pass over all places.
 ghost use mathlib.Core.Path.{_≡_};
 ghost use mathlib.Core.Bool.{true};
-ghost use Rattle.board_record.specs.Table.{boardOf};
+ghost use Rattle.board_record.specs.Table.{tableOf};
 ghost use Rattle.board_record.specs.Search.{nextOf};
 ghost use Rattle.board_record.specs.Proper.{properB};
 use super::best::no_best;
@@ -19,8 +19,8 @@ pub fn next_place<'a>(
     s: u64,
     w: u64,
 ) -> usize
-    requires { ⌜ properB (boardOf (now keys) (now versions) (now lengths) top floor) ≡ true ⌝ }
-    ensures next { λ r. ⌜ r ≡ nextOf (boardOf (now (keys .entry)) (now (versions .entry)) (now (lengths .entry)) top floor) s w ⌝ }
+    requires { ⌜ properB (tableOf (now keys) (now versions) (now lengths) top floor) ≡ true ⌝ }
+    ensures next { λ r. ⌜ r ≡ nextOf (tableOf (now (keys .entry)) (now (versions .entry)) (now (lengths .entry)) top floor) s w ⌝ }
 {
     let mut best = no_best();
     let mut i: usize = 0;

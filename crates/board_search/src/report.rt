@@ -5,7 +5,7 @@ ghost use mathlib.Core.Bool.{true};
 ghost use mathlib.Core.List.{List};
 ghost use Prim.Native.Nat.{ℕ, _<_};
 ghost use Rattle.board_record.specs.Sizes.{places};
-ghost use Rattle.board_record.specs.Table.{boardOf};
+ghost use Rattle.board_record.specs.Table.{tableOf};
 ghost use Rattle.board_record.specs.Search.{oldestOf, targetOf, floorAfter};
 ghost use Rattle.board_record.specs.Proper.{properB};
 use super::best::no_best;
@@ -22,8 +22,8 @@ fn oldest<'a>(
     top: u64,
     floor: u64,
 ) -> usize
-    requires { ⌜ properB (boardOf (now keys) (now versions) (now lengths) top floor) ≡ true ⌝ }
-    ensures oldest { λ r. ⌜ r ≡ oldestOf (boardOf (now (keys .entry)) (now (versions .entry)) (now (lengths .entry)) top floor) ⌝ }
+    requires { ⌜ properB (tableOf (now keys) (now versions) (now lengths) top floor) ≡ true ⌝ }
+    ensures oldest { λ r. ⌜ r ≡ oldestOf (tableOf (now (keys .entry)) (now (versions .entry)) (now (lengths .entry)) top floor) ⌝ }
 {
     let mut best = no_best();
     let mut i: usize = 0;
@@ -43,8 +43,8 @@ pub fn target<'a>(
     floor: u64,
     key: u64,
 ) -> usize
-    requires { ⌜ properB (boardOf (now keys) (now versions) (now lengths) top floor) ≡ true ⌝ }
-    ensures target { λ r. ⌜ r ≡ targetOf (boardOf (now (keys .entry)) (now (versions .entry)) (now (lengths .entry)) top floor) key ⌝ }
+    requires { ⌜ properB (tableOf (now keys) (now versions) (now lengths) top floor) ≡ true ⌝ }
+    ensures target { λ r. ⌜ r ≡ targetOf (tableOf (now (keys .entry)) (now (versions .entry)) (now (lengths .entry)) top floor) key ⌝ }
 {
     let known = place_of(keys, key);
     if known < PLACES {
@@ -66,7 +66,7 @@ pub fn floor_after<'a>(
     at: usize,
 ) -> u64
     requires { ⌜ at < places ⌝ }
-    ensures floor { λ r. ⌜ ((lengths : List ℕ) (top : ℕ) → r ≡ floorAfter (boardOf (now (keys .entry)) (now (versions .entry)) lengths top floor) key at) ⌝ }
+    ensures floor { λ r. ⌜ ((lengths : List ℕ) (top : ℕ) → r ≡ floorAfter (tableOf (now (keys .entry)) (now (versions .entry)) lengths top floor) key at) ⌝ }
 {
     let old = wide32(keys[at]);
     if old == 0 {

@@ -17,8 +17,7 @@ use Rattle.writer.specs.declared.state.Written.{Written}
 use Rattle.route.specs.declared.picking.Picked.{Picked}
 use Rattle.board_rules.specs.declared.answer.Handed.{Handed}
 use Rattle.board_rules.specs.declared.answer.Handed.the-variants.{Refused, Path, Removed, Level}
-use Rattle.board_rules.specs.Body.{bodyNumber, bodyOf}
-use Rattle.board_rules.specs.Next.{nextAnswer, freshMark}
+use Rattle.board_by_value.specs.ByValue.{bodyNumberOn, bodyOn, nextOn, freshMarkOn}
 use Rattle.printing.specs.Text.{spell, decimalOf, glyphOf, hexOf, octetsText}
 use Rattle.console_lines.specs.Lines.{newline, lineOf, acceptance, refusalLine, badLine, doneLine, oneLine, twoLine, octetsLine}
 use Rattle.console_fields.specs.Shown.{bitOf, limitText, openLine, openedLine, structureText, segmentLine}
@@ -222,9 +221,9 @@ by-verb-one v.Lent h k c line n = octets-one (k .lent)
 by-verb-one v.Report h k c line n = count-one _
 by-verb-one v.Remove h k c line n = plain-one _
 by-verb-one v.Compact h k c line n = plain-one _
-by-verb-one v.Body h k c line n = answer-one (bodyNumber (k .board) (k .store) (c .one)) _ (octets-one (bodyOf (k .board) (k .store) (c .one)))
-by-verb-one v.Next h k c line n = handed-one (k .store) (nextAnswer (k .board) (k .store) (c .one) (c .two))
-by-verb-one v.Mark h k c line n = two-one (freshMark (k .board) .s) (freshMark (k .board) .w)
+by-verb-one v.Body h k c line n = answer-one (bodyNumberOn (k .board) (k .store) (c .one)) _ (octets-one (bodyOn (k .board) (k .store) (c .one)))
+by-verb-one v.Next h k c line n = handed-one (k .store) (nextOn (k .board) (k .store) (c .one) (c .two))
+by-verb-one v.Mark h k c line n = two-one (freshMarkOn (k .board) .s) (freshMarkOn (k .board) .w)
 by-verb-one v.Board h k c line n = two-one (k .board .version) (k .board .floor)
 
 pub turn-one : (k : Console) (line : List ℕ) (n : ℕ) → (commandOf line .verb ≡ v.Skip → ⊥) → OneLine (turnOf k line n .answer)

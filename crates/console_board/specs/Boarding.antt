@@ -7,11 +7,7 @@ use Rattle.board_record.specs.declared.record.Board.{Board}
 use Rattle.board_record.specs.Sizes.{room}
 use Rattle.board_rules.specs.declared.answer.Handed.{Handed}
 use Rattle.board_rules.specs.declared.answer.Handed.the-variants.{Refused, Path, Removed, Level}
-use Rattle.board_rules.specs.Report.{reportAnswer, reportStore}
-use Rattle.board_rules.specs.Remove.{removeAnswer}
-use Rattle.board_rules.specs.Compact.{compactAnswer}
-use Rattle.board_rules.specs.Body.{bodyNumber, bodyOf}
-use Rattle.board_rules.specs.Next.{nextAnswer, freshMark}
+use Rattle.board_by_value.specs.ByValue.{reportOn, reportStoreOn, removeOn, compactOn, bodyNumberOn, bodyOn, nextOn, freshMarkOn}
 use Rattle.command.specs.declared.Command.{Command}
 use Rattle.console_lines.specs.Lines.{refusalLine, octetsLine, pathLine, removedLine, levelLine, twoLine}
 use Rattle.console_state.specs.Answers.{answerLine, countLine, plainLine}
@@ -26,30 +22,30 @@ pub record Boarding : Type 0 where
 -- `report KEY PST OCTETS`: "reports a path to the board"; `0 0 COUNT`
 abbrev pub reportTurn : Board → List ℕ → Session → Command → List ℕ → Boarding
 reportTurn b store session c line = record {
-  board = reportAnswer b store (c .one) (octetsIn line 3) session (c .two) .board;
-  store = reportStore b store (c .one) (octetsIn line 3) session (c .two);
-  answer = countLine (reportAnswer b store (c .one) (octetsIn line 3) session (c .two) .verdict);
+  board = reportOn b store (c .one) (octetsIn line 3) session (c .two) .board;
+  store = reportStoreOn b store (c .one) (octetsIn line 3) session (c .two);
+  answer = countLine (reportOn b store (c .one) (octetsIn line 3) session (c .two) .verdict);
 }
 
 -- `remove KEY`; `0 0`
 abbrev pub removeTurn : Board → List ℕ → Command → Boarding
 removeTurn b store c = record {
-  board = removeAnswer b store (c .one) .board;
+  board = removeOn b store (c .one) .board;
   store = store;
-  answer = plainLine (removeAnswer b store (c .one) .verdict);
+  answer = plainLine (removeOn b store (c .one) .verdict);
 }
 
 -- `compact C`; `0 0`
 abbrev pub compactTurn : Board → List ℕ → Command → Boarding
 compactTurn b store c = record {
-  board = compactAnswer b store (c .one) .board;
+  board = compactOn b store (c .one) .board;
   store = store;
-  answer = plainLine (compactAnswer b store (c .one) .verdict);
+  answer = plainLine (compactOn b store (c .one) .verdict);
 }
 
 -- `body KEY`; `0 0 OCTETS`
 unfoldable pub bodyLine : Board → List ℕ → Command → List ℕ
-bodyLine b store c = answerLine (bodyNumber b store (c .one)) (octetsLine (bodyOf b store (c .one)))
+bodyLine b store c = answerLine (bodyNumberOn b store (c .one)) (octetsLine (bodyOn b store (c .one)))
 
 -- `0 0 path KEY VERSION OCTETS`, `0 0 removed KEY VERSION` or `0 0 level VERSION`
 abbrev pub handedLine : List ℕ → Handed → List ℕ
@@ -60,11 +56,11 @@ handedLine store (Level version) = levelLine version
 
 -- `next S W`: "what a follower with mark (S, W) is handed"
 unfoldable pub nextLine : Board → List ℕ → Command → List ℕ
-nextLine b store c = handedLine store (nextAnswer b store (c .one) (c .two))
+nextLine b store c = handedLine store (nextOn b store (c .one) (c .two))
 
 -- `mark`: "a fresh mark"; `0 0 S W`
 abbrev pub markLine : Board → List ℕ
-markLine b = twoLine (freshMark b .s) (freshMark b .w)
+markLine b = twoLine (freshMarkOn b .s) (freshMarkOn b .w)
 
 -- `board`: "the board's numbers"; `0 0 VERSION FLOOR`
 abbrev pub boardLine : Board → List ℕ

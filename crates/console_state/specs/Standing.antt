@@ -8,7 +8,7 @@ use Rattle.session.specs.declared.Opened.{Opened}
 use Rattle.session.specs.Sessions.{openRefused}
 use Rattle.board_record.specs.declared.record.Board.{Board}
 use Rattle.board_record.specs.Sizes.{storeSize}
-use Rattle.board_record.specs.Table.{emptyBoard}
+use Rattle.board_record.specs.Record.{emptyBoard}
 use Rattle.writer.specs.declared.state.Writer.{Writer}
 use Rattle.console_state.specs.declared.state.State.{State}
 

@@ -9,16 +9,14 @@ use mathlib.Core.Logic.{_⊎_, ⊎-elim}
 use lib.Dec.{eqb, ltb}
 use borrow.Author.Tests.{eq-eqb, ne-eqb, lt-ltb, le-ltb, le-leb}
 use Rattle.answers.specs.Verdicts.{acceptedWith}
-use Rattle.board_record.specs.declared.record.Board.{Board}
 use Rattle.board_record.specs.Sizes.{places, keyLeast, keyMost}
-use Rattle.board_record.specs.Table.{keyAt, lengthAt, Used}
+use Rattle.board_record.specs.Table.{Table, keyAt, lengthAt, Used}
 use Rattle.board_record.specs.Search.{placeOf}
 use Rattle.board_record.proofs.Logic.{from?}
 use Rattle.board_record.proofs.Proper.{proper-sound}
 use Rattle.board_record.proofs.Search.{key-place-is, key-place-found}
 use Rattle.board_rules.specs.Rules.{inRange, hasPath}
-use Rattle.board_rules.specs.Body.{bodyRules, bodyNumber, octetsAt}
-use Rattle.board_rules.specs.Body as bodies
+use Rattle.board_rules.specs.Body.{bodyRules, bodyNumber, octetsAt, bodyOf}
 use Rattle.follow.specs.Story.{Body, Story, held, last}
 use Rattle.follow.specs.Run.{World, start, run}
 use Rattle.follow.specs.Promise.{BodyGiven, BodiesAreThoseHeld}
@@ -29,18 +27,18 @@ use Rattle.follow.proofs.Table.{Stands, octets-none}
 use Rattle.follow.proofs.Theorem.{Good, is-board, good-run, good-start}
 
 -- a key that is held has a place of its own, with that body
-record Kept (b : Board) (store : List ℕ) (k : ℕ) (body : Body) : Type 0 where
+record Kept (b : Table) (store : List ℕ) (k : ℕ) (body : Body) : Type 0 where
   place : placeOf b k < places
   low : keyLeast ≤ k
   high : k ≤ keyMost
   long : lengthAt b (placeOf b k) ≡ 0 → ⊥
   octets-are : octetsAt b store (placeOf b k) ≡ body
 
-kept-at : (b : Board) (store : List ℕ) (h : Story) (k : ℕ) (body : Body) → Stands b store h → held h k ≡ some body → Kept b store k body
+kept-at : (b : Table) (store : List ℕ) (h : Story) (k : ℕ) (body : Body) → Stands b store h → held h k ≡ some body → Kept b store k body
 kept-at b store h k body r e = ⊎-elim there (λ y. absurd (some≢none body (sym e ∙ y .0))) (r .there k changed)
   where
     changed : 0 < last h k
-    changed = ⊎-elim (λ l. absurd (some≢none body (sym e ∙ none-yet h k l))) (λ l. l) (from? (last h k) 0)
+    changed = ⊎-elim (λ l. absurd (some≢none body (sym e ∙ none-yet h (r .ordered) k l))) (λ l. l) (from? (last h k) 0)
 
     there : (i : ℕ) × (i < places) × (keyAt b i ≡ k) → Kept b store k body
     there y =
@@ -57,7 +55,7 @@ kept-at b store h k body r e = ⊎-elim there (λ y. absurd (some≢none body (s
         }
 
 -- a key that is not held has no place, or that of a removal
-no-path : (b : Board) (store : List ℕ) (h : Story) (k : ℕ) → Stands b store h → keyLeast ≤ k → held h k ≡ none → hasPath b k ≡ false
+no-path : (b : Table) (store : List ℕ) (h : Story) (k : ℕ) → Stands b store h → keyLeast ≤ k → held h k ≡ none → hasPath b k ≡ false
 unfolding hasPath
 no-path b store h k r low e = ⊎-elim (λ l. rw (le-ltb (placeOf b k) places l)) at-place (from? places (placeOf b k))
   where
@@ -73,15 +71,17 @@ unfolding inRange
 range-is k l m = rw (le-leb keyLeast k l, le-leb k keyMost m)
 
 body-given : (x : World) → Good x → (k : ℕ) → BodyGiven x k
-unfolding bodyNumber bodyRules hasPath bodies.bodyOf
+unfolding bodyNumber bodyRules hasPath bodyOf
 body-given x g k = record {
   path = λ body e.
-      let y = kept-at (x .board) (x .store) (x .story) k body (g .table) e in
-      let n : bodyNumber (x .board) (x .store) k ≡ acceptedWith 0 =
-      rw (is-board x g 0, range-is k (y .low) (y .high), lt-ltb (placeOf (x .board) k) places (y .place), ne-eqb (lengthAt (x .board) (placeOf (x .board) k)) 0 (y .long)) in
+      let b = x .table in
+      let y = kept-at b (x .store) (x .story) k body (g .stands) e in
+      let n : bodyNumber b (x .store) k ≡ acceptedWith 0 =
+      rw (is-board x g, range-is k (y .low) (y .high), lt-ltb (placeOf b k) places (y .place), ne-eqb (lengthAt b (placeOf b k)) 0 (y .long)) in
       (n, rw n (y .octets-are));
-  no-path = λ e l m. rw (is-board x g 0, range-is k l m, no-path (x .board) (x .store) (x .story) k (g .table) l e);
+  no-path = λ e l m. rw (is-board x g, range-is k l m, no-path (x .table) (x .store) (x .story) k (g .stands) l e);
 }
 
 pub bodies-are-those-held : BodiesAreThoseHeld
-bodies-are-those-held b store g acts k = body-given (run (start b store (g .proper)) acts) (good-run (start b store (g .proper)) acts (good-start b store g)) k
+bodies-are-those-held b store followers g acts k =
+    body-given (run (start b store followers) acts) (good-run (start b store followers) acts (good-start b store followers g)) k

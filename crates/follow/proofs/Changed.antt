@@ -7,33 +7,32 @@ use mathlib.Core.Option.{none}
 use mathlib.Core.Logic.{_⊎_, inl, inr, ⊎-elim}
 use lib.ListN.{length}
 use lib.Seq.{getD-set-same, getD-set-other}
-use Rattle.board_record.specs.declared.record.Board.{Board}
 use Rattle.board_record.specs.Sizes.{places, keyLeast}
-use Rattle.board_record.specs.Table.{keyAt, versionAt, lengthAt, Used, changed}
+use Rattle.board_record.specs.Table.{Table, keyAt, versionAt, lengthAt, Used, bearing, changed}
 use Rattle.board_record.specs.Proper.{Proper}
 use Rattle.board_record.proofs.Logic.{same?}
 use Rattle.board_record.proofs.Changed.{changed-sized}
-use Rattle.follow.specs.Story.{Change, Story, did, keyOf, bodyOf, held, last}
+use Rattle.follow.specs.Story.{Deed, Story, did, keyOf, leaves, held, last}
 use Rattle.follow.proofs.Begun.{octets, octets-mark}
 use Rattle.follow.proofs.Keeps.{last-same, last-other, held-same, held-other}
 use Rattle.follow.proofs.Table.{Stands}
 
 -- what is asked of a change c at place i to n octets, with floor f after it, and with the store st before and st′ after it
-pub record Fits (b : Board) (st st′ : List ℕ) (c : Change) (i n f : ℕ) : Type 0 where
-  pub proper : Proper (changed b i (keyOf c) n f)
+pub record Fits (b : Table) (st st′ : List ℕ) (c : Deed) (i n f : ℕ) : Type 0 where
+  pub proper : Proper (changed b i (bearing b (keyOf c) n) f)
   pub place : i < places
   pub low : keyLeast ≤ keyOf c
   pub alone : (j : ℕ) → j < places → (i ≡ j → ⊥) → keyAt b j ≡ keyOf c → ⊥
   pub rises : b .floor ≤ f
   pub dropped : Used b i → (keyAt b i ≡ keyOf c → ⊥) → (lengthAt b i ≡ 0) × (versionAt b i ≤ f)
-  pub body : octets (changed b i (keyOf c) n f) st′ i ≡ bodyOf c
+  pub body : octets (changed b i (bearing b (keyOf c) n) f) st′ i ≡ leaves c
   pub store : length st′ ≡ length st
-  pub others : (j : ℕ) → j < places → (i ≡ j → ⊥) → octets (changed b i (keyOf c) n f) st′ j ≡ octets b st j
+  pub others : (j : ℕ) → j < places → (i ≡ j → ⊥) → octets (changed b i (bearing b (keyOf c) n) f) st′ j ≡ octets b st j
 
-module _ (b : Board) (st st′ : List ℕ) (h : Story) (c : Change) (i n f : ℕ) (r : Stands b st h) (x : Fits b st st′ c i n f) where
+module _ (b : Table) (st st′ : List ℕ) (h : Story) (c : Deed) (i n f : ℕ) (r : Stands b st h) (x : Fits b st st′ c i n f) where
   -- the board after it
-  abbrev b′ : Board
-  b′ = changed b i (keyOf c) n f
+  abbrev b′ : Table
+  b′ = changed b i (bearing b (keyOf c) n) f
 
   key-same : keyAt b′ i ≡ keyOf c
   key-same = getD-set-same (b .keys) i (keyOf c) 0 (omega (arith, x .place, r .sized .keys))
@@ -83,11 +82,12 @@ module _ (b : Board) (st st′ : List ℕ) (h : Story) (c : Change) (i n f : ℕ
       (r .there k (omega (arith, last-other c h k d))))
       (same? (keyOf c) k)
 
-  pub stands-changed : Stands (changed b i (keyOf c) n f) st′ (did c h)
+  pub stands-changed : Stands (changed b i (bearing b (keyOf c) n) f) st′ (did c h)
   stands-changed = record {
     proper = x .proper;
-    sized = changed-sized b i (keyOf c) n f (r .sized);
+    sized = changed-sized b i (bearing b (keyOf c) n) f (r .sized);
     enough = omega (arith, x .store, r .enough);
+    ordered = r .ordered;
     version-is = omega (arith, r .version-is);
     zero-not = last-other c h 0 (λ z. omega (arith, x .low)) ∙ r .zero-not;
     here = here-all;

@@ -8,9 +8,8 @@ use mathlib.Core.Option.{none}
 use mathlib.Core.Logic.{_⊎_, inl, inr, ⊎-elim}
 use lib.Dec.{leb}
 use borrow.Author.Tests.{leb-true}
-use Rattle.board_record.specs.declared.record.Board.{Board}
 use Rattle.board_record.specs.Sizes.{places}
-use Rattle.board_record.specs.Table.{keyAt, versionAt, lengthAt, Used, Removal, removalB}
+use Rattle.board_record.specs.Table.{Table, keyAt, versionAt, lengthAt, Used, RemovalAt, removalB}
 use Rattle.board_record.proofs.Logic.{and-true}
 use Rattle.board_record.proofs.Search.{removal-is}
 use Rattle.board_rules.specs.Body.{octetsAt}
@@ -22,18 +21,18 @@ use Rattle.follow.proofs.Table.{Stands}
 
 -- ---- a place that is dropped, and one that is not
 
-drop-means : (b : Board) (c i : ℕ) → dropped b c i ≡ true → Removal b i × (versionAt b i ≤ c)
+drop-means : (b : Table) (c i : ℕ) → dropped b c i ≡ true → RemovalAt b i × (versionAt b i ≤ c)
 unfolding dropped
 drop-means b c i e = let p = and-true (removalB b i) (leb (versionAt b i) c) e in (removal-is b i (p .0), leb-true (versionAt b i) c (p .1))
 
-drop-dec : (b : Board) (c i : ℕ) → (dropped b c i ≡ true) ⊎ (dropped b c i ≡ false)
+drop-dec : (b : Table) (c i : ℕ) → (dropped b c i ≡ true) ⊎ (dropped b c i ≡ false)
 drop-dec b c i = go (dropped b c i) refl
   where
     go : (x : Bool) → dropped b c i ≡ x → (dropped b c i ≡ true) ⊎ (dropped b c i ≡ false)
     go true e = inl e
     go false e = inr e
 
-module _ (b : Board) (c i : ℕ) (l : i < places) where
+module _ (b : Table) (c i : ℕ) (l : i < places) where
   len-is : lengthAt (compacted b c) i ≡ lengthAt b i
   unfolding compacted
   len-is = refl
@@ -49,7 +48,7 @@ module _ (b : Board) (c i : ℕ) (l : i < places) where
 
 -- ---- the table
 
-module _ (b : Board) (st : List ℕ) (h : Story) (c : ℕ) (r : Stands b st h) (top : c ≤ b .version) where
+module _ (b : Table) (st : List ℕ) (h : Story) (c : ℕ) (r : Stands b st h) (top : c ≤ b .version) where
   here-compacted : (i : ℕ) → i < places → Used (compacted b c) i → (last h (keyAt (compacted b c) i) ≡ versionAt (compacted b c) i) × (held h (keyAt (compacted b c) i) ≡ octets (compacted b c) st i)
   unfolding octetsAt
   here-compacted i l u =
@@ -73,6 +72,7 @@ module _ (b : Board) (st : List ℕ) (h : Story) (c : ℕ) (r : Stands b st h) (
     proper = compacted-proper b c (r .proper) top;
     sized = record { keys = length-row (λ i. cond (dropped b c i) 0 (keyAt b i)) places; versions = length-row (λ i. cond (dropped b c i) 0 (versionAt b i)) places; lengths = r .sized .lengths };
     enough = r .enough;
+    ordered = r .ordered;
     version-is = r .version-is;
     zero-not = r .zero-not;
     here = here-compacted;

@@ -1,4 +1,5 @@
--- The board's floor is the story's. Assumes nothing.
+-- The board's floor is the story's: a key stands by the story exactly if a place has it, so as many keys stand as places are used, and the oldest removal
+-- that stands is the oldest on the table. Assumes nothing.
 use Prim.Native.Nat.{ℕ, zero, suc, _≤_, _<_}
 use native.Mathlib.Omega.{arith}
 use mathlib.Core.Path.{_≡_, refl, sym, ap, _∙_}
@@ -9,8 +10,7 @@ use mathlib.Core.Logic.{_⊎_, inl, inr, ⊎-elim}
 use lib.Dec.{eqb, ltb, leb}
 use borrow.Author.Tests.{eq-eqb, ne-eqb, eqb-true, eqb-false, lt-ltb, le-ltb, ltb-true, leb-true, leb-false, not-true}
 use borrow.Author.Count.{below-more}
-use Rattle.board_record.specs.declared.record.Board.{Board}
-use Rattle.board_record.specs.Table.{keyAt, versionAt, lengthAt}
+use Rattle.board_record.specs.Table.{Table, keyAt, versionAt, lengthAt}
 use Rattle.board_record.specs.Search.{ReportPlace, keeps, takes, drops, floorAfter}
 use Rattle.board_record.proofs.Logic.{true≢false, and-true, same?, test-is}
 use Rattle.board_record.proofs.Proper.{proper-sound}
@@ -24,7 +24,7 @@ use Rattle.follow.proofs.Table.{Stands, octets-none}
 use Rattle.follow.proofs.Counts.{has, used, keys-count, count-same}
 
 -- ---- a key stands exactly if a place has it
-has-yes : (b : Board) (n k j : ℕ) → j < n → keyAt b j ≡ k → (k ≡ 0 → ⊥) → has b n k ≡ true
+has-yes : (b : Table) (n k j : ℕ) → j < n → keyAt b j ≡ k → (k ≡ 0 → ⊥) → has b n k ≡ true
 unfolding has
 has-yes b zero k j l e u = absurd (omega arith)
 has-yes b (suc n) k j l e u = go (has-yes b n k j) (same? j n)
@@ -38,7 +38,7 @@ has-yes b (suc n) k j l e u = go (has-yes b n k j) (same? j n)
     go r (inl q) = let kn : keyAt b n ≡ k = ap (keyAt b) (sym q) ∙ e in rw (eq-eqb (keyAt b n) k kn, ne-eqb (keyAt b n) 0 (λ z. u (sym kn ∙ z)))
     go r (inr d) = rw (r (omega (arith, d)) e u) (keep (eqb (keyAt b n) 0) (eqb (keyAt b n) k))
 
-has-where : (b : Board) (n k : ℕ) → has b n k ≡ true → (j : ℕ) × (j < n) × (keyAt b j ≡ k) × (keyAt b j ≡ 0 → ⊥)
+has-where : (b : Table) (n k : ℕ) → has b n k ≡ true → (j : ℕ) × (j < n) × (keyAt b j ≡ k) × (keyAt b j ≡ 0 → ⊥)
 unfolding has
 has-where b zero k e = absurd (true≢false (sym e))
 has-where b (suc n) k e = go (has-where b n k) (eqb (keyAt b n) 0) refl (eqb (keyAt b n) k) refl e
@@ -46,12 +46,15 @@ has-where b (suc n) k e = go (has-where b n k) (eqb (keyAt b n) 0) refl (eqb (ke
     up : (j : ℕ) × (j < n) × (keyAt b j ≡ k) × (keyAt b j ≡ 0 → ⊥) → (j : ℕ) × (j < suc n) × (keyAt b j ≡ k) × (keyAt b j ≡ 0 → ⊥)
     up y = (y .0, omega (arith, y .1), y .2, y .3)
 
-    go : (has b n k ≡ true → (j : ℕ) × (j < n) × (keyAt b j ≡ k) × (keyAt b j ≡ 0 → ⊥)) → (x : Bool) → eqb (keyAt b n) 0 ≡ x → (y : Bool) → eqb (keyAt b n) k ≡ y → cond x (has b n k) (cond y true (has b n k)) ≡ true → (j : ℕ) × (j < suc n) × (keyAt b j ≡ k) × (keyAt b j ≡ 0 → ⊥)
+    go : (has b n k ≡ true → (j : ℕ) × (j < n) × (keyAt b j ≡ k) × (keyAt b j ≡ 0 → ⊥))
+        → (x : Bool) → eqb (keyAt b n) 0 ≡ x → (y : Bool) → eqb (keyAt b n) k ≡ y
+        → cond x (has b n k) (cond y true (has b n k)) ≡ true
+        → (j : ℕ) × (j < suc n) × (keyAt b j ≡ k) × (keyAt b j ≡ 0 → ⊥)
     go r true p y q h = up (r h)
     go r false p true q h = (n, omega arith, eqb-true _ _ q, eqb-false _ _ p)
     go r false p false q h = up (r h)
 
-module _ (b : Board) (store : List ℕ) (h : Story) (r : Stands b store h) where
+module _ (b : Table) (store : List ℕ) (h : Story) (r : Stands b store h) where
   place-stands : (i : ℕ) → i < 128 → (keyAt b i ≡ 0 → ⊥) → standing h (b .floor) (keyAt b i) ≡ true
   unfolding standing
   place-stands i l u = let g = r .here i l u in go (eqb (lengthAt b i) 0) refl (rw (g .1, g .0) refl)
@@ -70,7 +73,7 @@ module _ (b : Board) (store : List ℕ) (h : Story) (r : Stands b store h) where
       go (some c) p (inl q) = (pos (leb (last h k) 0) refl, λ z. absurd (true≢false (sym q ∙ ap isSome z)))
         where
           pos : (t : Bool) → leb (last h k) 0 ≡ t → 0 < last h k
-          pos true y = absurd (true≢false (sym q ∙ ap isSome (none-yet h k (leb-true (last h k) 0 y))))
+          pos true y = absurd (true≢false (sym q ∙ ap isSome (none-yet h (r .ordered) k (leb-true (last h k) 0 y))))
           pos false y = leb-false (last h k) 0 y
 
   stands-place : (k : ℕ) → standing h (b .floor) k ≡ true → (i : ℕ) × (i < 128) × (keyAt b i ≡ k)
@@ -119,16 +122,24 @@ data Min (t : ℕ → Bool) (v : ℕ → ℕ) (n x : ℕ) : Type 0 where
   no-one : x ≡ 0 → ((j : ℕ) → j < n → t j ≡ false) → Min t v n x
   someone : (k : ℕ) → k < n → t k ≡ true → x ≡ v k → ((j : ℕ) → j < n → t j ≡ true → v k ≤ v j) → Min t v n x
 
-min-step : (t : ℕ → Bool) (v : ℕ → ℕ) (n x : ℕ) → ((j : ℕ) → 0 < v j ⊎ (t j ≡ false)) → Min t v n x → (y : Bool) → t n ≡ y → Min t v (suc n) (cond y (cond (eqb x 0) (v n) (cond (leb x (v n)) x (v n))) x)
+min-step : (t : ℕ → Bool) (v : ℕ → ℕ) (n x : ℕ) → ((j : ℕ) → 0 < v j ⊎ (t j ≡ false)) → Min t v n x
+    → (y : Bool) → t n ≡ y
+    → Min t v (suc n) (cond y (cond (eqb x 0) (v n) (cond (leb x (v n)) x (v n))) x)
 min-step t v n x pos (no-one z f) false e = no-one z (λ j l. below-more (λ k. t k ≡ false) n f e j (omega arith))
-min-step t v n x pos (no-one z f) true e = rw (eq-eqb x 0 z) (someone n (omega arith) e refl (λ j l q. below-more (λ k. t k ≡ true → v n ≤ v k) n (λ k u p. absurd (true≢false (sym p ∙ f k u))) (λ p. omega arith) j (omega arith) q))
+min-step t v n x pos (no-one z f) true e =
+    rw (eq-eqb x 0 z)
+    (someone n (omega arith) e refl
+    (λ j l q. below-more (λ k. t k ≡ true → v n ≤ v k) n (λ k u p. absurd (true≢false (sym p ∙ f k u))) (λ p. omega arith) j (omega arith) q))
 min-step t v n x pos (someone k l p q f) false e = someone k (omega arith) p q (λ j m y. below-more (λ i. t i ≡ true → v k ≤ v i) n f (λ z. absurd (true≢false (sym z ∙ e))) j (omega arith) y)
 min-step t v n x pos (someone k l p q f) true e =
     ⊎-elim (λ u. rw (ne-eqb x 0 (λ z. omega arith)) (go (leb x (v n)) refl)) (λ u. absurd (true≢false (sym p ∙ u))) (pos k)
   where
     go : (y : Bool) → leb x (v n) ≡ y → Min t v (suc n) (cond y x (v n))
     go true y = let le = leb-true x (v n) y in someone k (omega arith) p q (λ j m z. below-more (λ i. t i ≡ true → v k ≤ v i) n f (λ w. omega arith) j (omega arith) z)
-    go false y = let lt = leb-false x (v n) y in someone n (omega arith) e refl (λ j m z. below-more (λ i. t i ≡ true → v n ≤ v i) n (λ i u w. omega (arith, f i u w)) (λ w. omega arith) j (omega arith) z)
+    go false y =
+        let lt = leb-false x (v n) y in
+        someone n (omega arith) e refl
+        (λ j m z. below-more (λ i. t i ≡ true → v n ≤ v i) n (λ i u w. omega (arith, f i u w)) (λ w. omega arith) j (omega arith) z)
 
 min-is : (t : ℕ → Bool) (v : ℕ → ℕ) → ((j : ℕ) → 0 < v j ⊎ (t j ≡ false)) → (n : ℕ) → Min t v n (leastValue t v n)
 unfolding leastValue
@@ -142,7 +153,7 @@ least-value t v pos n k l e f = go (leastValue t v n) (min-is t v pos n)
     go x (no-one z g) = absurd (true≢false (sym e ∙ g k l))
     go x (someone j m p q g) = omega (arith, g k l e, f j m p)
 
-module _ (b : Board) (store : List ℕ) (h : Story) (r : Stands b store h) (k i : ℕ) (l : i < 128) (k-low : 1 ≤ k) where
+module _ (b : Table) (store : List ℕ) (h : Story) (r : Stands b store h) (k i : ℕ) (l : i < 128) (k-low : 1 ≤ k) where
   mark? : ℕ → Bool
   mark? j = standing h (b .floor) j && not (isSome (held h j))
 

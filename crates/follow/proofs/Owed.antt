@@ -1,11 +1,11 @@
--- What a follower must hear, by cases: the promise says no less and no more. Assumes nothing.
+-- What a follower must hear, by cases: the promise says no less and no more, and so any two answers that fit it are equal. Assumes nothing.
 use Prim.Native.Nat.{ℕ, _≤_, _<_, max}
 use native.Mathlib.Omega.{arith}
 use mathlib.Core.Path.{_≡_, refl, sym, ap, _∙_}
 use mathlib.Core.Logic.{_⊎_, ⊎-elim}
 use Rattle.answers.specs.Numbers.{markTooOld}
 use Rattle.board_record.proofs.Logic.{from?}
-use Rattle.follow.specs.Story.{Change, put, gone, Story, version, keyOf, bodyOf, held, last}
+use Rattle.follow.specs.Story.{Deed, sets, clears, Story, Ordered, beginningOf, version, keyOf, leaves, held, last}
 use Rattle.follow.specs.Floor.{floorOf}
 use Rattle.follow.specs.Follower.{Follower, Lacks, Oldest}
 use Rattle.follow.specs.Heard.{Heard, refusal, change, level}
@@ -16,18 +16,18 @@ use Rattle.follow.proofs.Keeps.{last-one}
 -- too old; or handed the oldest change that it lacks; or level, where it lacks none
 pub data Owed (h : Story) (f : Follower) (a : Heard) : Type 0 where
   old : max (f .s) (f .w) < floorOf h → a ≡ refusal markTooOld → Owed h f a
-  next : floorOf h ≤ max (f .s) (f .w) → (c : Change) (v : ℕ) → Oldest h (f .s) (f .w) (keyOf c) v → bodyOf c ≡ held h (keyOf c) → a ≡ change c v → Owed h f a
+  next : floorOf h ≤ max (f .s) (f .w) → (c : Deed) (v : ℕ) → Oldest h (f .s) (f .w) (keyOf c) v → leaves c ≡ held h (keyOf c) → a ≡ change c v → Owed h f a
   done : floorOf h ≤ max (f .s) (f .w) → ((k : ℕ) → Lacks h (f .s) (f .w) k → ⊥) → ((k : ℕ) → f .holds k ≡ held h k) → a ≡ level (version h) → Owed h f a
 
 -- ---- what is heard is one thing
 
-refusal≢change : (n : ℕ) (c : Change) (v : ℕ) → refusal n ≡ change c v → ⊥
+refusal≢change : (n : ℕ) (c : Deed) (v : ℕ) → refusal n ≡ change c v → ⊥
 refusal≢change n c v q = let z : _≡_ {A = ℕ} 0 1 = cc in omega arith
 
 refusal≢level : (n v : ℕ) → refusal n ≡ level v → ⊥
 refusal≢level n v q = let z : _≡_ {A = ℕ} 0 1 = cc in omega arith
 
-change≢level : (c : Change) (v w : ℕ) → change c v ≡ level w → ⊥
+change≢level : (c : Deed) (v w : ℕ) → change c v ≡ level w → ⊥
 change≢level c v w q = let z : _≡_ {A = ℕ} 0 1 = cc in omega arith
 
 refusal-one : (n m : ℕ) → refusal n ≡ refusal m → n ≡ m
@@ -36,7 +36,7 @@ refusal-one n m q = cc
 level-one : (n m : ℕ) → level n ≡ level m → n ≡ m
 level-one n m q = cc
 
-change-one : (c d : Change) (v w : ℕ) → change c v ≡ change d w → (c ≡ d) × (v ≡ w)
+change-one : (c d : Deed) (v w : ℕ) → change c v ≡ change d w → (c ≡ d) × (v ≡ w)
 change-one c d v w q = (cc, cc)
 
 -- ---- the promise from the cases, and the cases from the promise
@@ -74,30 +74,30 @@ owed-of h f (level v) r = let p = r .level-if v .0 refl in done (p .1) (p .2) (r
 -- ---- any two answers that fit are equal
 
 -- a change is its key and its body
-change-is : (c d : Change) → keyOf c ≡ keyOf d → bodyOf c ≡ bodyOf d → c ≡ d
-change-is (put k x) (put j y) p q = rw (p, some-one x y q)
-change-is (put k x) (gone j) p q = absurd (some≢none x q)
-change-is (gone k) (put j y) p q = absurd (some≢none y (sym q))
-change-is (gone k) (gone j) p q = ap gone p
+change-is : (c d : Deed) → keyOf c ≡ keyOf d → leaves c ≡ leaves d → c ≡ d
+change-is (sets k x) (sets j y) p q = rw (p, some-one x y q)
+change-is (sets k x) (clears j) p q = absurd (some≢none x q)
+change-is (clears k) (sets j y) p q = absurd (some≢none y (sym q))
+change-is (clears k) (clears j) p q = ap clears p
 
 -- the oldest lacked is one change
-oldest-one : (h : Story) (s w j k u v : ℕ) → Oldest h s w j u → Oldest h s w k v → j ≡ k
-oldest-one h s w j k u v x y = last-one h j k (omega (arith, x .first k (y .lacked), y .first j (x .lacked))) (omega (arith, x .lacked .newer))
+oldest-one : (h : Story) → Ordered (beginningOf h) → (s w j k u v : ℕ) → Oldest h s w j u → Oldest h s w k v → j ≡ k
+oldest-one h o s w j k u v x y = last-one h o j k (omega (arith, x .first k (y .lacked), y .first j (x .lacked))) (omega (arith, x .lacked .newer))
 
-owed-one : (h : Story) (f : Follower) (a d : Heard) → Owed h f a → Owed h f d → a ≡ d
-owed-one h f a d (old l e) (old m q) = e ∙ sym q
-owed-one h f a d (old l e) (next m c v o b q) = absurd (omega arith)
-owed-one h f a d (old l e) (done m n b q) = absurd (omega arith)
-owed-one h f a d (next l c v o b e) (old m q) = absurd (omega arith)
-owed-one h f a d (next l c v o b e) (next m c′ v′ o′ b′ q) =
-    let k = oldest-one h (f .s) (f .w) (keyOf c) (keyOf c′) v v′ o o′ in
+owed-one : (h : Story) → Ordered (beginningOf h) → (f : Follower) (a d : Heard) → Owed h f a → Owed h f d → a ≡ d
+owed-one h i f a d (old l e) (old m q) = e ∙ sym q
+owed-one h i f a d (old l e) (next m c v o b q) = absurd (omega arith)
+owed-one h i f a d (old l e) (done m n b q) = absurd (omega arith)
+owed-one h i f a d (next l c v o b e) (old m q) = absurd (omega arith)
+owed-one h i f a d (next l c v o b e) (next m c′ v′ o′ b′ q) =
+    let k = oldest-one h i (f .s) (f .w) (keyOf c) (keyOf c′) v v′ o o′ in
     let y : c ≡ c′ = change-is c c′ k (b ∙ ap (held h) k ∙ sym b′) in
     let z : v ≡ v′ = sym (o .bears) ∙ ap (last h) k ∙ o′ .bears in
-    e ∙ ap (λ (x : Change). change x v) y ∙ ap (change c′) z ∙ sym q
-owed-one h f a d (next l c v o b e) (done m n b′ q) = absurd (n (keyOf c) (o .lacked))
-owed-one h f a d (done l n b e) (old m q) = absurd (omega arith)
-owed-one h f a d (done l n b e) (next m c v o b′ q) = absurd (n (keyOf c) (o .lacked))
-owed-one h f a d (done l n b e) (done m n′ b′ q) = e ∙ sym q
+    e ∙ ap (λ (x : Deed). change x v) y ∙ ap (change c′) z ∙ sym q
+owed-one h i f a d (next l c v o b e) (done m n b′ q) = absurd (n (keyOf c) (o .lacked))
+owed-one h i f a d (done l n b e) (old m q) = absurd (omega arith)
+owed-one h i f a d (done l n b e) (next m c v o b′ q) = absurd (n (keyOf c) (o .lacked))
+owed-one h i f a d (done l n b e) (done m n′ b′ q) = e ∙ sym q
 
-pub answered-determined : (h : Story) (f : Follower) (a d : Heard) → Answered h f a → Answered h f d → a ≡ d
-answered-determined h f a d x y = owed-one h f a d (owed-of h f a x) (owed-of h f d y)
+pub answered-determined : (h : Story) → Ordered (beginningOf h) → (f : Follower) (a d : Heard) → Answered h f a → Answered h f d → a ≡ d
+answered-determined h i f a d x y = owed-one h i f a d (owed-of h f a x) (owed-of h f d y)

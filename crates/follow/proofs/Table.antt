@@ -1,4 +1,5 @@
--- The table against the story. Assumes nothing.
+-- The table against the story: what a follower lacks stands at a place that the search wants, and the other way round, unless its mark is below the
+-- floor; so the place found is that of the oldest change that it lacks. Assumes nothing.
 use Prim.Native.Nat.{ℕ, _≤_, _<_, max}
 use native.Mathlib.Omega.{arith}
 use mathlib.Core.Path.{_≡_, refl, sym, ap, _∙_}
@@ -9,9 +10,8 @@ use mathlib.Core.Logic.{_⊎_, inl, ⊎-elim}
 use lib.ListN.{length}
 use lib.Dec.{eqb}
 use borrow.Author.Tests.{eqb-true}
-use Rattle.board_record.specs.declared.record.Board.{Board}
 use Rattle.board_record.specs.Sizes.{places, storeSize}
-use Rattle.board_record.specs.Table.{keyAt, versionAt, lengthAt, Used, Sized}
+use Rattle.board_record.specs.Table.{Table, keyAt, versionAt, lengthAt, Used, Sized}
 use Rattle.board_record.specs.Search.{Wanted, nextOf}
 use Rattle.board_record.specs.Search.Wanted.{path, removal}
 use Rattle.board_record.specs.Proper.{Proper}
@@ -19,22 +19,23 @@ use Rattle.board_record.proofs.Logic.{same?}
 use Rattle.board_record.proofs.Search.{wanted-used}
 use Rattle.board_record.proofs.Search as searches
 use Rattle.board_rules.specs.Body.{octetsAt}
-use Rattle.follow.specs.Story.{Story, begun, version, held, last}
+use Rattle.follow.specs.Story.{Story, beginning, Ordered, begun, beginningOf, version, held, last}
 use Rattle.follow.specs.Follower.{Lacks, Oldest}
 use Rattle.follow.proofs.Cases.{some≢none}
-use Rattle.follow.proofs.Begun.{octets, octets-mark, begun-zero, begun-here, begun-there}
+use Rattle.follow.proofs.Begun.{octets, octets-mark, begun-zero, begun-here, begun-there, begun-ordered}
 
 -- A used place holds its key's last change. A key that was changed has a place, or its removal was dropped at or below the floor.
-pub record Stands (b : Board) (store : List ℕ) (h : Story) : Type 0 where
+pub record Stands (b : Table) (store : List ℕ) (h : Story) : Type 0 where
   pub proper : Proper b
   pub sized : Sized b
   pub enough : storeSize ≤ length store
+  pub ordered : Ordered (beginningOf h)
   pub version-is : b .version ≡ version h
   pub zero-not : last h 0 ≡ 0
   pub here : (i : ℕ) → i < places → Used b i → (last h (keyAt b i) ≡ versionAt b i) × (held h (keyAt b i) ≡ octets b store i)
   pub there : (k : ℕ) → 0 < last h k → ((i : ℕ) × (i < places) × (keyAt b i ≡ k)) ⊎ ((held h k ≡ none) × (last h k ≤ b .floor))
 
-pub octets-none : (b : Board) (store : List ℕ) (i : ℕ) → octets b store i ≡ none → lengthAt b i ≡ 0
+pub octets-none : (b : Table) (store : List ℕ) (i : ℕ) → octets b store i ≡ none → lengthAt b i ≡ 0
 octets-none b store i e = go (eqb (lengthAt b i) 0) refl e
   where
     go : (x : Bool) → eqb (lengthAt b i) 0 ≡ x → cond x none (some (octetsAt b store i)) ≡ none → lengthAt b i ≡ 0
@@ -43,7 +44,7 @@ octets-none b store i e = go (eqb (lengthAt b i) 0) refl e
 
 -- ---- the next change
 
-module _ (b : Board) (store : List ℕ) (h : Story) (s w : ℕ) (r : Stands b store h) where
+module _ (b : Table) (store : List ℕ) (h : Story) (s w : ℕ) (r : Stands b store h) where
   -- a place is wanted exactly if its key's last change is lacked
   wanted-lacks : (i : ℕ) → i < places → Wanted b s w i → Lacks h s w (keyAt b i)
   wanted-lacks i l (path p v) = let g = r .here i l (p .used) in
@@ -76,7 +77,8 @@ module _ (b : Board) (store : List ℕ) (h : Story) (s w : ℕ) (r : Stands b st
   none-lacked f n k x = let p = lacks-there f k x in searches.next-none b s w n (p .0) (p .1) (p .3)
 
   -- a place is found: it holds the oldest change that is lacked
-  pub oldest-lacked : b .floor ≤ max s w → nextOf b s w < places → Oldest h s w (keyAt b (nextOf b s w)) (versionAt b (nextOf b s w)) × (held h (keyAt b (nextOf b s w)) ≡ octets b store (nextOf b s w))
+  pub oldest-lacked : b .floor ≤ max s w → nextOf b s w < places
+      → Oldest h s w (keyAt b (nextOf b s w)) (versionAt b (nextOf b s w)) × (held h (keyAt b (nextOf b s w)) ≡ octets b store (nextOf b s w))
   oldest-lacked f n =
       let c = searches.next-is b s w n in
       let i = nextOf b s w in
@@ -95,11 +97,12 @@ module _ (b : Board) (store : List ℕ) (h : Story) (s w : ℕ) (r : Stands b st
 
 -- ---- the start
 
-pub stands-begun : (b : Board) (store : List ℕ) (p : Proper b) → Sized b → storeSize ≤ length store → Stands b store (begun b store p)
+pub stands-begun : (b : Table) (store : List ℕ) (p : Proper b) → Sized b → storeSize ≤ length store → Stands b store (begun (beginning b store))
 stands-begun b store p z g = record {
   proper = p;
   sized = z;
   enough = g;
+  ordered = begun-ordered b store p;
   version-is = refl;
   zero-not = begun-zero b store p;
   here = begun-here b store p;

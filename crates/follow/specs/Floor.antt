@@ -7,7 +7,7 @@ use mathlib.Core.Bool.{Bool, true, false, not, cond, _&&_, _||_}
 use mathlib.Core.Option.{Option, none, some}
 use lib.Dec.{eqb, ltb, leb}
 use Rattle.board_record.specs.Sizes.{places, keyMost}
-use Rattle.follow.specs.Story.{Body, put, gone, Story, begun, did, compactedTo, held, last}
+use Rattle.follow.specs.Story.{Body, sets, clears, Story, begun, did, compactedTo, held, last}
 
 -- how many of the numbers below n pass
 unfoldable pub countBelow : (ℕ → Bool) → ℕ → ℕ
@@ -44,7 +44,7 @@ unfoldable pub floorPut : Story → ℕ → ℕ → ℕ
 floorPut h f k = cond (standing h f k) f (cond (ltb (countBelow (standing h f) keyEnd) places) f (oldestRemoval h f))
 
 unfoldable pub floorOf : Story → ℕ
-floorOf (begun b store p) = b .floor
-floorOf (did (put k body) h) = floorPut h (floorOf h) k
-floorOf (did (gone k) h) = floorOf h
+floorOf (begun o) = o .floor
+floorOf (did (sets k body) h) = floorPut h (floorOf h) k
+floorOf (did (clears k) h) = floorOf h
 floorOf (compactedTo c h) = max (floorOf h) c

@@ -6,20 +6,20 @@ use Rattle.octets.specs.Octets.{part}
 use Rattle.board_record.specs.Sizes.{room}
 use Rattle.board_rules.specs.declared.answer.Handed.{Handed}
 use Rattle.board_rules.specs.declared.answer.Handed.the-variants.{Refused, Path, Removed, Level}
-use Rattle.follow.specs.Story.{Change, put, gone}
+use Rattle.follow.specs.Story.{Deed, sets, clears}
 use Rattle.follow.specs.Follower.{Follower, makes, levels}
 
 -- a refusal's number; a change and its version; or that it is level, with a version
 pub data Heard : Type 0 where
   refusal : ℕ → Heard
-  change : Change → ℕ → Heard
+  change : Deed → ℕ → Heard
   level : ℕ → Heard
 
 -- "a path's octets are named by place and length": it reads them from the store
 abbrev pub heardIn : List ℕ → Handed → Heard
 heardIn store (Refused v) = refusal (v .number)
-heardIn store (Path c o) = change (put (c .key) (part store (room * o .place) (o .length))) (c .version)
-heardIn store (Removed c) = change (gone (c .key)) (c .version)
+heardIn store (Path c o) = change (sets (c .key) (part store (room * o .place) (o .length))) (c .version)
+heardIn store (Removed c) = change (clears (c .key)) (c .version)
 heardIn store (Level v) = level v
 
 -- A refused ask changes nothing. A change handed to it is made. Told that it is level, it sets both numbers, or does not (both).
@@ -27,3 +27,9 @@ abbrev pub does : Follower → Bool → Heard → Follower
 does f both (refusal n) = f
 does f both (change c v) = makes f c v
 does f both (level v) = cond both (levels f v) f
+
+-- Cut off after it has made the change and before it has kept its mark, it holds the change under the mark that it had.
+abbrev pub cutOff : Follower → Heard → Follower
+cutOff f (refusal n) = f
+cutOff f (change c v) = makes f c (f .w)
+cutOff f (level v) = f

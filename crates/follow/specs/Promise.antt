@@ -11,14 +11,13 @@ use mathlib.Core.Logic.{_↔_}
 use lib.ListN.{length}
 use Rattle.answers.specs.Numbers.{noPath, markTooOld}
 use Rattle.answers.specs.Verdicts.{refusedBy, acceptedWith}
-use Rattle.board_record.specs.declared.record.Board.{Board}
 use Rattle.board_record.specs.Sizes.{storeSize, keyLeast, keyMost}
-use Rattle.board_record.specs.Table.{Sized}
+use Rattle.board_record.specs.Table.{Table, Sized}
 use Rattle.board_record.specs.Proper.{Proper}
-use Rattle.board_rules.specs.Body.{bodyNumber, bodyOf as bodyHanded}
-use Rattle.follow.specs.Story.{Body, Change, Story, keyOf, bodyOf, version, held}
+use Rattle.board_rules.specs.Body.{bodyNumber, bodyOf}
+use Rattle.follow.specs.Story.{Body, Deed, Story, keyOf, leaves, beginning, begun, version, held}
 use Rattle.follow.specs.Floor.{floorOf}
-use Rattle.follow.specs.Follower.{Follower, Lacks, Oldest}
+use Rattle.follow.specs.Follower.{Follower, Keeps, Lacks, Oldest}
 use Rattle.follow.specs.Heard.{Heard, refusal, change, level}
 use Rattle.follow.specs.Run.{World, Act, start, run, answerTo}
 
@@ -29,29 +28,39 @@ pub record Answered (h : Story) (f : Follower) (a : Heard) : Type 0 where
   -- no refusal has another number
   pub no-other : (n : ℕ) → a ≡ refusal n → n ≡ markTooOld
   -- a change handed out is the oldest that it lacks, with that change's key, version and octets
-  pub handed : (c : Change) (v : ℕ) → a ≡ change c v → Oldest h (f .s) (f .w) (keyOf c) v × (bodyOf c ≡ held h (keyOf c))
+  pub handed : (c : Deed) (v : ℕ) → a ≡ change c v → Oldest h (f .s) (f .w) (keyOf c) v × (leaves c ≡ held h (keyOf c))
   -- level exactly if it is not too old and lacks none, with the story's version
   pub level-if : (v : ℕ) → (a ≡ level v) ↔ ((v ≡ version h) × (floorOf h ≤ max (f .s) (f .w)) × ((k : ℕ) → Lacks h (f .s) (f .w) k → ⊥))
   -- and told so, it holds what was last reported and not removed since, for every key
   pub holds-all : (v : ℕ) → a ≡ level v → (k : ℕ) → f .holds k ≡ held h k
 
--- a board and a store to begin with: the arrays whole, the record proper, the store long enough
-pub record Whole (b : Board) (store : List ℕ) : Type 0 where
+-- a table and a store to begin with: the lists whole, the table proper, the store long enough
+pub record Ready (b : Table) (store : List ℕ) : Type 0 where
   pub sized : Sized b
   pub proper : Proper b
   pub enough : storeSize ≤ length store
 
+-- the followers at the start: each holds what its mark says; fresh ones do
+abbrev pub KeptBy : Table → List ℕ → (ℕ → Follower) → Type 0
+KeptBy b store followers = (n : ℕ) → Keeps (begun (beginning b store)) (followers n)
+
 -- After any acts of anyone, each follower that asks is so answered.
 abbrev pub NoFollowerIsFooled : Type 0
-NoFollowerIsFooled = (b : Board) (store : List ℕ) (g : Whole b store) (acts : List Act) (n : ℕ) →
-    let x = run (start b store (g .proper)) acts in Answered (x .story) (x .followers n) (answerTo x n)
+NoFollowerIsFooled = (b : Table) (store : List ℕ) (followers : ℕ → Follower) → Ready b store → KeptBy b store followers → (acts : List Act) (n : ℕ) →
+    let x = run (start b store followers) acts in Answered (x .story) (x .followers n) (answerTo x n)
 
 -- ---- beside it: whoever asks the board itself
 
 -- the body call answers as the story does: a key that is held gives its path, another key in range gives 22
 pub record BodyGiven (x : World) (k : ℕ) : Type 0 where
-  pub path : (body : Body) → held (x .story) k ≡ some body → (bodyNumber (x .board) (x .store) k ≡ acceptedWith 0) × (bodyHanded (x .board) (x .store) k ≡ body)
-  pub no-path : held (x .story) k ≡ none → keyLeast ≤ k → k ≤ keyMost → bodyNumber (x .board) (x .store) k ≡ refusedBy noPath 0
+  pub path : (body : Body) → held (x .story) k ≡ some body → (bodyNumber (x .table) (x .store) k ≡ acceptedWith 0) × (bodyOf (x .table) (x .store) k ≡ body)
+  pub no-path : held (x .story) k ≡ none → keyLeast ≤ k → k ≤ keyMost → bodyNumber (x .table) (x .store) k ≡ refusedBy noPath 0
 
 abbrev pub BodiesAreThoseHeld : Type 0
-BodiesAreThoseHeld = (b : Board) (store : List ℕ) (g : Whole b store) (acts : List Act) (k : ℕ) → BodyGiven (run (start b store (g .proper)) acts) k
+BodiesAreThoseHeld = (b : Table) (store : List ℕ) (followers : ℕ → Follower) → Ready b store → (acts : List Act) (k : ℕ) →
+    BodyGiven (run (start b store followers) acts) k
+
+-- the board's own numbers are the story's
+abbrev pub NumbersAreTheStorys : Type 0
+NumbersAreTheStorys = (b : Table) (store : List ℕ) (followers : ℕ → Follower) → Ready b store → (acts : List Act) →
+    let x = run (start b store followers) acts in (x .table .version ≡ version (x .story)) × (x .table .floor ≡ floorOf (x .story))

@@ -1,18 +1,17 @@
--- The story of a board: the board and store that it began with, then its accepted calls, the newest outermost.
+-- The story of a board: what stood at its beginning, then its accepted calls, the newest outermost.
 --
 -- Only accepted calls are in it, each as the caller made it: a key and the octets of a path, a key, or the number c of a compaction. What is
--- defined here is read off these calls alone: no later record of the board is looked at, and an empty first board says nothing.
--- "Each accepted report or removal raises the version by 1 and the change bears that": no versions are written beside the changes.
-use Prim.Native.Nat.{ℕ, suc}
+-- defined here is read off these calls and the beginning alone: no later table is looked at, and an empty first table says nothing.
+-- "Each accepted report or removal raises the version by 1 and the change bears that": no versions are written beside the deeds.
+use Prim.Native.Nat.{ℕ, suc, _≤_, _<_}
+use mathlib.Core.Path.{_≡_}
 use mathlib.Core.Bool.{cond}
 use mathlib.Core.List.{List}
 use mathlib.Core.Option.{Option, none, some}
 use lib.Dec.{eqb, ltb}
-use Rattle.board_record.specs.declared.record.Board.{Board}
 use Rattle.board_record.specs.Sizes.{places}
-use Rattle.board_record.specs.Table.{versionAt}
+use Rattle.board_record.specs.Table.{Table, versionAt}
 use Rattle.board_record.specs.Search.{placeOf}
-use Rattle.board_record.specs.Proper.{Proper}
 use Rattle.board_rules.specs.Rules.{hasPath}
 use Rattle.board_rules.specs.Body.{octetsAt}
 
@@ -23,40 +22,70 @@ abbrev pub Body : Type 0
 Body = List ℕ
 
 -- an accepted report of a key with its body, or an accepted removal of a key
-pub data Change : Type 0 where
-  put : ℕ → Body → Change
-  gone : ℕ → Change
+pub data Deed : Type 0 where
+  sets : ℕ → Body → Deed
+  clears : ℕ → Deed
 
--- begun with a proper board and its store; then, the last first, accepted changes and accepted compactions (c)
+abbrev pub keyOf : Deed → ℕ
+keyOf (sets k body) = k
+keyOf (clears k) = k
+
+-- what it leaves under its key
+abbrev pub leaves : Deed → Option Body
+leaves (sets k body) = some body
+leaves (clears k) = none
+
+-- ---- the beginning
+
+-- the version and the floor; for each key the path in force, and the version of its last change, 0 where it has none
+pub record Beginning : Type 0 where
+  pub version : ℕ
+  pub floor : ℕ
+  pub held : ℕ → Option Body
+  pub last : ℕ → ℕ
+
+-- what a table with its store begins a story with; its paths count as last reported there
+abbrev pub beginning : Table → List ℕ → Beginning
+beginning b store = record {
+  version = b .version;
+  floor = b .floor;
+  held = λ k. cond (hasPath b k) (some (octetsAt b store (placeOf b k))) none;
+  last = λ k. cond (ltb (placeOf b k) places) (versionAt b (placeOf b k)) 0;
+}
+
+-- a beginning in order: no last change is above the version, no two keys share one, and a key without one has no path
+pub record Ordered (o : Beginning) : Type 0 where
+  pub last-most : (k : ℕ) → o .last k ≤ o .version
+  pub last-apart : (j k : ℕ) → o .last j ≡ o .last k → 0 < o .last j → j ≡ k
+  pub none-held : (k : ℕ) → o .last k ≤ 0 → o .held k ≡ none
+
+-- ---- the story
+
+-- begun; then, the last first, accepted reports and removals, and accepted compactions (c)
 pub data Story : Type 0 where
-  begun : (b : Board) → List ℕ → Proper b → Story
-  did : Change → Story → Story
+  begun : Beginning → Story
+  did : Deed → Story → Story
   compactedTo : ℕ → Story → Story
 
-abbrev pub keyOf : Change → ℕ
-keyOf (put k body) = k
-keyOf (gone k) = k
-
-abbrev pub bodyOf : Change → Option Body
-bodyOf (put k body) = some body
-bodyOf (gone k) = none
-
--- ---- versions and contents
+abbrev pub beginningOf : Story → Beginning
+beginningOf (begun o) = o
+beginningOf (did c h) = beginningOf h
+beginningOf (compactedTo c h) = beginningOf h
 
 -- the board's version: that of the last change; a compaction bears none
 abbrev pub version : Story → ℕ
-version (begun b store p) = b .version
+version (begun o) = o .version
 version (did c h) = suc (version h)
 version (compactedTo c h) = version h
 
--- the path last reported under a key and not removed since; the paths of the first board count as last reported there
+-- the path last reported under a key and not removed since
 unfoldable pub held : Story → ℕ → Option Body
-held (begun b store p) k = cond (hasPath b k) (some (octetsAt b store (placeOf b k))) none
-held (did c h) k = cond (eqb (keyOf c) k) (bodyOf c) (held h k)
+held (begun o) k = o .held k
+held (did c h) k = cond (eqb (keyOf c) k) (leaves c) (held h k)
 held (compactedTo c h) k = held h k
 
 -- the version of a key's last change; 0 where it has none
 unfoldable pub last : Story → ℕ → ℕ
-last (begun b store p) k = cond (ltb (placeOf b k) places) (versionAt b (placeOf b k)) 0
+last (begun o) k = o .last k
 last (did c h) k = cond (eqb (keyOf c) k) (suc (version h)) (last h k)
 last (compactedTo c h) k = last h k

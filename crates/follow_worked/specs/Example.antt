@@ -1,20 +1,27 @@
--- The worked history of document 01: report A, report B, remove A; later compact 3. What each mark then hears is computed from the
--- definitions in proofs/Worked.antt.
+-- The worked history of document 01: report A, report B, remove A; later compact 3. What each mark then hears, and what a follower holds after each
+-- answer, is computed from the definitions in proofs/Worked.antt.
 use Prim.Native.Nat.{ℕ}
-use mathlib.Core.Bool.{true, false}
+use mathlib.Core.Path.{_≡_}
+use mathlib.Core.Bool.{true, false, cond}
 use mathlib.Core.List.{List, [], _∷_, _++_}
+use mathlib.Core.Option.{Option, none, some}
 use lib.ListN.{replicate}
-use Rattle.board_record.specs.Table.{emptyBoard}
-use Rattle.board_record.specs.Proper.{Proper}
+use lib.Dec.{eqb}
+use Rattle.answers.specs.Numbers.{markTooOld}
+use Rattle.board_record.specs.Table.{emptyTable}
 use Rattle.board_rules.specs.Next.{nextAnswer}
 use Rattle.session.specs.declared.Limit.the-variants.{Most}
 use Rattle.session.specs.declared.Session.{Session}
-use Rattle.follow.specs.Heard.{Heard, heardIn}
-use Rattle.follow.specs.Run.{World, Act, report, remove, compact, start, run}
+use Rattle.follow.specs.Story.{Body, sets, clears}
+use Rattle.follow.specs.Follower.{Follower, fresh}
+use Rattle.follow.specs.Heard.{Heard, refusal, change, level, heardIn, does}
+use Rattle.follow.specs.Run.{World, Act, report, remove, compact, start, allFresh, run}
 
 -- the body of object E of document 01, with its last octet, the end of the SID, given
 abbrev pub path : ℕ → List ℕ
-path n = 0x28 ∷ 0x18 ∷ 0x00 ∷ 0x02 ∷ 0x00 ∷ 0x00 ∷ 0x00 ∷ 0x01 ∷ 0x20 ∷ 0x01 ∷ 0x0D ∷ 0xB8 ∷ 0x00 ∷ 0x00 ∷ 0x00 ∷ 0x01 ∷ 0x00 ∷ 0x00 ∷ 0x00 ∷ 0x00 ∷ 0x00 ∷ 0x00 ∷ 0x00 ∷ n ∷ []
+path n =
+    0x28 ∷ 0x18 ∷ 0x00 ∷ 0x02 ∷ 0x00 ∷ 0x00 ∷ 0x00 ∷ 0x01
+    ∷ 0x20 ∷ 0x01 ∷ 0x0D ∷ 0xB8 ∷ 0x00 ∷ 0x00 ∷ 0x00 ∷ 0x01 ∷ 0x00 ∷ 0x00 ∷ 0x00 ∷ 0x00 ∷ 0x00 ∷ 0x00 ∷ 0x00 ∷ n ∷ []
 
 -- the object
 abbrev pub object : ℕ → List ℕ
@@ -34,17 +41,61 @@ keyB = 9
 abbrev pub calls : List Act
 calls = report keyA (object 1) agreed 3 ∷ report keyB (object 2) agreed 3 ∷ remove keyA ∷ []
 
--- the empty board with a store of 49,152 octets
-abbrev pub dawn : Proper emptyBoard → World
-dawn p = start emptyBoard (replicate 49152 0) p
+-- the empty table with a store of 49,152 octets, every follower fresh
+abbrev pub dawn : World
+dawn = start emptyTable (replicate 49152 0) (allFresh emptyTable)
 
 -- after the three calls, and after the compaction
-abbrev pub noon : Proper emptyBoard → World
-noon p = run (dawn p) calls
+abbrev pub noon : World
+noon = run dawn calls
 
-abbrev pub dusk : Proper emptyBoard → World
-dusk p = run (dawn p) (calls ++ (compact 3 ∷ []))
+abbrev pub dusk : World
+dusk = run dawn (calls ++ (compact 3 ∷ []))
 
 -- what a mark hears
 abbrev pub hears : World → ℕ → ℕ → Heard
-hears x s w = heardIn (x .store) (nextAnswer (x .board) (x .store) s w)
+hears x s w = heardIn (x .store) (nextAnswer (x .table) (x .store) s w)
+
+-- "Mark (1, 1): B at 2, A removed at 3, level. Compact 3: (2, 2) is 23, (3, 3) level, fresh (3, 0): B, level."
+abbrev pub WhatIsHeard : Type 0
+WhatIsHeard =
+    (hears noon 1 1 ≡ change (sets keyB (path 2)) 2)
+    × (hears noon 1 2 ≡ change (clears keyA) 3)
+    × (hears noon 1 3 ≡ level 3)
+    × (hears dusk 2 2 ≡ refusal markTooOld)
+    × (hears dusk 3 3 ≡ level 3)
+    × (hears dusk 3 0 ≡ change (sets keyB (path 2)) 2)
+    × (hears dusk 3 2 ≡ level 3)
+
+-- ---- what a follower holds after each answer
+
+-- it asks, and does what it does
+abbrev pub asks : World → Follower → Follower
+asks x f = does f true (hears x (f .s) (f .w))
+
+-- the follower that was level after the first report
+abbrev pub early : Follower
+early = record { s = 1; w = 1; holds = λ k. cond (eqb k keyA) (some (path 1)) none }
+
+-- a follower with mark (s, w) that holds a under A and b under B
+pub record Has (f : Follower) (s w : ℕ) (a b : Option Body) : Type 0 where
+  pub s-is : f .s ≡ s
+  pub w-is : f .w ≡ w
+  pub holds-a : f .holds keyA ≡ a
+  pub holds-b : f .holds keyB ≡ b
+
+-- at noon: A; A and B; B; B, level, with the mark at 3
+abbrev pub HeldAtNoon : Type 0
+HeldAtNoon =
+    Has early 1 1 (some (path 1)) none
+    × Has (asks noon early) 1 2 (some (path 1)) (some (path 2))
+    × Has (asks noon (asks noon early)) 1 3 none (some (path 2))
+    × Has (asks noon (asks noon (asks noon early))) 3 3 none (some (path 2))
+
+-- at dusk one begins: nothing; B; B, level. The one that was level stays so.
+abbrev pub HeldAtDusk : Type 0
+HeldAtDusk =
+    Has (fresh (dusk .table)) 3 0 none none
+    × Has (asks dusk (fresh (dusk .table))) 3 2 none (some (path 2))
+    × Has (asks dusk (asks dusk (fresh (dusk .table)))) 3 3 none (some (path 2))
+    × Has (asks dusk (asks noon (asks noon (asks noon early)))) 3 3 none (some (path 2))

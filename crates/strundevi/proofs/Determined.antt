@@ -3,8 +3,7 @@ use Prim.Native.Nat.{ℕ}
 use mathlib.Core.Path.{_≡_}
 use mathlib.Core.List.{List}
 use Rattle.answers.proofs.Determined.{determined}
-use Rattle.board_record.specs.declared.record.Board.{Board}
-use Rattle.board_record.specs.Table.{emptyBoard}
+use Rattle.board_record.specs.Table.{Table, emptyTable}
 use Rattle.session.specs.Sessions.{sessionOf}
 use Rattle.open.specs.Open.{openOf}
 use Rattle.route.specs.Routes.{judgeOf, segmentOf}
@@ -60,24 +59,24 @@ add-determined b w o sid nai structure = (one _, one _)
 pub finish-determined : (b : List ℕ) (w : WriterRecord) → One (writtenOut (finishAnswer b (writerIn w))) × One (finishBuffer b (writerIn w))
 finish-determined b w = (one _, one _)
 
-pub empty-determined : One emptyBoard
+pub empty-determined : One emptyTable
 empty-determined = one _
 
-pub report-determined : (b : Board) (store : List ℕ) (k : ℕ) (ero : List ℕ) (session : SessionRecord) (pst : ℕ)
-    → One (verdictOut (reportAnswer b store k ero (sessionIn session) pst .verdict)) × One (reportAnswer b store k ero (sessionIn session) pst .board)
+pub report-determined : (b : Table) (store : List ℕ) (k : ℕ) (ero : List ℕ) (session : SessionRecord) (pst : ℕ)
+    → One (verdictOut (reportAnswer b store k ero (sessionIn session) pst .verdict)) × One (reportAnswer b store k ero (sessionIn session) pst .table)
     × One (reportStore b store k ero (sessionIn session) pst)
 report-determined b store k ero session pst = (one _, one _, one _)
 
-pub remove-determined : (b : Board) (store : List ℕ) (k : ℕ) → One (verdictOut (removeAnswer b store k .verdict)) × One (removeAnswer b store k .board)
+pub remove-determined : (b : Table) (store : List ℕ) (k : ℕ) → One (verdictOut (removeAnswer b store k .verdict)) × One (removeAnswer b store k .table)
 remove-determined b store k = (one _, one _)
 
-pub compact-determined : (b : Board) (store : List ℕ) (c : ℕ) → One (verdictOut (compactAnswer b store c .verdict)) × One (compactAnswer b store c .board)
+pub compact-determined : (b : Table) (store : List ℕ) (c : ℕ) → One (verdictOut (compactAnswer b store c .verdict)) × One (compactAnswer b store c .table)
 compact-determined b store c = (one _, one _)
 
-pub body-determined : (b : Board) (store : List ℕ) (k : ℕ) → One (partOut b store k)
+pub body-determined : (b : Table) (store : List ℕ) (k : ℕ) → One (partOut b store k)
 body-determined b store k = one _
 
-pub next-determined : (b : Board) (store : List ℕ) (s w : ℕ) → One (changeOut (nextAnswer b store s w))
+pub next-determined : (b : Table) (store : List ℕ) (s w : ℕ) → One (changeOut (nextAnswer b store s w))
 next-determined b store s w = one _
 
 pub fresh-mark-determined : (version : ℕ) → One (freshOut version)

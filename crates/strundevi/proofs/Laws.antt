@@ -14,13 +14,12 @@ use Rattle.route.specs.Routes.{judgeOf, checksOf, countOf}
 use Rattle.border_records.specs.declared.verdict.VerdictRecord.{VerdictRecord}
 use Rattle.border_records.specs.Records.{verdictOut}
 use Rattle.octets.specs.Octets.{part}
-use Rattle.board_record.specs.declared.record.Board.{Board}
 use Rattle.board_record.specs.Sizes.{places, room}
-use Rattle.board_record.specs.Table.{lengthAt}
+use Rattle.board_record.specs.Table.{Table, lengthAt}
 use Rattle.board_record.specs.Search.{placeOf}
 use Rattle.board_rules.specs.Rules.{lengthIn}
 use Rattle.board_rules.specs.Body.{bodyNumber, bodyOf}
-use Rattle.board_calls.proofs.Looks.{body-none, body-here, body-is}
+use Rattle.board_look.proofs.Looks.{body-none, body-here, body-is}
 use Rattle.strundevi.specs.declared.boards.PartRecord.{PartRecord}
 use Rattle.strundevi.specs.Boards.{partOut}
 
@@ -48,7 +47,7 @@ kept-old zero x y d = absurd (d refl)
 kept-old (suc n) x y d = refl
 
 -- ---- the body: it lies where the board's own call takes it from
-module _ (b : Board) (store : List ℕ) (k : ℕ) where
+module _ (b : Table) (store : List ℕ) (k : ℕ) where
   none-at-all : part store 0 0 ≡ []
   unfolding part
   none-at-all = refl

@@ -2,16 +2,15 @@
 use Prim.Native.Nat.{ℕ, _*_}
 use mathlib.Core.List.{List}
 use Rattle.answers.specs.Verdicts.{kept}
-use Rattle.board_record.specs.declared.record.Board.{Board}
 use Rattle.board_record.specs.Sizes.{room}
-use Rattle.board_record.specs.Table.{lengthAt}
+use Rattle.board_record.specs.Table.{Table, lengthAt}
 use Rattle.board_record.specs.Search.{placeOf}
 use Rattle.board_rules.specs.Body.{bodyNumber}
 use Rattle.strundevi.specs.declared.boards.PartRecord.{PartRecord}
 use Rattle.strundevi.specs.declared.boards.MarkRecord.{MarkRecord}
 
 -- Where the octets of a key's path lie: "place i, from 0, starts at 384 times i". A refusal names none.
-unfoldable pub partOut : Board → List ℕ → ℕ → PartRecord
+unfoldable pub partOut : Table → List ℕ → ℕ → PartRecord
 partOut b store k =
     record {
       number = bodyNumber b store k .number;

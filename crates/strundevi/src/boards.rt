@@ -1,6 +1,6 @@
 // The board's calls, on a record whose parts are lent one by one. A refusal writes nothing.
 ghost use mathlib.Core.Path.{_≡_};
-ghost use Rattle.board_record.specs.Table.{boardOf, emptyBoard};
+ghost use Rattle.board_record.specs.Table.{tableOf, emptyTable};
 ghost use Rattle.octets.specs.Octets.{part};
 ghost use Rattle.board_rules.specs.Report.{reportAnswer, reportStore};
 ghost use Rattle.board_rules.specs.Remove.{removeAnswer};
@@ -39,7 +39,7 @@ pub extern "C" fn strundevi_raw_empty(
     version: &mut u64,
     floor: &mut u64,
 )
-    ensures empty { λ _. ⌜ boardOf (now (keys .exit)) (now (versions .exit)) (now (lengths .exit)) (now (version .exit)) (now (floor .exit)) ≡ emptyBoard ⌝ }
+    ensures empty { λ _. ⌜ tableOf (now (keys .exit)) (now (versions .exit)) (now (lengths .exit)) (now (version .exit)) (now (floor .exit)) ≡ emptyTable ⌝ }
 {
     *keys = [0; 128];
     *versions = [0; 128];
@@ -62,11 +62,11 @@ pub extern "C" fn strundevi_raw_report(
     session: SessionRecord,
     pst: u64,
 ) -> VerdictRecord
-    ensures verdict { λ r. ⌜ r ≡ verdictOut (reportAnswer (boardOf (now (keys .entry)) (now (versions .entry)) (now (lengths .entry)) (now (version .entry)) (now (floor .entry))) (now (store .entry)) key (now (ero .entry)) (sessionIn session) pst .verdict) ⌝ }
-    ensures board { λ _. ⌜ boardOf (now (keys .exit)) (now (versions .exit)) (now (lengths .exit)) (now (version .exit)) (now (floor .exit)) ≡ reportAnswer (boardOf (now (keys .entry)) (now (versions .entry)) (now (lengths .entry)) (now (version .entry)) (now (floor .entry))) (now (store .entry)) key (now (ero .entry)) (sessionIn session) pst .board ⌝ }
-    ensures octets { λ _. ⌜ now (store .exit) ≡ reportStore (boardOf (now (keys .entry)) (now (versions .entry)) (now (lengths .entry)) (now (version .entry)) (now (floor .entry))) (now (store .entry)) key (now (ero .entry)) (sessionIn session) pst ⌝ }
+    ensures verdict { λ r. ⌜ r ≡ verdictOut (reportAnswer (tableOf (now (keys .entry)) (now (versions .entry)) (now (lengths .entry)) (now (version .entry)) (now (floor .entry))) (now (store .entry)) key (now (ero .entry)) (sessionIn session) pst .verdict) ⌝ }
+    ensures board { λ _. ⌜ tableOf (now (keys .exit)) (now (versions .exit)) (now (lengths .exit)) (now (version .exit)) (now (floor .exit)) ≡ reportAnswer (tableOf (now (keys .entry)) (now (versions .entry)) (now (lengths .entry)) (now (version .entry)) (now (floor .entry))) (now (store .entry)) key (now (ero .entry)) (sessionIn session) pst .table ⌝ }
+    ensures octets { λ _. ⌜ now (store .exit) ≡ reportStore (tableOf (now (keys .entry)) (now (versions .entry)) (now (lengths .entry)) (now (version .entry)) (now (floor .entry))) (now (store .entry)) key (now (ero .entry)) (sessionIn session) pst ⌝ }
 {
-    border_records::verdict_out(board_calls::report(
+    border_records::verdict_out(board_report::report(
         keys,
         versions,
         lengths,
@@ -91,10 +91,10 @@ pub extern "C" fn strundevi_raw_remove(
     store: &[u8],
     key: u64,
 ) -> VerdictRecord
-    ensures verdict { λ r. ⌜ r ≡ verdictOut (removeAnswer (boardOf (now (keys .entry)) (now (versions .entry)) (now (lengths .entry)) (now (version .entry)) floor) (now (store .entry)) key .verdict) ⌝ }
-    ensures board { λ _. ⌜ boardOf (now (keys .entry)) (now (versions .exit)) (now (lengths .exit)) (now (version .exit)) floor ≡ removeAnswer (boardOf (now (keys .entry)) (now (versions .entry)) (now (lengths .entry)) (now (version .entry)) floor) (now (store .entry)) key .board ⌝ }
+    ensures verdict { λ r. ⌜ r ≡ verdictOut (removeAnswer (tableOf (now (keys .entry)) (now (versions .entry)) (now (lengths .entry)) (now (version .entry)) floor) (now (store .entry)) key .verdict) ⌝ }
+    ensures board { λ _. ⌜ tableOf (now (keys .entry)) (now (versions .exit)) (now (lengths .exit)) (now (version .exit)) floor ≡ removeAnswer (tableOf (now (keys .entry)) (now (versions .entry)) (now (lengths .entry)) (now (version .entry)) floor) (now (store .entry)) key .table ⌝ }
 {
-    border_records::verdict_out(board_calls::remove(
+    border_records::verdict_out(board_remove::remove(
         keys,
         versions,
         lengths,
@@ -116,10 +116,10 @@ pub extern "C" fn strundevi_raw_compact(
     store: &[u8],
     c: u64,
 ) -> VerdictRecord
-    ensures verdict { λ r. ⌜ r ≡ verdictOut (compactAnswer (boardOf (now (keys .entry)) (now (versions .entry)) (now (lengths .entry)) version (now (floor .entry))) (now (store .entry)) c .verdict) ⌝ }
-    ensures board { λ _. ⌜ boardOf (now (keys .exit)) (now (versions .exit)) (now (lengths .entry)) version (now (floor .exit)) ≡ compactAnswer (boardOf (now (keys .entry)) (now (versions .entry)) (now (lengths .entry)) version (now (floor .entry))) (now (store .entry)) c .board ⌝ }
+    ensures verdict { λ r. ⌜ r ≡ verdictOut (compactAnswer (tableOf (now (keys .entry)) (now (versions .entry)) (now (lengths .entry)) version (now (floor .entry))) (now (store .entry)) c .verdict) ⌝ }
+    ensures board { λ _. ⌜ tableOf (now (keys .exit)) (now (versions .exit)) (now (lengths .entry)) version (now (floor .exit)) ≡ compactAnswer (tableOf (now (keys .entry)) (now (versions .entry)) (now (lengths .entry)) version (now (floor .entry))) (now (store .entry)) c .table ⌝ }
 {
-    border_records::verdict_out(board_calls::compact(
+    border_records::verdict_out(board_remove::compact(
         keys,
         versions,
         lengths,
@@ -141,10 +141,10 @@ pub extern "C" fn strundevi_raw_body<'a>(
     store: &[u8],
     key: u64,
 ) -> PartRecord
-    ensures part { λ r. ⌜ r ≡ partOut (boardOf (now (keys .entry)) (now (versions .entry)) (now (lengths .entry)) version floor) (now (store .entry)) key ⌝ }
-    ensures octets { λ r. ⌜ part (now (store .entry)) (r .start) (r .length) ≡ bodyOf (boardOf (now (keys .entry)) (now (versions .entry)) (now (lengths .entry)) version floor) (now (store .entry)) key ⌝ }
+    ensures part { λ r. ⌜ r ≡ partOut (tableOf (now (keys .entry)) (now (versions .entry)) (now (lengths .entry)) version floor) (now (store .entry)) key ⌝ }
+    ensures octets { λ r. ⌜ part (now (store .entry)) (r .start) (r .length) ≡ bodyOf (tableOf (now (keys .entry)) (now (versions .entry)) (now (lengths .entry)) version floor) (now (store .entry)) key ⌝ }
 {
-    let verdict = board_calls::body_number(keys, versions, lengths, version, floor, store, key);
+    let verdict = board_look::body_number(keys, versions, lengths, version, floor, store, key);
     if verdict.number != 0 {
         return PartRecord {
             number: verdict.number,
@@ -172,9 +172,9 @@ pub extern "C" fn strundevi_raw_next<'a>(
     s: u64,
     w: u64,
 ) -> ChangeRecord
-    ensures next { λ r. ⌜ r ≡ changeOut (nextAnswer (boardOf (now (keys .entry)) (now (versions .entry)) (now (lengths .entry)) version floor) (now (store .entry)) s w) ⌝ }
+    ensures next { λ r. ⌜ r ≡ changeOut (nextAnswer (tableOf (now (keys .entry)) (now (versions .entry)) (now (lengths .entry)) version floor) (now (store .entry)) s w) ⌝ }
 {
-    change_out(board_calls::next(keys, versions, lengths, version, floor, store, s, w))
+    change_out(board_look::next(keys, versions, lengths, version, floor, store, s, w))
 }
 
 // The mark of a follower that begins, and holds nothing, on a board of this version.

@@ -1,3 +1,5 @@
+-- The invariant: the first i places are sound, and the chains of keys and of versions hold all their numbers. A pass that stops has met a place that is
+-- not sound, or a key or a version that came before; one that ends has met none.
 use Prim.Native.Nat.{ℕ, _≤_, _-_, _<_}
 use native.Mathlib.Omega.{arith}
 use borrow.Author.Needs.{needs}
@@ -5,7 +7,7 @@ use mathlib.Core.Path.{_≡_, refl, sym, _∙_}
 use mathlib.Core.Bool.{true}
 use lib.ListN.{getD, length}
 use Rattle.octets.proofs.Tests.{tests}
-use Rattle.board_record.specs.Table.{boardOf}
+use Rattle.board_record.specs.Table.{tableOf}
 use Rattle.board_record.specs.Proper.{soundB, allBelow, properB}
 use Rattle.board_record.proofs.All.{all-none}
 use Rattle.board_proper.proofs.Laws.{Chained, chained-none, chained-skip, chained-more, chained-walk, places-more, empty-version, used-version, pass-place, pass-key, pass-version, pass-all}
@@ -14,7 +16,7 @@ use Rattle.board_proper.proofs.pass.is_proper.Tie as tie
 
 abbrev Inv-loop : tie.InvT-loop
 Inv-loop keys versions lengths top floor heads₀ nexts₀ vheads₀ vnexts₀ i₀ heads nexts vheads vnexts i =
-    (i ≤ 128) × Chained keys heads nexts i × Chained versions vheads vnexts i × (allBelow (soundB (boardOf keys versions lengths top floor)) i ≡ true)
+    (i ≤ 128) × Chained keys heads nexts i × Chained versions vheads vnexts i × (allBelow (soundB (tableOf keys versions lengths top floor)) i ≡ true)
 
 abbrev μ-loop : tie.MeasureT-loop
 μ-loop keys versions lengths top floor heads₀ nexts₀ vheads₀ vnexts₀ i₀ heads nexts vheads vnexts i =
@@ -74,7 +76,7 @@ loop-again c =
           (before7 .loop .inv .1) (c .if4 .taken),
       chained-skip (args .versions .now) (before7 .loop .vheads) (before7 .loop .vnexts) (before7 .loop .i)
           (before7 .loop .inv .2)
-          (empty-version _ _ _ _ _ _ (c .before .before .place-ok .ensures) (c .before .if3 .left) (c .if4 .taken)),
+          (empty-version _ _ _ _ (c .before .before .place-ok .ensures) (c .before .if3 .left) (c .if4 .taken)),
       places-more (args .keys .now) (args .versions .now) (args .lengths .now) (args .top) (args .floor)
           (before7 .loop .i) _ (c .before .before .place-ok .ensures) (c .before .if3 .left) (before7 .loop .inv .3),
     )
@@ -138,7 +140,7 @@ fresh64-requires c κs =
       before16 .loop .inv .2 .links,
       chained-walk (before16 .before .before .before .args .versions .now) (before16 .loop .vheads)
           (before16 .loop .vnexts) (before16 .loop .i) _ _ _ (before16 .loop .inv .2)
-          (used-version _ _ _ _ _ _ (before9 .before .before .place-ok .ensures) (before9 .before .if3 .left)
+          (used-version _ _ _ _ (before9 .before .before .place-ok .ensures) (before9 .before .if3 .left)
           (before9 .if4 .left)) refl (c .before .before .slot2 .ensures .0) (c .wide2 .ensures .0),
     )
 
@@ -149,7 +151,7 @@ returns-5 c =
     let args = before17 .before .before .before .before .args in
     pass-version (args .keys .now) (args .versions .now) (args .lengths .now) (args .top) (args .floor)
     (before17 .before .loop .i) _ (before17 .loop-test .taken)
-    (used-version _ _ _ _ _ _ (before11 .before .before .place-ok .ensures) (before11 .before .if3 .left)
+    (used-version _ _ _ _ (before11 .before .before .place-ok .ensures) (before11 .before .if3 .left)
     (before11 .if4 .left)) (c .before .fresh64 .ensures) (c .if6 .taken)
 
 array-write-vnexts : tie.Need-array-write-vnexts Inv-loop μ-loop
@@ -185,7 +187,7 @@ loop-again-2 c =
           (before4 .before .if5 .left),
       chained-more (args .versions .now) (loop .vheads) (loop .vnexts) (loop .i) _ _ _ (loop .inv .2)
           (before17 .loop-test .taken)
-          (used-version _ _ _ _ _ _ (before12 .before .place-ok .ensures) (before12 .if3 .left)
+          (used-version _ _ _ _ (before12 .before .place-ok .ensures) (before12 .if3 .left)
           (before9 .before .before .if4 .left)) refl (before4 .slot2 .ensures .0) (before4 .slot2 .ensures .1)
           (c .before .fresh64 .ensures) (c .if6 .left),
       places-more (args .keys .now) (args .versions .now) (args .lengths .now) (args .top) (args .floor) (loop .i) _

@@ -1,5 +1,5 @@
 use mathlib.Core.Path.{sym, _∙_}
-use Rattle.board_record.specs.Table.{boardOf}
+use Rattle.board_record.specs.Table.{tableOf}
 use Rattle.board_record.proofs.Search.{floor-keeps, floor-takes, floor-drops}
 use borrow.Author.Needs.{needs}
 use Rattle.board_search.proofs.report.floor_after.Statement.{statement}
@@ -19,7 +19,7 @@ returns c =
     let args = c .before .before .before .args in
     λ lengths top.
     sym
-    (floor-takes (boardOf (args .keys .now) (args .versions .now) lengths top (args .floor)) (args .key) (args .at)
+    (floor-takes (tableOf (args .keys .now) (args .versions .now) lengths top (args .floor)) (args .key) (args .at)
     (sym (c .before .wide32 .ensures) ∙ c .if1 .taken))
 
 returns-2 : tie.Need-returns-2
@@ -27,7 +27,7 @@ returns-2 c =
     let args = c .before .before .before .before .args in
     λ lengths top.
     sym
-    (floor-keeps (boardOf (args .keys .now) (args .versions .now) lengths top (args .floor)) (args .key) (args .at)
+    (floor-keeps (tableOf (args .keys .now) (args .versions .now) lengths top (args .floor)) (args .key) (args .at)
     (sym (c .before .before .wide32 .ensures) ∙ c .if2 .taken))
 
 mul-result : tie.Need-mul-result
@@ -41,7 +41,7 @@ returns-3 c =
     let args = c .before .before .before .before .before .args in
     λ lengths top.
     sym
-    (floor-drops (boardOf (args .keys .now) (args .versions .now) lengths top (args .floor)) (args .key) (args .at)
+    (floor-drops (tableOf (args .keys .now) (args .versions .now) lengths top (args .floor)) (args .key) (args .at)
     (λ e. c .before .before .if1 .left (c .before .before .before .wide32 .ensures ∙ e))
     (λ e. c .before .if2 .left (c .before .before .before .wide32 .ensures ∙ e)))
 

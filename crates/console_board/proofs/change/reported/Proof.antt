@@ -1,5 +1,5 @@
 use Rattle.console_state.proofs.Laws.{spelled}
-use Rattle.board_rules.specs.Report.{reportAnswer, reportStore}
+use Rattle.board_by_value.specs.ByValue.{reportOn, reportStoreOn}
 use Prim.Native.Nat.{ℕ}
 use mathlib.Core.List.{List}
 use mathlib.Core.Path.{_∙_, ap}
@@ -37,11 +37,11 @@ returns c =
     let a = before8 .before .before .before .before .before .before .before .before .before .before .before .args in
     let s = spelled _ _ (before8 .before .before .before .before .before .octets-at .ensures .0) in
     let e = before8 .report .ensures .0
-    ∙ ap (λ (x : List ℕ). reportAnswer (a .b) (a .store .now) (a .c .one) x (a .session) (a .c .two)) s in (
+    ∙ ap (λ (x : List ℕ). reportOn (a .b) (a .store .now) (a .c .one) x (a .session) (a .c .two)) s in (
       rw (← e),
       (
         before8 .report .ensures .1
-            ∙ ap (λ (x : List ℕ). reportStore (a .b) (a .store .now) (a .c .one) x (a .session) (a .c .two)) s,
+            ∙ ap (λ (x : List ℕ). reportStoreOn (a .b) (a .store .now) (a .c .one) x (a .session) (a .c .two)) s,
         rw (← e) (c .before .before .counted .ensures),
       ),
     )

@@ -1,8 +1,8 @@
-use Rattle.console_board.proofs.Laws.{body-inside}
+use Rattle.board_by_value.proofs.Inside.{body-inside}
 use Rattle.console_board.specs.Boarding.{bodyLine}
 use Rattle.console_state.proofs.Laws.{told-refused, told-accepted}
 use Rattle.console_lines.specs.Lines.{octetsLine}
-use Rattle.board_rules.specs.Body.{bodyOf}
+use Rattle.board_by_value.specs.ByValue.{bodyOn}
 use lib.ListN.{length}
 use mathlib.Core.Path.{ap}
 use native.Mathlib.Omega.{arith}
@@ -25,7 +25,7 @@ returns c =
     let before6 = c .before .before .before .before .before .before in
     let a = before6 .before .before .before .args in
     rw (← before6 .body-number .ensures)
-    (told-refused (before6 .body-number .result) (octetsLine (bodyOf (a .b) (a .store .now) (a .c .one)))
+    (told-refused (before6 .body-number .result) (octetsLine (bodyOn (a .b) (a .store .now) (a .c .one)))
     (c .before .before .before .before .if1 .taken) (c .before .before .refusal .ensures .0))
 
 body-requires : tie.Need-body-requires

@@ -1,6 +1,6 @@
 use native.Mathlib.Omega.{arith}
-use Rattle.board_record.specs.Table.{boardOf}
-use Rattle.board_calls.proofs.Looks.{body-here}
+use Rattle.board_record.specs.Table.{tableOf}
+use Rattle.board_look.proofs.Looks.{body-here}
 use Rattle.strundevi.proofs.Laws.{part-none, part-here}
 use borrow.Author.Needs.{needs}
 use Rattle.strundevi.proofs.boards.strundevi_raw_body.Statement.{statement}
@@ -12,7 +12,7 @@ body-number-requires c κs = search needs
 returns : tie.Need-returns
 returns c =
     let args = c .before .before .before .before .args in
-    part-none (boardOf (args .keys .now) (args .versions .now) (args .lengths .now) (args .version) (args .floor))
+    part-none (tableOf (args .keys .now) (args .versions .now) (args .lengths .now) (args .version) (args .floor))
     (args .store .now) (args .key) _ (c .before .before .body-number .ensures) (c .if1 .taken)
 
 place-of-requires : tie.Need-place-of-requires
@@ -22,7 +22,7 @@ mul-t11 : tie.Need-mul-t11
 mul-t11 c =
     let args = c .before .before .before .before .before .args in
     let h = body-here
-    (boardOf (args .keys .now) (args .versions .now) (args .lengths .now) (args .version) (args .floor))
+    (tableOf (args .keys .now) (args .versions .now) (args .lengths .now) (args .version) (args .floor))
     (args .store .now) (args .key) _ (c .before .before .before .body-number .ensures) (c .before .if1 .left) in
     omega (arith, c .place-of .ensures)
 
@@ -32,7 +32,7 @@ length-at-requires c κs = search needs
 returns-2 : tie.Need-returns-2
 returns-2 c =
     let args = c .before .before .before .before .before .before .args in
-    part-here (boardOf (args .keys .now) (args .versions .now) (args .lengths .now) (args .version) (args .floor))
+    part-here (tableOf (args .keys .now) (args .versions .now) (args .lengths .now) (args .version) (args .floor))
     (args .store .now) (args .key) _ _ _ (c .before .before .before .before .body-number .ensures)
     (c .before .before .if1 .left) (c .before .place-of .ensures) (c .length-at .ensures)
 

@@ -1,5 +1,5 @@
 use mathlib.Core.Path.{ap, _∙_}
-use Rattle.board_rules.specs.declared.answer.Answer.{Answer}
+use Rattle.board_rules.specs.Rules.{Outcome}
 use Rattle.border_records.specs.Records.{verdictOut}
 use borrow.Author.Needs.{needs}
 use Rattle.strundevi.proofs.boards.strundevi_raw_report.Statement.{statement}
@@ -21,7 +21,7 @@ returns : tie.Need-returns
 returns c =
     let e = c .before .before .before .report .ensures in
     rw (← c .before .before .before .before .session-in .ensures)
-    (c .verdict-out .ensures ∙ ap (λ (a : Answer). verdictOut (a .verdict)) (e .0), (ap (λ (a : Answer). a .board) (e .0), e .1))
+    (c .verdict-out .ensures ∙ ap (λ (a : Outcome). verdictOut (a .verdict)) (e .0), (ap (λ (a : Outcome). a .table) (e .0), e .1))
 
 pub strundevi-raw-report-spec : {M : Type 1} → statement M
 strundevi-raw-report-spec =

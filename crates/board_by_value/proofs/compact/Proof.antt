@@ -1,0 +1,13 @@
+use Rattle.board_by_value.proofs.Laws.{compact-back}
+use borrow.Author.Needs.{needs}
+use Rattle.board_by_value.proofs.compact.Statement.{statement}
+use Rattle.board_by_value.proofs.compact.Tie as tie
+
+compact-requires : tie.Need-compact-requires
+compact-requires c κs = search needs
+
+returns : tie.Need-returns
+returns c = search compact-back
+
+pub compact-spec : {M : Type 1} → statement M
+compact-spec = tie.close (tie.spec compact-requires returns)

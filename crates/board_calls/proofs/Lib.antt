@@ -1,5 +1,0 @@
-pub mod Answers
-pub mod Reports
-pub mod Sweeps
-pub mod Looks
-pub mod Determined

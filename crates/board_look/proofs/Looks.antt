@@ -1,0 +1,111 @@
+-- What body and next hand out is what the definitions say: one law for each way out of the code, whose premises are the code's own tests. Assumes
+-- nothing.
+use Prim.Native.Nat.{ℕ, zero, suc, _+_, _-_, _*_, _<_, _≤_}
+use native.Mathlib.Omega.{arith}
+use mathlib.Core.Path.{_≡_, refl, sym, ap, _∙_}
+use mathlib.Core.Bool.{Bool, true, false, not, cond, _&&_}
+use mathlib.Core.List.{List, []}
+use lib.ListN.{length, getD, take, drop}
+use lib.Dec.{eqb, ltb, leb}
+use borrow.Author.Tests.{eq-eqb, ne-eqb, lt-ltb, le-ltb, ltb-true, not-false}
+use Rattle.answers.specs.declared.verdict.Verdict.{Verdict}
+use Rattle.answers.specs.Numbers.{notABoard}
+use Rattle.answers.specs.Verdicts.{refusedBy, kept}
+use Rattle.octets.specs.Octets.{part}
+use Rattle.board_record.specs.Sizes.{places, room, storeSize}
+use Rattle.board_record.specs.Table.{Table, keyAt, versionAt, lengthAt}
+use Rattle.board_record.specs.Search.{placeOf, nextOf}
+use Rattle.board_record.specs.Proper.{properB}
+use Rattle.board_record.proofs.Logic.{and-true}
+use Rattle.board_record.proofs.Proper.{properB-sound}
+use Rattle.board_rules.specs.declared.answer.Change.{Change}
+use Rattle.board_rules.specs.declared.answer.Octets.{Octets}
+use Rattle.board_rules.specs.declared.answer.Handed.{Handed}
+use Rattle.board_rules.specs.declared.answer.Handed.the-variants.{Refused, Path, Removed, Level}
+use Rattle.board_rules.specs.Rules.{isBoard, inRange, lengthIn, hasPath}
+use Rattle.board_rules.specs.Body.{bodyRules, bodyNumber, octetsAt, bodyOf}
+use Rattle.board_rules.specs.Next.{nextRules, nextVerdict, changeAt, handedAt, nextAnswer}
+use Rattle.board_rules.proofs.Shared.{path-test}
+use Rattle.board_rules.proofs.Verdicts.{kept-old, kept-new, rule-passed}
+use Rattle.board_rules.proofs.Told.{board-not, board-is, board-room, board-proper}
+
+-- ---- the number of a body
+module _ (b : Table) (store : List ℕ) (k : ℕ) where
+  pub number-not-board : (r : Bool) (v : Verdict) → r ≡ isBoard b (length store) → not r ≡ true → v ≡ refusedBy notABoard 0 → v ≡ bodyNumber b store k
+  unfolding bodyNumber bodyRules
+  number-not-board r v e t q = rw (board-not b (length store) r e t) q
+
+  pub number-is : (r : Bool) (at n : ℕ) (v : Verdict) → r ≡ isBoard b (length store) → not r ≡ false → at ≡ placeOf b k → n ≡ lengthIn (b .lengths) at
+      → v ≡ bodyRules true k (ltb at places && not (eqb n 0))
+      → v ≡ bodyNumber b store k
+  unfolding bodyNumber
+  number-is r at n v e t p f q = rw (board-is b (length store) r e t, ← path-test b k at n p f) q
+
+  -- ---- the body
+  pub body-none : (v : Verdict) → v ≡ bodyNumber b store k → (v .number ≡ 0 → ⊥) → [] ≡ bodyOf b store k
+  unfolding bodyOf
+  body-none v e d = rw (← e, kept-old (v .number) [] (octetsAt b store (placeOf b k)) d)
+
+  whole : (v : Verdict) → v ≡ bodyNumber b store k → v .number ≡ 0 → isBoard b (length store) ≡ true
+  unfolding bodyNumber bodyRules
+  whole v e z = not-false (isBoard b (length store)) (rule-passed (not (isBoard b (length store))) 16 0 _ (ap (λ (y : Verdict). y .number) (sym e) ∙ z) .0)
+
+  pub body-here : (v : Verdict) → v ≡ bodyNumber b store k → v .number ≡ 0 → placeOf b k < places
+  unfolding bodyNumber bodyRules hasPath
+  body-here v e z =
+      let h = rule-passed (not (isBoard b (length store))) 16 0 _ (ap (λ (y : Verdict). y .number) (sym e) ∙ z) in
+      let g = rule-passed (not (inRange k)) 17 0 _ (h .1) in
+      let f = rule-passed (not (ltb (placeOf b k) places && not (eqb (lengthAt b (placeOf b k)) 0))) 21 0 _ (g .1) in
+      ltb-true (placeOf b k) places (and-true (ltb (placeOf b k) places) _ (not-false (ltb (placeOf b k) places && not (eqb (lengthAt b (placeOf b k)) 0)) (f .0)) .0)
+
+  length-here : (at n : ℕ) → at < places → n ≡ lengthIn (b .lengths) at → n ≡ lengthAt b at
+  unfolding lengthIn
+  length-here at n l f = f ∙ rw (lt-ltb at 128 l)
+
+  pub body-room : (v : Verdict) (at n : ℕ) → v ≡ bodyNumber b store k → v .number ≡ 0 → at ≡ placeOf b k → n ≡ lengthIn (b .lengths) at
+      → (at < places) × (room * at + n ≤ length store) × (room * at + n ≤ storeSize)
+  body-room v at n e z p f =
+      let l = body-here v e z in
+      let w = whole v e z in
+      let m : at < 128 = omega arith in
+      let g = board-room b (length store) w in
+      let h = properB-sound b (board-proper b (length store) w) at m .most in
+      let q = length-here at n m f in
+      (m, omega arith, omega arith)
+
+  pub body-is : (v : Verdict) (at n from : ℕ) → v ≡ bodyNumber b store k → v .number ≡ 0 → at ≡ placeOf b k → n ≡ lengthIn (b .lengths) at → from ≡ room * at
+      → take (from + n - from) (drop from store) ≡ bodyOf b store k
+  unfolding bodyOf octetsAt part
+  body-is v at n from e z p f g =
+      let l = body-here v e z in
+      let q = length-here at n (omega arith) f in
+      let d : from + n - from ≡ n = omega arith in
+      rw (d, ← e, kept-new (v .number) [] (octetsAt b store (placeOf b k)) z, octetsAt, ← p, g, q)
+
+-- ---- next
+module _ (b : Table) (store : List ℕ) (s w : ℕ) where
+  pub next-not-board : (r : Bool) (v : Verdict) → r ≡ isBoard b (length store) → not r ≡ true → v ≡ refusedBy notABoard 0 → Refused v ≡ nextAnswer b store s w
+  unfolding nextAnswer nextVerdict nextRules
+  next-not-board r v e t q = rw (q, board-not b (length store) r e t)
+
+  pub next-verdict : (r : Bool) (v : Verdict) → r ≡ isBoard b (length store) → not r ≡ false → v ≡ nextRules true s w (b .version) (b .floor) → v ≡ nextVerdict b store s w
+  unfolding nextVerdict
+  next-verdict r v e t q = rw (board-is b (length store) r e t) q
+
+  pub next-refused : (v : Verdict) → v ≡ nextVerdict b store s w → (v .number ≡ 0 → ⊥) → Refused v ≡ nextAnswer b store s w
+  unfolding nextAnswer
+  next-refused v e d = rw (← e, ne-eqb (v .number) 0 d)
+
+  pub next-level : (v : Verdict) (at : ℕ) → v ≡ nextVerdict b store s w → v .number ≡ 0 → at ≡ nextOf b s w → places ≤ at → Level (b .version) ≡ nextAnswer b store s w
+  unfolding nextAnswer handedAt
+  next-level v at e z p l = rw (← e, eq-eqb (v .number) 0 z, handedAt, ← p, le-ltb at 128 l)
+
+  pub next-removed : (v : Verdict) (at key n : ℕ) → v ≡ nextVerdict b store s w → v .number ≡ 0 → at ≡ nextOf b s w → at < places → key ≡ keyAt b at → n ≡ lengthAt b at → n ≡ 0
+      → Removed (record { key = key; version = versionAt b at }) ≡ nextAnswer b store s w
+  unfolding nextAnswer handedAt changeAt
+  next-removed v at key n e z p l q f y = rw (← e, eq-eqb (v .number) 0 z, handedAt, ← p, lt-ltb at 128 l, changeAt, ← f, eq-eqb n 0 y, q)
+
+  pub next-path : (v : Verdict) (at key n : ℕ) → v ≡ nextVerdict b store s w → v .number ≡ 0 → at ≡ nextOf b s w → at < places → key ≡ keyAt b at → n ≡ lengthAt b at → (n ≡ 0 → ⊥)
+      → Path (record { key = key; version = versionAt b at }) (record { place = at; length = n }) ≡ nextAnswer b store s w
+  unfolding nextAnswer handedAt changeAt
+  next-path v at key n e z p l q f y = rw (← e, eq-eqb (v .number) 0 z, handedAt, ← p, lt-ltb at 128 l, changeAt, ← f, ne-eqb n 0 y, q)

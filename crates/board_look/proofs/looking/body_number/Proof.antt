@@ -1,0 +1,48 @@
+use Rattle.board_record.specs.Table.{tableOf}
+use Rattle.board_look.proofs.Looks.{number-not-board, number-is}
+use borrow.Author.Needs.{needs}
+use Rattle.board_look.proofs.looking.body_number.Statement.{statement}
+use Rattle.board_look.proofs.looking.body_number.Tie as tie
+
+is-board-requires : tie.Need-is-board-requires
+is-board-requires c κs = search needs
+
+refused-requires : tie.Need-refused-requires
+refused-requires c κs = search needs
+
+returns : tie.Need-returns
+returns c =
+    let args = c .before .before .before .before .args in
+    number-not-board
+    (tableOf (args .keys .now) (args .versions .now) (args .lengths .now) (args .version) (args .floor))
+    (args .store .now) (args .key) _ _ (c .before .before .is-board .ensures) (c .before .if1 .taken)
+    (c .refused .ensures)
+
+place-of-requires : tie.Need-place-of-requires
+place-of-requires c κs = search needs
+
+length-at-requires : tie.Need-length-at-requires
+length-at-requires c κs = search needs
+
+body-rules-requires : tie.Need-body-rules-requires
+body-rules-requires c κs = search needs
+
+returns-2 : tie.Need-returns-2
+returns-2 c =
+    let args = c .before .before .before .before .before .before .args in
+    number-is (tableOf (args .keys .now) (args .versions .now) (args .lengths .now) (args .version) (args .floor))
+    (args .store .now) (args .key) _ _ _ _ (c .before .before .before .before .is-board .ensures)
+    (c .before .before .before .if1 .left) (c .before .before .place-of .ensures) (c .before .length-at .ensures)
+    (c .body-rules .ensures)
+
+pub body-number-spec : {M : Type 1} → statement M
+body-number-spec =
+    tie.close
+    (tie.spec
+    is-board-requires
+    refused-requires
+    returns
+    place-of-requires
+    length-at-requires
+    body-rules-requires
+    returns-2)

@@ -1,0 +1,122 @@
+-- One law for each way out: no board, a refused mark, level, a removal, a path.
+use native.Mathlib.Omega.{arith}
+use Rattle.board_record.specs.Table.{tableOf}
+use Rattle.board_rules.proofs.Told.{board-is, board-proper}
+use Rattle.board_look.proofs.Looks.{next-not-board, next-verdict, next-refused, next-level, next-removed, next-path}
+use borrow.Author.Needs.{needs}
+use Rattle.board_look.proofs.looking.next.Statement.{statement}
+use Rattle.board_look.proofs.looking.next.Tie as tie
+
+is-board-requires : tie.Need-is-board-requires
+is-board-requires c κs = search needs
+
+refused-requires : tie.Need-refused-requires
+refused-requires c κs = search needs
+
+returns : tie.Need-returns
+returns c =
+    let args = c .before .before .before .before .args in
+    next-not-board (tableOf (args .keys .now) (args .versions .now) (args .lengths .now) (args .version) (args .floor))
+    (args .store .now) (args .s) (args .w) _ _ (c .before .before .is-board .ensures) (c .before .if1 .taken)
+    (c .refused .ensures)
+
+next-rules-requires : tie.Need-next-rules-requires
+next-rules-requires c κs = search needs
+
+returns-2 : tie.Need-returns-2
+returns-2 c =
+    let args = c .before .before .before .before .before .before .args in
+    next-refused (tableOf (args .keys .now) (args .versions .now) (args .lengths .now) (args .version) (args .floor))
+    (args .store .now) (args .s) (args .w) _
+    (next-verdict (tableOf (args .keys .now) (args .versions .now) (args .lengths .now) (args .version) (args .floor))
+    (args .store .now) (args .s) (args .w) _ _ (c .before .before .before .before .is-board .ensures)
+    (c .before .before .before .if1 .left) (c .before .before .next-rules .ensures)) (c .if2 .taken)
+
+next-place-requires : tie.Need-next-place-requires
+next-place-requires c κs =
+    let args = c .before .before .before .before .before .before .args in
+    board-proper (tableOf (args .keys .now) (args .versions .now) (args .lengths .now) (args .version) (args .floor)) _
+    (board-is (tableOf (args .keys .now) (args .versions .now) (args .lengths .now) (args .version) (args .floor)) _ _
+    (c .before .before .before .before .is-board .ensures) (c .before .before .before .if1 .left))
+
+returns-3 : tie.Need-returns-3
+returns-3 c =
+    let before4 = c .before .before .before .before in
+    let args = before4 .before .before .before .before .args in
+    next-level (tableOf (args .keys .now) (args .versions .now) (args .lengths .now) (args .version) (args .floor))
+    (args .store .now) (args .s) (args .w) _ _
+    (next-verdict (tableOf (args .keys .now) (args .versions .now) (args .lengths .now) (args .version) (args .floor))
+    (args .store .now) (args .s) (args .w) _ _ (before4 .before .before .is-board .ensures) (before4 .before .if1 .left)
+    (before4 .next-rules .ensures)) (c .before .before .if2 .left) (c .before .next-place .ensures) (c .if3 .taken)
+
+mul-wide32 : tie.Need-mul-wide32
+mul-wide32 c = search needs
+
+element-copy-out-wide32 : tie.Need-element-copy-out-wide32
+element-copy-out-wide32 c = search needs
+
+wide32-requires : tie.Need-wide32-requires
+wide32-requires c κs = search needs
+
+mul-t21 : tie.Need-mul-t21
+mul-t21 c = search needs
+
+element-copy-out-t24 : tie.Need-element-copy-out-t24
+element-copy-out-t24 c = search needs
+
+mul-wide16 : tie.Need-mul-wide16
+mul-wide16 c = search needs
+
+element-copy-out-wide16 : tie.Need-element-copy-out-wide16
+element-copy-out-wide16 c = search needs
+
+wide16-requires : tie.Need-wide16-requires
+wide16-requires c κs = search needs
+
+returns-4 : tie.Need-returns-4
+returns-4 c =
+    let before6 = c .before .before .before .before .before .before in
+    let before10 = before6 .before .before .before .before in
+    let args = before10 .before .before .before .before .args in
+    next-removed (tableOf (args .keys .now) (args .versions .now) (args .lengths .now) (args .version) (args .floor))
+    (args .store .now) (args .s) (args .w) _ _ _ _
+    (next-verdict (tableOf (args .keys .now) (args .versions .now) (args .lengths .now) (args .version) (args .floor))
+    (args .store .now) (args .s) (args .w) _ _ (before10 .before .before .is-board .ensures)
+    (before10 .before .if1 .left) (before10 .next-rules .ensures)) (before6 .before .before .if2 .left)
+    (before6 .before .next-place .ensures) (before6 .if3 .left) (c .before .before .before .before .wide32 .ensures)
+    (c .before .wide16 .ensures) (c .if4 .taken)
+
+returns-5 : tie.Need-returns-5
+returns-5 c =
+    let before6 = c .before .before .before .before .before .before in
+    let before10 = before6 .before .before .before .before in
+    let args = before10 .before .before .before .before .args in
+    next-path (tableOf (args .keys .now) (args .versions .now) (args .lengths .now) (args .version) (args .floor))
+    (args .store .now) (args .s) (args .w) _ _ _ _
+    (next-verdict (tableOf (args .keys .now) (args .versions .now) (args .lengths .now) (args .version) (args .floor))
+    (args .store .now) (args .s) (args .w) _ _ (before10 .before .before .is-board .ensures)
+    (before10 .before .if1 .left) (before10 .next-rules .ensures)) (before6 .before .before .if2 .left)
+    (before6 .before .next-place .ensures) (before6 .if3 .left) (c .before .before .before .before .wide32 .ensures)
+    (c .before .wide16 .ensures) (c .if4 .left)
+
+pub next-spec : {M : Type 1} → statement M
+next-spec =
+    tie.close
+    (tie.spec
+    is-board-requires
+    refused-requires
+    returns
+    next-rules-requires
+    returns-2
+    next-place-requires
+    returns-3
+    mul-wide32
+    element-copy-out-wide32
+    wide32-requires
+    mul-t21
+    element-copy-out-t24
+    mul-wide16
+    element-copy-out-wide16
+    wide16-requires
+    returns-4
+    returns-5)

@@ -1,0 +1,6 @@
+// The board's calls that write nothing, on a record whose parts are lent (document 01, "The board").
+mod looking;
+
+pub use looking::body;
+pub use looking::body_number;
+pub use looking::next;

@@ -1,0 +1,105 @@
+// The calls that write nothing. Body (key): 17, 18, 22; the path's octets are handed back as a part of the lent store, a
+// refusal hands back an empty part, and its number is had by a call of its own. Next (mark s, w): 17; 24 if s or w is
+// above the version; 23 exactly if the floor is above the larger of s and w; otherwise a change, or level.
+ghost use mathlib.Core.Path.{_≡_};
+ghost use Rattle.board_record.specs.Table.{tableOf};
+ghost use Rattle.board_rules.specs.Body.{bodyNumber, bodyOf};
+ghost use Rattle.board_rules.specs.Next.{nextAnswer};
+use answers::NOT_A_BOARD;
+use answers::Verdict;
+use answers::refused;
+use board_record::PLACES;
+use board_record::wide16;
+use board_record::wide32;
+use board_rules::Change;
+use board_rules::Handed;
+use board_rules::Octets;
+use board_rules::body_rules;
+use board_rules::is_board;
+use board_rules::length_at;
+use board_rules::next_rules;
+use board_rules::start_of;
+use board_search::next_place;
+use board_search::place_of;
+
+// The number of a call for a body.
+pub fn body_number<'a>(
+    keys: &'a [u32; 128],
+    versions: &'a [u64; 128],
+    lengths: &'a [u16; 128],
+    version: u64,
+    floor: u64,
+    store: &[u8],
+    key: u64,
+) -> Verdict
+    ensures number { λ r. ⌜ r ≡ bodyNumber (tableOf (now (keys .entry)) (now (versions .entry)) (now (lengths .entry)) version floor) (now (store .entry)) key ⌝ }
+{
+    if !is_board(store.len(), keys, versions, lengths, version, floor) {
+        return refused(NOT_A_BOARD, 0);
+    }
+    let at = place_of(keys, key);
+    body_rules(key, at, length_at(lengths, at))
+}
+
+// The octets of the key's path.
+pub fn body<'a, 'b>(
+    keys: &'a [u32; 128],
+    versions: &'a [u64; 128],
+    lengths: &'a [u16; 128],
+    version: u64,
+    floor: u64,
+    store: &'b [u8],
+    key: u64,
+) -> &'b [u8]
+    ensures body { λ r. ⌜ now r ≡ bodyOf (tableOf (now (keys .entry)) (now (versions .entry)) (now (lengths .entry)) version floor) (now (store .entry)) key ⌝ }
+{
+    let verdict = body_number(keys, versions, lengths, version, floor, store, key);
+    if verdict.number != 0 {
+        return &store[0..0];
+    }
+    let at = place_of(keys, key);
+    let from = start_of(at);
+    let to = from + length_at(lengths, at);
+    &store[from..to]
+}
+
+// The next change for the mark (s, w).
+pub fn next<'a>(
+    keys: &'a [u32; 128],
+    versions: &'a [u64; 128],
+    lengths: &'a [u16; 128],
+    version: u64,
+    floor: u64,
+    store: &[u8],
+    s: u64,
+    w: u64,
+) -> Handed
+    ensures next { λ r. ⌜ r ≡ nextAnswer (tableOf (now (keys .entry)) (now (versions .entry)) (now (lengths .entry)) version floor) (now (store .entry)) s w ⌝ }
+{
+    if !is_board(store.len(), keys, versions, lengths, version, floor) {
+        return Handed::Refused(refused(NOT_A_BOARD, 0));
+    }
+    let verdict = next_rules(s, w, version, floor);
+    if verdict.number != 0 {
+        return Handed::Refused(verdict);
+    }
+    let at = next_place(keys, versions, lengths, version, floor, s, w);
+    if PLACES <= at {
+        return Handed::Level(version);
+    }
+    let change = Change {
+        key: wide32(keys[at]),
+        version: versions[at],
+    };
+    let n = wide16(lengths[at]);
+    if n == 0 {
+        return Handed::Removed(change);
+    }
+    Handed::Path(
+        change,
+        Octets {
+            place: at,
+            length: n,
+        },
+    )
+}

@@ -1,0 +1,132 @@
+-- The invariant: the first i places are swept, the others as they were. A turn empties a place (`sweep-take`) or passes it (`sweep-skip`).
+use borrow.Author.Needs.{needs}
+use native.Mathlib.Omega.{arith}
+use Prim.Native.Nat.{_≤_, _-_}
+use Rattle.board_remove.proofs.Sweeps.{Sweeping, sweep-none, sweep-take, sweep-skip, sweep-keys, sweep-versions}
+use Rattle.board_remove.proofs.compacting.sweep.Statement.{statement}
+use Rattle.board_remove.proofs.compacting.sweep.Tie as tie
+
+abbrev Inv-loop : tie.InvT-loop
+Inv-loop keys₀ versions₀ lengths c i₀ keys versions i = (i ≤ 128) × Sweeping keys₀ versions₀ lengths c i keys versions
+
+abbrev μ-loop : tie.MeasureT-loop
+μ-loop keys₀ versions₀ lengths c i₀ keys versions i = 128 - i
+
+loop-holds : tie.Need-loop-holds Inv-loop μ-loop
+loop-holds c = (
+  omega arith,
+  sweep-none (c .before .before .args .keys .now) (c .before .before .args .versions .now)
+      (c .before .before .args .lengths .now) (c .before .before .args .c) (c .before .before .pre .0)
+      (c .before .before .pre .1),
+)
+
+mul-is-dropped : tie.Need-mul-is-dropped Inv-loop μ-loop
+mul-is-dropped c = omega arith
+
+slice-read-is-dropped : tie.Need-slice-read-is-dropped Inv-loop μ-loop
+slice-read-is-dropped c = omega arith
+
+mul-is-dropped-2 : tie.Need-mul-is-dropped-2 Inv-loop μ-loop
+mul-is-dropped-2 c = omega arith
+
+slice-read-is-dropped-2 : tie.Need-slice-read-is-dropped-2 Inv-loop μ-loop
+slice-read-is-dropped-2 c = omega arith
+
+mul-is-dropped-3 : tie.Need-mul-is-dropped-3 Inv-loop μ-loop
+mul-is-dropped-3 c = omega arith
+
+element-copy-out-is-dropped : tie.Need-element-copy-out-is-dropped Inv-loop μ-loop
+element-copy-out-is-dropped c = omega arith
+
+is-dropped-requires : tie.Need-is-dropped-requires Inv-loop μ-loop
+is-dropped-requires c κs = search needs
+
+add-i : tie.Need-add-i Inv-loop μ-loop
+add-i c = omega arith
+
+loop-less : tie.Need-loop-less Inv-loop μ-loop
+loop-less c = omega arith
+
+loop-again : tie.Need-loop-again Inv-loop μ-loop
+loop-again c =
+    let before9 = c .before .before .before .before .before .before .before .before .before in (
+      omega arith,
+      sweep-skip (before9 .args .keys .now) (before9 .args .versions .now) (before9 .args .lengths .now)
+          (before9 .args .c) (before9 .pre .0) (before9 .pre .1) _ _ _ _
+          (c .before .before .before .before .before .before .loop .inv .1)
+          (c .before .before .before .before .before .loop-test .taken) (c .before .is-dropped .ensures)
+          (c .if1 .taken),
+    )
+
+mul-keys : tie.Need-mul-keys Inv-loop μ-loop
+mul-keys c = omega arith
+
+slice-write-keys : tie.Need-slice-write-keys Inv-loop μ-loop
+slice-write-keys c = omega arith
+
+mul-versions : tie.Need-mul-versions Inv-loop μ-loop
+mul-versions c = omega arith
+
+slice-write-versions : tie.Need-slice-write-versions Inv-loop μ-loop
+slice-write-versions c = omega arith
+
+add-i-2 : tie.Need-add-i-2 Inv-loop μ-loop
+add-i-2 c = omega arith
+
+loop-less-2 : tie.Need-loop-less-2 Inv-loop μ-loop
+loop-less-2 c = omega arith
+
+loop-again-2 : tie.Need-loop-again-2 Inv-loop μ-loop
+loop-again-2 c =
+    let before9 = c .before .before .before .before .before .before .before .before .before in (
+      omega arith,
+      sweep-take (before9 .args .keys .now) (before9 .args .versions .now) (before9 .args .lengths .now)
+          (before9 .args .c) (before9 .pre .0) (before9 .pre .1) _ _ _ _
+          (c .before .before .before .before .before .before .loop .inv .1)
+          (c .before .before .before .before .before .loop-test .taken) (c .before .is-dropped .ensures) (c .if1 .left),
+    )
+
+same-length : tie.Need-same-length Inv-loop μ-loop
+same-length c = omega arith
+
+same-length-2 : tie.Need-same-length-2 Inv-loop μ-loop
+same-length-2 c = omega arith
+
+returns : tie.Need-returns Inv-loop μ-loop
+returns c =
+    let before4 = c .before .before .before .before in (
+      sweep-keys (before4 .args .keys .now) (before4 .args .versions .now) (before4 .args .lengths .now)
+          (before4 .args .c) (before4 .pre .0) (before4 .pre .1) _ _ _ (c .before .loop .inv .1)
+          (c .before .loop .inv .0) (c .loop-test .left),
+      sweep-versions (before4 .args .keys .now) (before4 .args .versions .now) (before4 .args .lengths .now)
+          (before4 .args .c) (before4 .pre .0) (before4 .pre .1) _ _ _ (c .before .loop .inv .1)
+          (c .before .loop .inv .0) (c .loop-test .left),
+    )
+
+pub sweep-spec : {M : Type 1} → statement M
+sweep-spec =
+    tie.close
+    (tie.spec
+    Inv-loop
+    μ-loop
+    loop-holds
+    mul-is-dropped
+    slice-read-is-dropped
+    mul-is-dropped-2
+    slice-read-is-dropped-2
+    mul-is-dropped-3
+    element-copy-out-is-dropped
+    is-dropped-requires
+    add-i
+    loop-less
+    loop-again
+    mul-keys
+    slice-write-keys
+    mul-versions
+    slice-write-versions
+    add-i-2
+    loop-less-2
+    loop-again-2
+    same-length
+    same-length-2
+    returns)

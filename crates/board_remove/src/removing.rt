@@ -1,0 +1,42 @@
+// Remove (key): 17, 18, 22, 20. The removal stays as a mark: the key keeps its place, with length 0 and the version that
+// the removal bears.
+ghost use mathlib.Core.Path.{_≡_};
+ghost use Rattle.board_record.specs.Table.{tableOf};
+ghost use Rattle.board_rules.specs.Rules.{outcomeOf};
+ghost use Rattle.board_rules.specs.Remove.{removeAnswer};
+use answers::NOT_A_BOARD;
+use answers::Verdict;
+use answers::refused;
+use board_rules::is_board;
+use board_rules::length_at;
+use board_rules::remove_rules;
+use board_search::place_of;
+
+pub fn remove(
+    keys: &[u32; 128],
+    versions: &mut [u64; 128],
+    lengths: &mut [u16; 128],
+    version: &mut u64,
+    floor: u64,
+    store: &[u8],
+    key: u64,
+) -> Verdict
+    ensures answer { λ r.
+        let before = tableOf (now (keys .entry)) (now (versions .entry)) (now (lengths .entry)) (now (version .entry)) floor in
+        let after = tableOf (now (keys .entry)) (now (versions .exit)) (now (lengths .exit)) (now (version .exit)) floor in
+        ⌜ outcomeOf r after ≡ removeAnswer before (now (store .entry)) key ⌝ }
+{
+    if !is_board(store.len(), keys, versions, lengths, *version, floor) {
+        return refused(NOT_A_BOARD, 0);
+    }
+    let at = place_of(keys, key);
+    let verdict = remove_rules(key, at, length_at(lengths, at), *version);
+    if verdict.number != 0 {
+        return verdict;
+    }
+    let next = *version + 1;
+    versions[at] = next;
+    lengths[at] = 0;
+    *version = next;
+    verdict
+}

@@ -1,0 +1,102 @@
+-- What a report answers and writes is what the definitions say, rule by rule: one law for each way out of the code, and what the passed rules say
+-- (`Passed`) for the needs between. Assumes nothing.
+use Prim.Native.Nat.{ℕ, zero, suc, _+_, _-_, _*_, _<_, _≤_, _%_}
+use native.Mathlib.Omega.{arith}
+use mathlib.Core.Path.{_≡_, refl, sym, ap, _∙_}
+use mathlib.Core.Bool.{Bool, true, false, not, cond, _&&_}
+use mathlib.Core.List.{List, []}
+use lib.ListN.{length, getD, set, take, drop, length-drop}
+use lib.Dec.{eqb, ltb, leb}
+use borrow.Author.Tests.{eqb-true, eqb-false, ltb-false, leb-false}
+use Rattle.answers.specs.declared.verdict.Verdict.{Verdict}
+use Rattle.answers.specs.Numbers.{notABoard}
+use Rattle.answers.specs.Verdicts.{refusedBy, kept}
+use Rattle.octets.specs.Octets.{placed}
+use Rattle.octets.proofs.Laws.{rest-lent}
+use Rattle.session.specs.declared.Session.{Session}
+use Rattle.route.specs.Routes.{judgeOf}
+use Rattle.route.proofs.Answer.{accepted-body}
+use Rattle.board_record.specs.Sizes.{places, room, storeSize, keyMost, versionMost, header}
+use Rattle.board_record.specs.Table.{Table, tableOf}
+use Rattle.board_record.specs.Search.{targetOf, floorAfter}
+use Rattle.board_record.specs.Proper.{properB}
+use Rattle.board_rules.specs.Rules.{isBoard, inRange, outcomeOf}
+use Rattle.board_rules.specs.Report.{bodyIn, reportRules, reportVerdict, reported, reportWith, storeWith, reportAnswer, reportStore}
+use Rattle.board_rules.proofs.Verdicts.{kept-old, kept-new, rule-passed, route-passed, range-passed}
+use Rattle.board_rules.proofs.Told.{board-not, board-is, board-room, version-room}
+
+-- what the passed rules say
+pub record Passed (k : ℕ) (route : Verdict) (n top target : ℕ) : Type 0 where
+  pub key : k ≤ keyMost
+  pub route-taken : route .number ≡ 0
+  pub size : n ≤ room
+  pub used-up : top ≡ versionMost → ⊥
+  pub place : target < places
+
+pub passed : (k : ℕ) (route : Verdict) (n top target : ℕ) (v : Verdict) → v ≡ reportRules true k route n top target → v .number ≡ 0 → Passed k route n top target
+unfolding reportRules
+passed k route n top target v e z =
+    let a = rule-passed (not (inRange k)) 17 0 _ (ap (λ (y : Verdict). y .number) (sym e) ∙ z) in
+    let b = route-passed route _ (a .1) in
+    let c = rule-passed (ltb room n) 18 0 _ (b .1) in
+    let d = rule-passed (eqb top versionMost) 19 0 _ (c .1) in
+    let f = rule-passed (leb places target) 20 0 _ (d .1) in
+    record { key = range-passed k (a .0) .1; route-taken = b .0; size = ltb-false room n (c .0); used-up = eqb-false top versionMost (d .0); place = leb-false places target (f .0) }
+
+-- an accepted ERO has a header and a body
+pub body-there : (ero : List ℕ) (session : Session) (pst : ℕ) (route : Verdict) → route ≡ judgeOf ero true session pst → route .number ≡ 0 → 28 ≤ length ero
+body-there ero session pst route e z =
+    let h = accepted-body ero true session pst (ap (λ (y : Verdict). y .number) (sym e) ∙ z) in
+    let q : length (drop 4 ero) ≡ length ero - 4 = length-drop 4 ero in
+    omega arith
+
+module _ (b : Table) (store : List ℕ) (k : ℕ) (ero : List ℕ) (session : Session) (pst : ℕ) where
+  -- ---- 17
+  pub report-not-board : (r : Bool) (v : Verdict) → r ≡ isBoard b (length store) → not r ≡ true → v ≡ refusedBy notABoard 0 → outcomeOf v b ≡ reportAnswer b store k ero session pst
+  unfolding reportAnswer reportWith reportVerdict reportRules
+  report-not-board r v e t q = rw (q, board-not b (length store) r e t)
+
+  pub store-not-board : (r : Bool) → r ≡ isBoard b (length store) → not r ≡ true → store ≡ reportStore b store k ero session pst
+  unfolding reportStore storeWith reportVerdict reportRules
+  store-not-board r e t = rw (board-not b (length store) r e t)
+
+  -- ---- the other rules
+  pub report-verdict : (r : Bool) (at n : ℕ) (route v : Verdict) → r ≡ isBoard b (length store) → not r ≡ false → at ≡ targetOf b k → n ≡ length ero - 4 → route ≡ judgeOf ero true session pst
+      → v ≡ reportRules true k route n (b .version) at
+      → v ≡ reportVerdict b store k ero (judgeOf ero true session pst)
+  unfolding reportVerdict
+  report-verdict r at n route v e t p f g q = rw (board-is b (length store) r e t, ← p, length-drop 4 ero, ← f, ← g) q
+
+  pub report-refused : (v : Verdict) → v ≡ reportVerdict b store k ero (judgeOf ero true session pst) → (v .number ≡ 0 → ⊥) → outcomeOf v b ≡ reportAnswer b store k ero session pst
+  unfolding reportAnswer reportWith
+  report-refused v e d = rw (← e, kept-old (v .number) b (reported b k ero) d)
+
+  pub store-refused : (v : Verdict) → v ≡ reportVerdict b store k ero (judgeOf ero true session pst) → (v .number ≡ 0 → ⊥) → store ≡ reportStore b store k ero session pst
+  unfolding reportStore storeWith
+  store-refused v e d = rw (← e, kept-old (v .number) store (placed store (room * targetOf b k) (bodyIn ero)) d)
+
+  -- ---- accepted
+  reported-is : (at n f : ℕ) → at ≡ targetOf b k → n ≡ length ero - 4 → f ≡ floorAfter b k at
+      → tableOf (set (b .keys) at k) (set (b .versions) at (b .version + 1)) (set (b .lengths) at n) (b .version + 1) f ≡ reported b k ero
+  unfolding reported
+  reported-is at n f p q r = rw (← p, length-drop 4 ero, q, r)
+
+  pub report-accepted : (at n f : ℕ) (v : Verdict) → v ≡ reportVerdict b store k ero (judgeOf ero true session pst) → v .number ≡ 0 → at ≡ targetOf b k → n ≡ length ero - 4 → f ≡ floorAfter b k at
+      → outcomeOf v (tableOf (set (b .keys) at k) (set (b .versions) at (b .version + 1)) (set (b .lengths) at n) (b .version + 1) f) ≡ reportAnswer b store k ero session pst
+  unfolding reportAnswer reportWith
+  report-accepted at n f v e z p q r = rw (← e, kept-new (v .number) b (reported b k ero) z, reported-is at n f p q r)
+
+  pub store-accepted : (at from : ℕ) (v : Verdict) (after : List ℕ) → v ≡ reportVerdict b store k ero (judgeOf ero true session pst) → v .number ≡ 0 → at ≡ targetOf b k → from ≡ room * at
+      → after ≡ placed store from (take (length ero - 4) (drop 4 ero))
+      → after ≡ reportStore b store k ero session pst
+  unfolding reportStore storeWith
+  store-accepted at from v after e z p g q =
+      rw (← e, kept-new (v .number) store (placed store (room * targetOf b k) (bodyIn ero)) z, ← p, ← g) (q ∙ ap (placed store from) (rest-lent ero 4))
+
+  -- ---- what the stores need
+  pub report-room : (r : Bool) (at : ℕ) → r ≡ isBoard b (length store) → not r ≡ false → at < places → room * at + room ≤ length store
+  report-room r at e t l = omega (arith, board-room b (length store) (board-is b (length store) r e t))
+
+pub lay-fits : (store ero : List ℕ) (at n from : ℕ) → n ≡ length ero - 4 → n ≤ room → room * at + room ≤ length store → from ≡ room * at
+    → from + length (take (length ero - 4) (drop 4 ero)) ≤ length store
+lay-fits store ero at n from e l h g = rw (rest-lent ero 4, length-drop 4 ero) (omega arith)

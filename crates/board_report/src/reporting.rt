@@ -1,0 +1,68 @@
+// Report (key, ERO, session, PST): 17, 18, the route checks, 19, 20, 21. A key on the table, path or removal, keeps its
+// place; a new key takes the lowest empty place; with none, that of the oldest removal, and the floor rises to that
+// removal's version. The body, which is the ERO after its header, is written at the place's start.
+ghost use mathlib.Core.Path.{_≡_};
+ghost use Prim.Native.Nat.{_-_};
+ghost use Rattle.board_record.specs.Sizes.{header};
+ghost use Rattle.board_record.specs.Table.{tableOf};
+ghost use Rattle.board_rules.specs.Rules.{outcomeOf};
+ghost use Rattle.board_rules.specs.Report.{reportAnswer, reportStore};
+use answers::NOT_A_BOARD;
+use answers::Verdict;
+use answers::refused;
+use board_record::HEADER;
+use board_rules::is_board;
+use board_rules::report_rules;
+use board_rules::start_of;
+use board_search::floor_after;
+use board_search::target;
+use octets::lay;
+use route::judge;
+use session::Session;
+
+// The octets of the body of an ERO of n octets.
+fn body_size(n: usize) -> usize
+    ensures size { λ r. ⌜ r ≡ n - header ⌝ }
+{
+    if n < HEADER { 0 } else { n - HEADER }
+}
+
+pub fn report(
+    keys: &mut [u32; 128],
+    versions: &mut [u64; 128],
+    lengths: &mut [u16; 128],
+    version: &mut u64,
+    floor: &mut u64,
+    store: &mut [u8],
+    key: u64,
+    ero: &[u8],
+    session: Session,
+    pst: u64,
+) -> Verdict
+    ensures answer { λ r.
+        let before = tableOf (now (keys .entry)) (now (versions .entry)) (now (lengths .entry)) (now (version .entry)) (now (floor .entry)) in
+        let after = tableOf (now (keys .exit)) (now (versions .exit)) (now (lengths .exit)) (now (version .exit)) (now (floor .exit)) in
+        ⌜ outcomeOf r after ≡ reportAnswer before (now (store .entry)) key (now (ero .entry)) session pst ⌝ }
+    ensures octets { λ r.
+        let before = tableOf (now (keys .entry)) (now (versions .entry)) (now (lengths .entry)) (now (version .entry)) (now (floor .entry)) in
+        ⌜ now (store .exit) ≡ reportStore before (now (store .entry)) key (now (ero .entry)) session pst ⌝ }
+{
+    if !is_board(store.len(), keys, versions, lengths, *version, *floor) {
+        return refused(NOT_A_BOARD, 0);
+    }
+    let at = target(keys, versions, lengths, *version, *floor, key);
+    let n = body_size(ero.len());
+    let verdict = report_rules(key, judge(ero, true, session, pst), n, *version, at);
+    if verdict.number != 0 {
+        return verdict;
+    }
+    let raised = floor_after(keys, versions, *floor, key, at);
+    let next = *version + 1;
+    lay(store, start_of(at), &ero[HEADER..]);
+    keys[at] = key as u32;
+    versions[at] = next;
+    lengths[at] = n as u16;
+    *version = next;
+    *floor = raised;
+    verdict
+}
