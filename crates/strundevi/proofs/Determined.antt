@@ -22,11 +22,11 @@ use Rattle.border_records.specs.Records.{isYes, openedIn, openedOut, sessionIn,
 use Rattle.border_answers.specs.declared.picking.PickedRecord.{PickedRecord}
 use Rattle.border_answers.specs.declared.writing.WriterRecord.{WriterRecord}
 use Rattle.border_answers.specs.declared.writing.WrittenRecord.{WrittenRecord}
-use Rattle.strundevi.specs.declared.boards.PartRecord.{PartRecord}
+use Rattle.border_looks.specs.declared.PartRecord.{PartRecord}
 use Rattle.border_answers.specs.declared.change.ChangeRecord.{ChangeRecord}
-use Rattle.strundevi.specs.declared.boards.MarkRecord.{MarkRecord}
+use Rattle.border_looks.specs.declared.MarkRecord.{MarkRecord}
 use Rattle.border_answers.specs.Handing.{writerIn, writtenOut, pickedOut, changeOut}
-use Rattle.strundevi.specs.Boards.{partOut, freshOut}
+use Rattle.border_looks.specs.Looks.{partOut, freshOut}
 
 -- x and y, both the same value of a definition, are equal.
 abbrev One : {A : Type 0} → A → Type 0

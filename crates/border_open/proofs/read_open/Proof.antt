@@ -1,0 +1,15 @@
+use borrow.Author.Needs.{needs}
+use Rattle.border_open.proofs.read_open.Statement.{statement}
+use Rattle.border_open.proofs.read_open.Tie as tie
+
+read-open-requires : tie.Need-read-open-requires
+read-open-requires c κs = search needs
+
+opened-out-requires : tie.Need-opened-out-requires
+opened-out-requires c κs = search needs
+
+returns : tie.Need-returns
+returns c = cc
+
+pub read-open-spec : {M : Type 1} → statement M
+read-open-spec = tie.close (tie.spec read-open-requires opened-out-requires returns)

@@ -1,0 +1,35 @@
+use Rattle.border_routes.proofs.Laws.{judge-counted}
+use borrow.Author.Needs.{needs}
+use Rattle.border_routes.proofs.judge.Statement.{statement}
+use Rattle.border_routes.proofs.judge.Tie as tie
+
+yes-requires : tie.Need-yes-requires
+yes-requires c κs = search needs
+
+session-in-requires : tie.Need-session-in-requires
+session-in-requires c κs = search needs
+
+judge-requires : tie.Need-judge-requires
+judge-requires c κs = search needs
+
+verdict-out-requires : tie.Need-verdict-out-requires
+verdict-out-requires c κs = search needs
+
+returns : tie.Need-returns
+returns c = cc
+
+returns-2 : tie.Need-returns-2
+returns-2 c =
+    rw (← c .before .before .before .before .yes .ensures, ← c .before .before .before .session-in .ensures)
+    (judge-counted _ _ _ _ _ (c .before .before .judge .ensures) (c .if1 .left))
+
+pub judge-spec : {M : Type 1} → statement M
+judge-spec =
+    tie.close
+    (tie.spec
+    yes-requires
+    session-in-requires
+    judge-requires
+    verdict-out-requires
+    returns
+    returns-2)
