@@ -2,11 +2,10 @@
 ghost use mathlib.Core.Path.{_≡_};
 ghost use Rattle.route.specs.Routes.{judgeOf, segmentOf};
 ghost use Rattle.border_records.specs.Records.{isYes, sessionIn, verdictOut};
-ghost use Rattle.border_answers.specs.Handing.{pickedOut};
-use border_answers::PickedRecord;
-use border_answers::picked_out;
+ghost use Rattle.border_segment.specs.Segments.{pickedOut};
 use border_records::SessionRecord;
 use border_records::VerdictRecord;
+use border_segment::PickedRecord;
 
 // The verdict on a route under a session and a setup type. An acceptance is laid out by its count alone, which is
 // quicker than to copy it.
@@ -32,5 +31,5 @@ pub fn segment_at(octets: &[u8], ero: u8, session: SessionRecord, pst: u64, i: u
 {
     let kind = border_records::yes(ero);
     let agreed = border_records::session_in(session);
-    picked_out(route::segment(octets, kind, agreed, pst, i))
+    border_segment::picked_out(route::segment(octets, kind, agreed, pst, i))
 }

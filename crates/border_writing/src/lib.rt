@@ -3,13 +3,14 @@
 ghost use mathlib.Core.Path.{_≡_};
 ghost use Rattle.subobject.specs.Segments.{segmentWith};
 ghost use Rattle.writer.specs.Writing.{beginAnswer, beginBuffer, addAnswer, addBuffer, finishAnswer, finishBuffer};
-ghost use Rattle.border_records.specs.Records.{isYes, outlineIn};
+ghost use Rattle.border_records.specs.Records.{isYes};
+ghost use Rattle.border_segment.specs.Segments.{outlineIn};
 ghost use Rattle.border_answers.specs.Handing.{writerIn, writtenOut};
 use border_answers::WriterRecord;
 use border_answers::WrittenRecord;
 use border_answers::writer_in;
 use border_answers::written_out;
-use border_records::OutlineRecord;
+use border_segment::OutlineRecord;
 
 // Writes the header with length 4.
 pub fn begin(buffer: &mut [u8], writer: WriterRecord, ero: u8) -> WrittenRecord
@@ -32,7 +33,7 @@ pub fn add(
     ensures octets { λ _. ⌜ now (buffer .exit) ≡ addBuffer (now (buffer .entry)) (writerIn writer) (segmentWith (outlineIn outline) (now (sid .entry)) (now (nai .entry)) (now (structure .entry))) ⌝ }
 {
     let state = writer_in(writer);
-    let beside = border_records::outline_in(outline);
+    let beside = border_segment::outline_in(outline);
     written_out(writer::add_parts(buffer, state, beside, sid, nai, structure))
 }
 

@@ -2,10 +2,10 @@
 ghost use mathlib.Core.Path.{_≡_};
 ghost use Rattle.route.specs.Routes.{judgeOf, segmentOf};
 ghost use Rattle.border_records.specs.Records.{isYes, sessionIn, verdictOut};
-ghost use Rattle.border_answers.specs.Handing.{pickedOut};
-use border_answers::PickedRecord;
+ghost use Rattle.border_segment.specs.Segments.{pickedOut};
 use border_records::SessionRecord;
 use border_records::VerdictRecord;
+use border_segment::PickedRecord;
 
 // The verdict on a route under a session and a setup type.
 #[no_mangle]

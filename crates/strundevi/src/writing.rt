@@ -2,11 +2,12 @@
 ghost use mathlib.Core.Path.{_≡_};
 ghost use Rattle.subobject.specs.Segments.{segmentWith};
 ghost use Rattle.writer.specs.Writing.{beginAnswer, beginBuffer, addAnswer, addBuffer, finishAnswer, finishBuffer};
-ghost use Rattle.border_records.specs.Records.{isYes, outlineIn};
+ghost use Rattle.border_records.specs.Records.{isYes};
+ghost use Rattle.border_segment.specs.Segments.{outlineIn};
 ghost use Rattle.border_answers.specs.Handing.{writerIn, writtenOut};
 use border_answers::WriterRecord;
 use border_answers::WrittenRecord;
-use border_records::OutlineRecord;
+use border_segment::OutlineRecord;
 
 // Writes the header with length 4.
 #[no_mangle]

@@ -1,6 +1,7 @@
-use mathlib.Core.Path.{ap, _∙_}
-use Rattle.board_rules.specs.declared.answer.Answer.{Answer}
-use Rattle.border_records.specs.Records.{verdictOut}
+use Rattle.session.specs.declared.Session.{Session}
+use Rattle.board_record.specs.Table.{boardOf}
+use Rattle.board_rules.specs.Report.{reportAnswer, reportStore}
+use Rattle.border_board.proofs.Laws.{told-under}
 use borrow.Author.Needs.{needs}
 use Rattle.border_board.proofs.report.Statement.{statement}
 use Rattle.border_board.proofs.report.Tie as tie
@@ -21,8 +22,12 @@ returns : tie.Need-returns
 returns c =
     let e = c .before .before .before .report .ensures in
     let lent = c .before .before .before .before .before .before in
-    rw (← lent .before .before .before .before .session-in .ensures)
-    (c .verdict-out .ensures ∙ ap (λ (a : Answer). verdictOut (a .verdict)) (e .0), (ap (λ (a : Answer). a .board) (e .0), e .1))
+    let came = lent .before .before .before .before in
+    let args = came .before .before .before .args in
+    let b = boardOf (args .keys .now) (args .versions .now) (args .lengths .now) (args .version .now) (args .floor .now) in
+    told-under (λ (s : Session). reportAnswer b (args .store .now) (args .key) (args .ero .now) s (args .pst))
+    (λ (s : Session). reportStore b (args .store .now) (args .key) (args .ero .now) s (args .pst))
+    _ (args .session) _ _ _ _ (came .session-in .ensures) (e .0) (e .1) (c .verdict-out .ensures)
 
 pub report-spec : {M : Type 1} → statement M
 report-spec =

@@ -1,3 +1,4 @@
+use Rattle.border_open.proofs.Laws.{agree-told}
 use borrow.Author.Needs.{needs}
 use Rattle.border_open.proofs.agree.Statement.{statement}
 use Rattle.border_open.proofs.agree.Tie as tie
@@ -15,7 +16,10 @@ session-out-requires : tie.Need-session-out-requires
 session-out-requires c κs = search needs
 
 returns : tie.Need-returns
-returns c = cc
+returns c =
+    let came = c .before .before in
+    let args = came .before .before .args in
+    agree-told (args .pcc) (args .pce) _ _ _ _ (came .before .opened-in .ensures) (came .opened-in2 .ensures) (c .before .agree .ensures) (c .session-out .ensures)
 
 pub agree-spec : {M : Type 1} → statement M
 agree-spec =

@@ -1,3 +1,4 @@
+use Rattle.border_routes.proofs.Laws.{segment-told}
 use borrow.Author.Needs.{needs}
 use Rattle.border_routes.proofs.segment_at.Statement.{statement}
 use Rattle.border_routes.proofs.segment_at.Tie as tie
@@ -15,7 +16,11 @@ picked-out-requires : tie.Need-picked-out-requires
 picked-out-requires c κs = search needs
 
 returns : tie.Need-returns
-returns c = cc
+returns c =
+    let came = c .before .before in
+    let args = came .before .before .before .args in
+    segment-told (args .octets .now) (args .ero) (args .session) _ _ (came .before .yes .ensures) (came .session-in .ensures) (args .pst) (args .i) _ _
+    (c .before .segment .ensures) (c .picked-out .ensures)
 
 pub segment-at-spec : {M : Type 1} → statement M
 segment-at-spec =

@@ -1,11 +1,10 @@
-use mathlib.Core.Path.{ap, _∙_}
-use borrow.Author.Needs.{needs}
 use Rattle.subobject.specs.declared.segment.Outline.{Outline}
 use Rattle.subobject.specs.declared.segment.Segment.{Segment}
 use Rattle.subobject.specs.Segments.{segmentWith}
 use Rattle.writer.specs.declared.state.Writer.{Writer}
 use Rattle.writer.specs.Writing.{addAnswer, addBuffer}
-use Rattle.border_answers.specs.Handing.{writerIn, writtenOut}
+use Rattle.border_writing.proofs.Laws.{by-both}
+use borrow.Author.Needs.{needs}
 use Rattle.border_writing.proofs.add.Statement.{statement}
 use Rattle.border_writing.proofs.add.Tie as tie
 
@@ -29,19 +28,10 @@ returns c =
     let e = c .before .before .before .add-parts .ensures in
     let outlined = c .before .before .before .before .before .before .before .before in
     let args = outlined .before .before .before .args in
-    let g : Outline → Segment = λ o. segmentWith o (args .sid .now) (args .nai .now) (args .structure .now) in
     let b = args .buffer .now in
-    let w = outlined .before .writer-in .ensures in
-    let o = outlined .outline-in .ensures .0 in (
-      c .written-out .ensures
-          ∙ ap writtenOut
-          (e .0
-          ∙ ap (λ (x : Writer). addAnswer b x (g (outlined .outline-in .result))) w
-          ∙ ap (λ (x : Outline). addAnswer b (writerIn (args .writer)) (g x)) o),
-      e .1
-          ∙ ap (λ (x : Writer). addBuffer b x (g (outlined .outline-in .result))) w
-          ∙ ap (λ (x : Outline). addBuffer b (writerIn (args .writer)) (g x)) o,
-    )
+    let g : Outline → Segment = λ o. segmentWith o (args .sid .now) (args .nai .now) (args .structure .now) in
+    by-both (λ (w : Writer) (o : Outline). addAnswer b w (g o)) (λ (w : Writer) (o : Outline). addBuffer b w (g o)) _ _ _ _ _ (args .writer) (args .outline)
+    (outlined .before .writer-in .ensures) (outlined .outline-in .ensures .0) (e .0) (e .1) (c .written-out .ensures)
 
 pub add-spec : {M : Type 1} → statement M
 add-spec =

@@ -1,3 +1,7 @@
+use Rattle.writer.specs.declared.state.Writer.{Writer}
+use Rattle.writer.specs.Writing.{beginAnswer, beginBuffer}
+use Rattle.border_records.specs.Records.{isYes}
+use Rattle.border_writing.proofs.Laws.{by-writer}
 use borrow.Author.Needs.{needs}
 use Rattle.border_writing.proofs.begin.Statement.{statement}
 use Rattle.border_writing.proofs.begin.Tie as tie
@@ -18,7 +22,15 @@ same-length : tie.Need-same-length
 same-length c = search needs
 
 returns : tie.Need-returns
-returns c = (cc, cc)
+returns c =
+    let e = c .before .before .before .begin .ensures in
+    let came = c .before .before .before .before .before in
+    let args = came .before .before .before .args in
+    let b = args .buffer .now in
+    let kind = isYes (args .ero) in
+    let f = rw (c .before .before .before .before .yes .ensures) at e in
+    by-writer (λ (w : Writer). beginAnswer b w kind) (λ (w : Writer). beginBuffer b w kind) _ _ _ _ (args .writer)
+    (came .writer-in .ensures) (f .0) (f .1) (c .written-out .ensures)
 
 pub begin-spec : {M : Type 1} → statement M
 begin-spec =

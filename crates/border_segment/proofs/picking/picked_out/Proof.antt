@@ -1,6 +1,6 @@
 use borrow.Author.Needs.{needs}
-use Rattle.border_answers.proofs.picking.picked_out.Statement.{statement}
-use Rattle.border_answers.proofs.picking.picked_out.Tie as tie
+use Rattle.border_segment.proofs.picking.picked_out.Statement.{statement}
+use Rattle.border_segment.proofs.picking.picked_out.Tie as tie
 
 verdict-out-requires : tie.Need-verdict-out-requires
 verdict-out-requires c κs = search needs

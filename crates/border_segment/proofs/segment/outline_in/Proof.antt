@@ -1,6 +1,6 @@
 use borrow.Author.Needs.{needs}
-use Rattle.border_records.proofs.segment.outline_in.Statement.{statement}
-use Rattle.border_records.proofs.segment.outline_in.Tie as tie
+use Rattle.border_segment.proofs.segment.outline_in.Statement.{statement}
+use Rattle.border_segment.proofs.segment.outline_in.Tie as tie
 
 yes-requires : tie.Need-yes-requires
 yes-requires c κs = search needs

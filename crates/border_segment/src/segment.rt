@@ -2,8 +2,7 @@
 // Octets kept for a part that is absent or shorter are 0 in an answer.
 ghost use mathlib.Core.Path.{_≡_};
 ghost use Prim.Native.Nat.{_<_};
-ghost use Rattle.border_records.specs.Records.{outlineIn, segmentOut};
-use super::flag;
+ghost use Rattle.border_segment.specs.Segments.{outlineIn, segmentOut};
 use subobject::Outline;
 use subobject::Segment;
 
@@ -35,12 +34,12 @@ pub fn outline_in(o: OutlineRecord) -> Outline
     ensures small { λ r. ⌜ r .behaviour < 65536 ⌝ }
 {
     Outline {
-        loose: flag::yes(o.loose),
-        verify: flag::yes(o.verify),
+        loose: border_records::yes(o.loose),
+        verify: border_records::yes(o.verify),
         nt: o.nt,
         behaviour: o.behaviour as usize,
-        hassid: flag::yes(o.hassid),
-        structured: flag::yes(o.structured),
+        hassid: border_records::yes(o.hassid),
+        structured: border_records::yes(o.structured),
     }
 }
 
@@ -51,14 +50,14 @@ pub fn segment_out(g: Segment) -> SegmentRecord
     let nai = g.nai;
     let structure = g.structure;
     SegmentRecord {
-        loose: flag::flag_of(g.loose),
-        verify: flag::flag_of(g.verify),
+        loose: border_records::flag_of(g.loose),
+        verify: border_records::flag_of(g.verify),
         nt: g.nt,
         behaviour: g.behaviour,
-        hassid: flag::flag_of(g.hassid),
+        hassid: border_records::flag_of(g.hassid),
         sid: sid,
         nai: nai,
-        structured: flag::flag_of(g.structured),
+        structured: border_records::flag_of(g.structured),
         structure: structure,
     }
 }

@@ -1,6 +1,6 @@
 use borrow.Author.Needs.{needs}
-use Rattle.border_records.proofs.segment.segment_out.Statement.{statement}
-use Rattle.border_records.proofs.segment.segment_out.Tie as tie
+use Rattle.border_segment.proofs.segment.segment_out.Statement.{statement}
+use Rattle.border_segment.proofs.segment.segment_out.Tie as tie
 
 flag-of-requires : tie.Need-flag-of-requires
 flag-of-requires c κs = search needs
