@@ -44,7 +44,18 @@ pub fn report(
     ensures octets { λ _. ⌜ now (store .exit) ≡ reportStore (boardOf (now (keys .entry)) (now (versions .entry)) (now (lengths .entry)) (now (version .entry)) (now (floor .entry))) (now (store .entry)) key (now (ero .entry)) (sessionIn session) pst ⌝ }
 {
     let agreed = border_records::session_in(session);
-    let v = board_calls::report(keys, versions, lengths, version, floor, store, key, ero, agreed, pst);
+    let v = board_calls::report(
+        keys,
+        versions,
+        lengths,
+        version,
+        floor,
+        store,
+        key,
+        ero,
+        agreed,
+        pst,
+    );
     border_records::verdict_out(v)
 }
 

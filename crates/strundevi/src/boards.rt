@@ -48,7 +48,18 @@ pub extern "C" fn strundevi_raw_report(
     ensures board { λ _. ⌜ boardOf (now (keys .exit)) (now (versions .exit)) (now (lengths .exit)) (now (version .exit)) (now (floor .exit)) ≡ reportAnswer (boardOf (now (keys .entry)) (now (versions .entry)) (now (lengths .entry)) (now (version .entry)) (now (floor .entry))) (now (store .entry)) key (now (ero .entry)) (sessionIn session) pst .board ⌝ }
     ensures octets { λ _. ⌜ now (store .exit) ≡ reportStore (boardOf (now (keys .entry)) (now (versions .entry)) (now (lengths .entry)) (now (version .entry)) (now (floor .entry))) (now (store .entry)) key (now (ero .entry)) (sessionIn session) pst ⌝ }
 {
-    border_board::report(keys, versions, lengths, version, floor, store, key, ero, session, pst)
+    border_board::report(
+        keys,
+        versions,
+        lengths,
+        version,
+        floor,
+        store,
+        key,
+        ero,
+        session,
+        pst,
+    )
 }
 
 // Removes a path; its mark stays.
