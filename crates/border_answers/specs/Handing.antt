@@ -1,14 +1,12 @@
--- The writer's small state, and what writing, asking for a segment and next hand back (include/strundevi.h).
+-- The writer's small state, and what writing and next hand back (include/strundevi.h).
 use Prim.Native.Nat.{ℕ}
 use Rattle.writer.specs.declared.state.Writer.{Writer}
 use Rattle.writer.specs.declared.state.Written.{Written}
-use Rattle.route.specs.declared.picking.Picked.{Picked}
 use Rattle.board_rules.specs.declared.answer.Handed.{Handed}
 use Rattle.board_rules.specs.declared.answer.Handed.the-variants.{Refused, Path, Removed, Level}
-use Rattle.border_records.specs.Records.{isYes, flagOf, verdictOut, segmentOut}
+use Rattle.border_records.specs.Records.{isYes, flagOf, verdictOut}
 use Rattle.border_answers.specs.declared.writing.WriterRecord.{WriterRecord}
 use Rattle.border_answers.specs.declared.writing.WrittenRecord.{WrittenRecord}
-use Rattle.border_answers.specs.declared.picking.PickedRecord.{PickedRecord}
 use Rattle.border_answers.specs.declared.change.ChangeRecord.{ChangeRecord}
 
 abbrev pub writerIn : WriterRecord → Writer
@@ -19,9 +17,6 @@ writerOut w = record { ero = flagOf (w .ero); at = w .at }
 
 abbrev pub writtenOut : Written → WrittenRecord
 writtenOut w = record { verdict = verdictOut (w .verdict); writer = writerOut (w .writer) }
-
-abbrev pub pickedOut : Picked → PickedRecord
-pickedOut p = record { verdict = verdictOut (p .verdict); segment = segmentOut (p .segment) }
 
 -- Kinds of what next hands out: 0 a refusal, 1 a path, 2 a removal, 3 level.
 abbrev pub changeOut : Handed → ChangeRecord

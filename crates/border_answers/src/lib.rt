@@ -1,12 +1,9 @@
-// What the calls of writing, asking for a segment and next hand back, as records that cross the border (include/strundevi.h).
+// What the calls of writing and next hand back, as records that cross the border (include/strundevi.h).
 mod change;
-mod picking;
 mod writing;
 
 pub use change::ChangeRecord;
 pub use change::change_out;
-pub use picking::PickedRecord;
-pub use picking::picked_out;
 pub use writing::WriterRecord;
 pub use writing::WrittenRecord;
 pub use writing::writer_in;

@@ -8,10 +8,8 @@ use Rattle.session.specs.declared.Limit.{Limit}
 use Rattle.session.specs.declared.Limit.the-variants.{Free, Most}
 use Rattle.session.specs.declared.Opened.{Opened}
 use Rattle.session.specs.declared.Session.{Session}
-use Rattle.subobject.specs.declared.segment.Segment.{Segment}
-use Rattle.subobject.specs.Segments.{segmentWith}
 use Rattle.border_records.specs.declared.verdict.VerdictRecord.{VerdictRecord}
-use Rattle.border_records.specs.Records.{isYes, flagOf, limitIn, limitedOf, mostOf, verdictOut, openedIn, openedOut, sessionIn, sessionOut, outlineIn, outlineWithin, segmentOut}
+use Rattle.border_records.specs.Records.{isYes, flagOf, limitIn, limitedOf, mostOf, verdictOut, openedIn, openedOut, sessionIn, sessionOut}
 
 pub flag-back : (b : Bool) → isYes (flagOf b) ≡ b
 flag-back true = refl
@@ -26,10 +24,6 @@ opened-back o = rw (flag-back (o .srv6), flag-back (o .n), limit-back (o .limit)
 
 pub session-back : (s : Session) → sessionIn (sessionOut s) ≡ s
 session-back s = rw (flag-back (s .agreed), flag-back (s .n), limit-back (s .limit))
-
-pub segment-back : (g : Segment)
-    → segmentWith (outlineIn (outlineWithin (segmentOut g))) (segmentOut g .sid) (segmentOut g .nai) (segmentOut g .structure) ≡ g
-segment-back g = rw (flag-back (g .loose), flag-back (g .verify), flag-back (g .hassid), flag-back (g .structured))
 
 -- Any two records that fit the contract of `verdict_out` are equal.
 pub verdict-determined : (v : Verdict) (x y : VerdictRecord) → x ≡ verdictOut v → y ≡ verdictOut v → x ≡ y

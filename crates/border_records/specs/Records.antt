@@ -8,13 +8,9 @@ use Rattle.session.specs.declared.Limit.{Limit}
 use Rattle.session.specs.declared.Limit.the-variants.{Free, Most}
 use Rattle.session.specs.declared.Opened.{Opened}
 use Rattle.session.specs.declared.Session.{Session}
-use Rattle.subobject.specs.declared.segment.Outline.{Outline}
-use Rattle.subobject.specs.declared.segment.Segment.{Segment}
 use Rattle.border_records.specs.declared.verdict.VerdictRecord.{VerdictRecord}
 use Rattle.border_records.specs.declared.opened.OpenedRecord.{OpenedRecord}
 use Rattle.border_records.specs.declared.agreement.SessionRecord.{SessionRecord}
-use Rattle.border_records.specs.declared.segment.OutlineRecord.{OutlineRecord}
-use Rattle.border_records.specs.declared.segment.SegmentRecord.{SegmentRecord}
 
 -- A flag is an octet: 0 is no, every other number is yes; an answer has 0 or 1.
 abbrev pub isYes : ℕ → Bool
@@ -51,33 +47,3 @@ sessionIn s = record { agreed = isYes (s .agreed); n = isYes (s .n); limit = lim
 
 abbrev pub sessionOut : Session → SessionRecord
 sessionOut s = record { agreed = flagOf (s .agreed); n = flagOf (s .n); limited = limitedOf (s .limit); limit = mostOf (s .limit) }
-
-abbrev pub outlineIn : OutlineRecord → Outline
-outlineIn o =
-    record {
-      loose = isYes (o .loose);
-      verify = isYes (o .verify);
-      nt = o .nt;
-      behaviour = o .behaviour;
-      hassid = isYes (o .hassid);
-      structured = isYes (o .structured);
-    }
-
-abbrev pub segmentOut : Segment → SegmentRecord
-segmentOut g =
-    record {
-      loose = flagOf (g .loose);
-      verify = flagOf (g .verify);
-      nt = g .nt;
-      behaviour = g .behaviour;
-      hassid = flagOf (g .hassid);
-      sid = g .sid;
-      nai = g .nai;
-      structured = flagOf (g .structured);
-      structure = g .structure;
-    }
-
--- What a segment's record names beside its octets.
-abbrev pub outlineWithin : SegmentRecord → OutlineRecord
-outlineWithin g =
-    record { loose = g .loose; verify = g .verify; nt = g .nt; behaviour = g .behaviour; hassid = g .hassid; structured = g .structured }

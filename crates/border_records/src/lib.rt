@@ -7,7 +7,6 @@ mod agreement;
 mod flag;
 mod limit;
 mod opened;
-mod segment;
 mod verdict;
 
 pub use agreement::SessionRecord;
@@ -18,9 +17,5 @@ pub use flag::yes;
 pub use opened::OpenedRecord;
 pub use opened::opened_in;
 pub use opened::opened_out;
-pub use segment::OutlineRecord;
-pub use segment::SegmentRecord;
-pub use segment::outline_in;
-pub use segment::segment_out;
 pub use verdict::VerdictRecord;
 pub use verdict::verdict_out;

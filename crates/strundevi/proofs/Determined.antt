@@ -16,16 +16,17 @@ use Rattle.board_rules.specs.Next.{nextAnswer}
 use Rattle.border_records.specs.declared.verdict.VerdictRecord.{VerdictRecord}
 use Rattle.border_records.specs.declared.opened.OpenedRecord.{OpenedRecord}
 use Rattle.border_records.specs.declared.agreement.SessionRecord.{SessionRecord}
-use Rattle.border_records.specs.declared.segment.OutlineRecord.{OutlineRecord}
-use Rattle.border_records.specs.Records.{isYes, openedIn, openedOut, sessionIn, sessionOut, outlineIn, verdictOut}
-use Rattle.border_answers.specs.declared.picking.PickedRecord.{PickedRecord}
+use Rattle.border_segment.specs.declared.segment.OutlineRecord.{OutlineRecord}
+use Rattle.border_records.specs.Records.{isYes, openedIn, openedOut, sessionIn, sessionOut, verdictOut}
+use Rattle.border_segment.specs.Segments.{outlineIn, pickedOut}
+use Rattle.border_segment.specs.declared.picking.PickedRecord.{PickedRecord}
 use Rattle.border_answers.specs.declared.writing.WriterRecord.{WriterRecord}
 use Rattle.border_answers.specs.declared.writing.WrittenRecord.{WrittenRecord}
-use Rattle.strundevi.specs.declared.boards.PartRecord.{PartRecord}
+use Rattle.border_looks.specs.declared.PartRecord.{PartRecord}
 use Rattle.border_answers.specs.declared.change.ChangeRecord.{ChangeRecord}
-use Rattle.strundevi.specs.declared.boards.MarkRecord.{MarkRecord}
-use Rattle.border_answers.specs.Handing.{writerIn, writtenOut, pickedOut, changeOut}
-use Rattle.strundevi.specs.Boards.{partOut, freshOut}
+use Rattle.border_looks.specs.declared.MarkRecord.{MarkRecord}
+use Rattle.border_answers.specs.Handing.{writerIn, writtenOut, changeOut}
+use Rattle.border_looks.specs.Looks.{partOut, freshOut}
 
 -- x and y, both the same value of a definition, are equal.
 abbrev One : {A : Type 0} → A → Type 0

@@ -9,26 +9,12 @@ ghost use Rattle.board_rules.specs.Body.{bodyOf};
 ghost use Rattle.board_rules.specs.Next.{nextAnswer};
 ghost use Rattle.border_records.specs.Records.{sessionIn, verdictOut};
 ghost use Rattle.border_answers.specs.Handing.{changeOut};
-ghost use Rattle.strundevi.specs.Boards.{partOut, freshOut};
+ghost use Rattle.border_looks.specs.Looks.{partOut, freshOut};
 use border_answers::ChangeRecord;
-use border_answers::change_out;
+use border_looks::MarkRecord;
+use border_looks::PartRecord;
 use border_records::SessionRecord;
 use border_records::VerdictRecord;
-
-// Where a path's octets lie in the store; a refusal has none.
-#[repr(C)]
-pub struct PartRecord {
-    pub number: usize,
-    pub start: usize,
-    pub length: usize,
-}
-
-// A follower's mark.
-#[repr(C)]
-pub struct MarkRecord {
-    pub s: u64,
-    pub w: u64,
-}
 
 // Makes the record that of the empty board.
 #[no_mangle]
@@ -41,11 +27,7 @@ pub extern "C" fn strundevi_raw_empty(
 )
     ensures empty { λ _. ⌜ tableOf (now (keys .exit)) (now (versions .exit)) (now (lengths .exit)) (now (version .exit)) (now (floor .exit)) ≡ emptyTable ⌝ }
 {
-    *keys = [0; 128];
-    *versions = [0; 128];
-    *lengths = [0; 128];
-    *version = 0;
-    *floor = 0;
+    border_board::empty(keys, versions, lengths, version, floor);
 }
 
 // Reports a path.
@@ -66,7 +48,7 @@ pub extern "C" fn strundevi_raw_report(
     ensures board { λ _. ⌜ tableOf (now (keys .exit)) (now (versions .exit)) (now (lengths .exit)) (now (version .exit)) (now (floor .exit)) ≡ reportAnswer (tableOf (now (keys .entry)) (now (versions .entry)) (now (lengths .entry)) (now (version .entry)) (now (floor .entry))) (now (store .entry)) key (now (ero .entry)) (sessionIn session) pst .table ⌝ }
     ensures octets { λ _. ⌜ now (store .exit) ≡ reportStore (tableOf (now (keys .entry)) (now (versions .entry)) (now (lengths .entry)) (now (version .entry)) (now (floor .entry))) (now (store .entry)) key (now (ero .entry)) (sessionIn session) pst ⌝ }
 {
-    border_records::verdict_out(board_report::report(
+    border_board::report(
         keys,
         versions,
         lengths,
@@ -75,9 +57,9 @@ pub extern "C" fn strundevi_raw_report(
         store,
         key,
         ero,
-        border_records::session_in(session),
+        session,
         pst,
-    ))
+    )
 }
 
 // Removes a path; its mark stays.
@@ -94,15 +76,7 @@ pub extern "C" fn strundevi_raw_remove(
     ensures verdict { λ r. ⌜ r ≡ verdictOut (removeAnswer (tableOf (now (keys .entry)) (now (versions .entry)) (now (lengths .entry)) (now (version .entry)) floor) (now (store .entry)) key .verdict) ⌝ }
     ensures board { λ _. ⌜ tableOf (now (keys .entry)) (now (versions .exit)) (now (lengths .exit)) (now (version .exit)) floor ≡ removeAnswer (tableOf (now (keys .entry)) (now (versions .entry)) (now (lengths .entry)) (now (version .entry)) floor) (now (store .entry)) key .table ⌝ }
 {
-    border_records::verdict_out(board_remove::remove(
-        keys,
-        versions,
-        lengths,
-        version,
-        floor,
-        store,
-        key,
-    ))
+    border_board::remove(keys, versions, lengths, version, floor, store, key)
 }
 
 // Drops the marks with version at most c.
@@ -119,15 +93,7 @@ pub extern "C" fn strundevi_raw_compact(
     ensures verdict { λ r. ⌜ r ≡ verdictOut (compactAnswer (tableOf (now (keys .entry)) (now (versions .entry)) (now (lengths .entry)) version (now (floor .entry))) (now (store .entry)) c .verdict) ⌝ }
     ensures board { λ _. ⌜ tableOf (now (keys .exit)) (now (versions .exit)) (now (lengths .entry)) version (now (floor .exit)) ≡ compactAnswer (tableOf (now (keys .entry)) (now (versions .entry)) (now (lengths .entry)) version (now (floor .entry))) (now (store .entry)) c .table ⌝ }
 {
-    border_records::verdict_out(board_remove::compact(
-        keys,
-        versions,
-        lengths,
-        version,
-        floor,
-        store,
-        c,
-    ))
+    border_board::compact(keys, versions, lengths, version, floor, store, c)
 }
 
 // Where the octets of a key's path lie.
@@ -144,20 +110,7 @@ pub extern "C" fn strundevi_raw_body<'a>(
     ensures part { λ r. ⌜ r ≡ partOut (tableOf (now (keys .entry)) (now (versions .entry)) (now (lengths .entry)) version floor) (now (store .entry)) key ⌝ }
     ensures octets { λ r. ⌜ part (now (store .entry)) (r .start) (r .length) ≡ bodyOf (tableOf (now (keys .entry)) (now (versions .entry)) (now (lengths .entry)) version floor) (now (store .entry)) key ⌝ }
 {
-    let verdict = board_look::body_number(keys, versions, lengths, version, floor, store, key);
-    if verdict.number != 0 {
-        return PartRecord {
-            number: verdict.number,
-            start: 0,
-            length: 0,
-        };
-    }
-    let at = board_search::place_of(keys, key);
-    PartRecord {
-        number: 0,
-        start: board_record::ROOM * at,
-        length: board_rules::length_at(lengths, at),
-    }
+    border_looks::body(keys, versions, lengths, version, floor, store, key)
 }
 
 // What a follower with the mark (s, w) is handed.
@@ -174,7 +127,7 @@ pub extern "C" fn strundevi_raw_next<'a>(
 ) -> ChangeRecord
     ensures next { λ r. ⌜ r ≡ changeOut (nextAnswer (tableOf (now (keys .entry)) (now (versions .entry)) (now (lengths .entry)) version floor) (now (store .entry)) s w) ⌝ }
 {
-    change_out(board_look::next(keys, versions, lengths, version, floor, store, s, w))
+    border_looks::next(keys, versions, lengths, version, floor, store, s, w)
 }
 
 // The mark of a follower that begins, and holds nothing, on a board of this version.
@@ -182,5 +135,5 @@ pub extern "C" fn strundevi_raw_next<'a>(
 pub extern "C" fn strundevi_raw_fresh_mark(version: u64) -> MarkRecord
     ensures mark { λ r. ⌜ r ≡ freshOut version ⌝ }
 {
-    MarkRecord { s: version, w: 0 }
+    border_looks::fresh_mark(version)
 }

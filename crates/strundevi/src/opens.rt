@@ -11,7 +11,7 @@ use border_records::SessionRecord;
 pub extern "C" fn strundevi_raw_read_open(octets: &[u8]) -> OpenedRecord
     ensures opened { λ r. ⌜ r ≡ openedOut (openOf (now (octets .entry))) ⌝ }
 {
-    border_records::opened_out(open::read_open(octets))
+    border_open::read_open(octets)
 }
 
 // The session of the PCC's and the PCE's answers.
@@ -19,8 +19,5 @@ pub extern "C" fn strundevi_raw_read_open(octets: &[u8]) -> OpenedRecord
 pub extern "C" fn strundevi_raw_agree(pcc: OpenedRecord, pce: OpenedRecord) -> SessionRecord
     ensures session { λ r. ⌜ r ≡ sessionOut (sessionOf (openedIn pcc) (openedIn pce)) ⌝ }
 {
-    border_records::session_out(session::agree(
-        border_records::opened_in(pcc),
-        border_records::opened_in(pce),
-    ))
+    border_open::agree(pcc, pce)
 }

@@ -2,14 +2,12 @@
 ghost use mathlib.Core.Path.{_≡_};
 ghost use Rattle.route.specs.Routes.{judgeOf, segmentOf};
 ghost use Rattle.border_records.specs.Records.{isYes, sessionIn, verdictOut};
-ghost use Rattle.border_answers.specs.Handing.{pickedOut};
-use border_answers::PickedRecord;
-use border_answers::picked_out;
+ghost use Rattle.border_segment.specs.Segments.{pickedOut};
 use border_records::SessionRecord;
 use border_records::VerdictRecord;
+use border_segment::PickedRecord;
 
-// The verdict on a route under a session and a setup type. An acceptance is laid out by its count alone, which is
-// quicker than to copy it.
+// The verdict on a route under a session and a setup type.
 #[no_mangle]
 pub extern "C" fn strundevi_raw_judge(
     octets: &[u8],
@@ -19,20 +17,7 @@ pub extern "C" fn strundevi_raw_judge(
 ) -> VerdictRecord
     ensures judged { λ r. ⌜ r ≡ verdictOut (judgeOf (now (octets .entry)) (isYes ero) (sessionIn session) pst) ⌝ }
 {
-    let v = route::judge(
-        octets,
-        border_records::yes(ero),
-        border_records::session_in(session),
-        pst,
-    );
-    if v.count == 0 {
-        return border_records::verdict_out(v);
-    }
-    VerdictRecord {
-        number: 0,
-        place: 0,
-        count: v.count,
-    }
+    border_routes::judge(octets, ero, session, pst)
 }
 
 // Segment i, from 0, of a route under a session and a setup type.
@@ -46,11 +31,5 @@ pub extern "C" fn strundevi_raw_segment_at(
 ) -> PickedRecord
     ensures picked { λ r. ⌜ r ≡ pickedOut (segmentOf (now (octets .entry)) (isYes ero) (sessionIn session) pst i) ⌝ }
 {
-    picked_out(route::segment(
-        octets,
-        border_records::yes(ero),
-        border_records::session_in(session),
-        pst,
-        i,
-    ))
+    border_routes::segment_at(octets, ero, session, pst, i)
 }

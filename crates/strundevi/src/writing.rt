@@ -2,13 +2,12 @@
 ghost use mathlib.Core.Path.{_≡_};
 ghost use Rattle.subobject.specs.Segments.{segmentWith};
 ghost use Rattle.writer.specs.Writing.{beginAnswer, beginBuffer, addAnswer, addBuffer, finishAnswer, finishBuffer};
-ghost use Rattle.border_records.specs.Records.{isYes, outlineIn};
+ghost use Rattle.border_records.specs.Records.{isYes};
+ghost use Rattle.border_segment.specs.Segments.{outlineIn};
 ghost use Rattle.border_answers.specs.Handing.{writerIn, writtenOut};
 use border_answers::WriterRecord;
 use border_answers::WrittenRecord;
-use border_answers::writer_in;
-use border_answers::written_out;
-use border_records::OutlineRecord;
+use border_segment::OutlineRecord;
 
 // Writes the header with length 4.
 #[no_mangle]
@@ -20,7 +19,7 @@ pub extern "C" fn strundevi_raw_begin(
     ensures answer { λ r. ⌜ r ≡ writtenOut (beginAnswer (now (buffer .entry)) (writerIn writer) (isYes ero)) ⌝ }
     ensures octets { λ _. ⌜ now (buffer .exit) ≡ beginBuffer (now (buffer .entry)) (writerIn writer) (isYes ero) ⌝ }
 {
-    written_out(writer::begin(buffer, writer_in(writer), border_records::yes(ero)))
+    border_writing::begin(buffer, writer, ero)
 }
 
 // Writes a segment from the present place on. The segment's octets are lent.
@@ -36,14 +35,7 @@ pub extern "C" fn strundevi_raw_add(
     ensures answer { λ r. ⌜ r ≡ writtenOut (addAnswer (now (buffer .entry)) (writerIn writer) (segmentWith (outlineIn outline) (now (sid .entry)) (now (nai .entry)) (now (structure .entry)))) ⌝ }
     ensures octets { λ _. ⌜ now (buffer .exit) ≡ addBuffer (now (buffer .entry)) (writerIn writer) (segmentWith (outlineIn outline) (now (sid .entry)) (now (nai .entry)) (now (structure .entry))) ⌝ }
 {
-    written_out(writer::add_parts(
-        buffer,
-        writer_in(writer),
-        border_records::outline_in(outline),
-        sid,
-        nai,
-        structure,
-    ))
+    border_writing::add(buffer, writer, outline, sid, nai, structure)
 }
 
 // Writes the length.
@@ -52,5 +44,5 @@ pub extern "C" fn strundevi_raw_finish(buffer: &mut [u8], writer: WriterRecord) 
     ensures answer { λ r. ⌜ r ≡ writtenOut (finishAnswer (now (buffer .entry)) (writerIn writer)) ⌝ }
     ensures octets { λ _. ⌜ now (buffer .exit) ≡ finishBuffer (now (buffer .entry)) (writerIn writer) ⌝ }
 {
-    written_out(writer::finish(buffer, writer_in(writer)))
+    border_writing::finish(buffer, writer)
 }

@@ -1,0 +1,35 @@
+use Rattle.session.specs.declared.Session.{Session}
+use Rattle.board_record.specs.Table.{tableOf}
+use Rattle.board_rules.specs.Report.{reportAnswer, reportStore}
+use Rattle.border_board.proofs.Laws.{told-under}
+use borrow.Author.Needs.{needs}
+use Rattle.border_board.proofs.report.Statement.{statement}
+use Rattle.border_board.proofs.report.Tie as tie
+
+session-in-requires : tie.Need-session-in-requires
+session-in-requires c κs = search needs
+
+report-requires : tie.Need-report-requires
+report-requires c κs = search needs
+
+verdict-out-requires : tie.Need-verdict-out-requires
+verdict-out-requires c κs = search needs
+
+same-length : tie.Need-same-length
+same-length c = search needs
+
+returns : tie.Need-returns
+returns c =
+    let e = c .before .before .before .report .ensures in
+    let lent = c .before .before .before .before .before .before in
+    let came = lent .before .before .before .before in
+    let args = came .before .before .before .args in
+    let b = tableOf (args .keys .now) (args .versions .now) (args .lengths .now) (args .version .now) (args .floor .now) in
+    told-under (λ (s : Session). reportAnswer b (args .store .now) (args .key) (args .ero .now) s (args .pst))
+    (λ (s : Session). reportStore b (args .store .now) (args .key) (args .ero .now) s (args .pst))
+    _ (args .session) _ _ _ _ (came .session-in .ensures) (e .0) (e .1) (c .verdict-out .ensures)
+
+pub report-spec : {M : Type 1} → statement M
+report-spec =
+    tie.close
+    (tie.spec session-in-requires report-requires verdict-out-requires same-length returns)

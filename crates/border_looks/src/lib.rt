@@ -1,0 +1,79 @@
+// What only looks at the board: a path's octets, what a follower is handed, and the mark it begins with, over the records of
+// the border (include/strundevi.h).
+ghost use mathlib.Core.Path.{_≡_};
+ghost use Rattle.board_record.specs.Table.{tableOf};
+ghost use Rattle.octets.specs.Octets.{part};
+ghost use Rattle.board_rules.specs.Body.{bodyOf};
+ghost use Rattle.board_rules.specs.Next.{nextAnswer};
+ghost use Rattle.border_answers.specs.Handing.{changeOut};
+ghost use Rattle.border_looks.specs.Looks.{partOut, freshOut};
+use border_answers::ChangeRecord;
+use border_answers::change_out;
+
+// Where a path's octets lie in the store; a refusal has none.
+#[repr(C)]
+pub struct PartRecord {
+    pub number: usize,
+    pub start: usize,
+    pub length: usize,
+}
+
+// A follower's mark.
+#[repr(C)]
+pub struct MarkRecord {
+    pub s: u64,
+    pub w: u64,
+}
+
+// Where the octets of a key's path lie.
+pub fn body<'a>(
+    keys: &'a [u32; 128],
+    versions: &'a [u64; 128],
+    lengths: &'a [u16; 128],
+    version: u64,
+    floor: u64,
+    store: &[u8],
+    key: u64,
+) -> PartRecord
+    ensures part { λ r. ⌜ r ≡ partOut (tableOf (now (keys .entry)) (now (versions .entry)) (now (lengths .entry)) version floor) (now (store .entry)) key ⌝ }
+    ensures octets { λ r. ⌜ part (now (store .entry)) (r .start) (r .length) ≡ bodyOf (tableOf (now (keys .entry)) (now (versions .entry)) (now (lengths .entry)) version floor) (now (store .entry)) key ⌝ }
+{
+    let verdict = board_look::body_number(keys, versions, lengths, version, floor, store, key);
+    if verdict.number != 0 {
+        return PartRecord {
+            number: verdict.number,
+            start: 0,
+            length: 0,
+        };
+    }
+    let at = board_search::place_of(keys, key);
+    PartRecord {
+        number: 0,
+        start: board_record::ROOM * at,
+        length: board_rules::length_at(lengths, at),
+    }
+}
+
+// What a follower with the mark (s, w) is handed.
+pub fn next<'a>(
+    keys: &'a [u32; 128],
+    versions: &'a [u64; 128],
+    lengths: &'a [u16; 128],
+    version: u64,
+    floor: u64,
+    store: &[u8],
+    s: u64,
+    w: u64,
+) -> ChangeRecord
+    ensures next { λ r. ⌜ r ≡ changeOut (nextAnswer (tableOf (now (keys .entry)) (now (versions .entry)) (now (lengths .entry)) version floor) (now (store .entry)) s w) ⌝ }
+{
+    let handed = board_look::next(keys, versions, lengths, version, floor, store, s, w);
+    change_out(handed)
+}
+
+// The mark of a follower that begins, and holds nothing, on a board of this version.
+pub fn fresh_mark(version: u64) -> MarkRecord
+    ensures mark { λ r. ⌜ r ≡ freshOut version ⌝ }
+{
+    MarkRecord { s: version, w: 0 }
+}

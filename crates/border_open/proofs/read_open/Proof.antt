@@ -1,0 +1,17 @@
+use mathlib.Core.Path.{ap, _∙_}
+use Rattle.border_records.specs.Records.{openedOut}
+use borrow.Author.Needs.{needs}
+use Rattle.border_open.proofs.read_open.Statement.{statement}
+use Rattle.border_open.proofs.read_open.Tie as tie
+
+read-open-requires : tie.Need-read-open-requires
+read-open-requires c κs = search needs
+
+opened-out-requires : tie.Need-opened-out-requires
+opened-out-requires c κs = search needs
+
+returns : tie.Need-returns
+returns c = c .opened-out .ensures ∙ ap openedOut (c .before .read-open .ensures)
+
+pub read-open-spec : {M : Type 1} → statement M
+read-open-spec = tie.close (tie.spec read-open-requires opened-out-requires returns)

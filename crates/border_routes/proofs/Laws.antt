@@ -1,0 +1,48 @@
+-- What the calls below answer, and what judging lays out by hand, is what is asked for at the border. Assumes nothing.
+use Prim.Native.Nat.{ℕ}
+use mathlib.Core.Path.{_≡_, refl, ap, _∙_}
+use mathlib.Core.List.{List, [], _∷_}
+use mathlib.Core.Bool.{Bool, true, false, cond}
+use Rattle.answers.specs.declared.verdict.Verdict.{Verdict}
+use Rattle.answers.specs.Verdicts.{refusedBy, acceptedWith}
+use Rattle.session.specs.declared.Session.{Session}
+use Rattle.frame.specs.Checks.{Check, firstBroken}
+use Rattle.route.specs.declared.picking.Picked.{Picked}
+use Rattle.route.specs.Routes.{judgeOf, segmentOf, checksOf, countOf}
+use Rattle.border_records.specs.declared.verdict.VerdictRecord.{VerdictRecord}
+use Rattle.border_records.specs.declared.agreement.SessionRecord.{SessionRecord}
+use Rattle.border_records.specs.Records.{isYes, sessionIn, verdictOut}
+use Rattle.border_segment.specs.declared.picking.PickedRecord.{PickedRecord}
+use Rattle.border_segment.specs.Segments.{pickedOut}
+
+-- A verdict with a count is an acceptance.
+counted-at : (c : Bool) (n p : ℕ) (v : Verdict) → (cond c (refusedBy n p) v .count ≡ 0 → ⊥) → cond c (refusedBy n p) v ≡ v
+counted-at true n p v d = absurd (d refl)
+counted-at false n p v d = refl
+
+counted : (cs : List Check) (after : Verdict) → (firstBroken cs after .count ≡ 0 → ⊥) → firstBroken cs after ≡ after
+counted [] after d = refl
+counted (c ∷ cs) after d =
+    let e = counted-at (c .broken) (c .number) (c .place) (firstBroken cs after) d in
+    e ∙ counted cs after (λ z. d (ap (λ (v : Verdict). v .count) e ∙ z))
+
+module _ (s : List ℕ) (ero : ℕ) (session : SessionRecord) (k : Bool) (g : Session) (f : k ≡ isYes ero) (h : g ≡ sessionIn session) where
+  -- What is asked of the call below is what is asked at the border.
+  same : {A : Type 0} (answer : Bool → Session → A) → answer k g ≡ answer (isYes ero) (sessionIn session)
+  same answer = rw (f, h)
+
+  pub judge-told : (pst : ℕ) (v : Verdict) (r : VerdictRecord) → v ≡ judgeOf s k g pst → r ≡ verdictOut v
+      → r ≡ verdictOut (judgeOf s (isYes ero) (sessionIn session) pst)
+  judge-told pst v r e o = o ∙ ap verdictOut (e ∙ same (λ (x : Bool) (y : Session). judgeOf s x y pst))
+
+  accepted : (pst : ℕ) (v : Verdict) → v ≡ judgeOf s k g pst → (v .count ≡ 0 → ⊥) → record { number = 0; place = 0; count = v .count } ≡ verdictOut v
+  unfolding judgeOf
+  accepted pst v e d = rw (e ∙ counted (checksOf s k g pst) (acceptedWith (countOf s)) (λ z. d (ap (λ (x : Verdict). x .count) e ∙ z)))
+
+  pub judge-counted : (pst : ℕ) (v : Verdict) → v ≡ judgeOf s k g pst → (v .count ≡ 0 → ⊥)
+      → record { number = 0; place = 0; count = v .count } ≡ verdictOut (judgeOf s (isYes ero) (sessionIn session) pst)
+  judge-counted pst v e d = judge-told pst v _ e (accepted pst v e d)
+
+  pub segment-told : (pst i : ℕ) (p : Picked) (r : PickedRecord) → p ≡ segmentOf s k g pst i → r ≡ pickedOut p
+      → r ≡ pickedOut (segmentOf s (isYes ero) (sessionIn session) pst i)
+  segment-told pst i p r e o = o ∙ ap pickedOut (e ∙ same (λ (x : Bool) (y : Session). segmentOf s x y pst i))

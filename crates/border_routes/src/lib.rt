@@ -1,0 +1,35 @@
+// Judging a route, and asking for its segments, over the records of the border (include/strundevi.h). `ero` is a flag: an ERO, else an RRO.
+ghost use mathlib.Core.Path.{_≡_};
+ghost use Rattle.route.specs.Routes.{judgeOf, segmentOf};
+ghost use Rattle.border_records.specs.Records.{isYes, sessionIn, verdictOut};
+ghost use Rattle.border_segment.specs.Segments.{pickedOut};
+use border_records::SessionRecord;
+use border_records::VerdictRecord;
+use border_segment::PickedRecord;
+
+// The verdict on a route under a session and a setup type. An acceptance is laid out by its count alone, which is
+// quicker than to copy it.
+pub fn judge(octets: &[u8], ero: u8, session: SessionRecord, pst: u64) -> VerdictRecord
+    ensures judged { λ r. ⌜ r ≡ verdictOut (judgeOf (now (octets .entry)) (isYes ero) (sessionIn session) pst) ⌝ }
+{
+    let kind = border_records::yes(ero);
+    let agreed = border_records::session_in(session);
+    let v = route::judge(octets, kind, agreed, pst);
+    if v.count == 0 {
+        return border_records::verdict_out(v);
+    }
+    VerdictRecord {
+        number: 0,
+        place: 0,
+        count: v.count,
+    }
+}
+
+// Segment i, from 0, of a route under a session and a setup type.
+pub fn segment_at(octets: &[u8], ero: u8, session: SessionRecord, pst: u64, i: u64) -> PickedRecord
+    ensures picked { λ r. ⌜ r ≡ pickedOut (segmentOf (now (octets .entry)) (isYes ero) (sessionIn session) pst i) ⌝ }
+{
+    let kind = border_records::yes(ero);
+    let agreed = border_records::session_in(session);
+    border_segment::picked_out(route::segment(octets, kind, agreed, pst, i))
+}

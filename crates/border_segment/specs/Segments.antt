@@ -1,0 +1,41 @@
+-- What an outline at the border stands for, and the records that a segment and an answer with a segment are handed out as (include/strundevi.h).
+use Rattle.subobject.specs.declared.segment.Outline.{Outline}
+use Rattle.subobject.specs.declared.segment.Segment.{Segment}
+use Rattle.route.specs.declared.picking.Picked.{Picked}
+use Rattle.border_records.specs.Records.{isYes, flagOf, verdictOut}
+use Rattle.border_segment.specs.declared.segment.OutlineRecord.{OutlineRecord}
+use Rattle.border_segment.specs.declared.segment.SegmentRecord.{SegmentRecord}
+use Rattle.border_segment.specs.declared.picking.PickedRecord.{PickedRecord}
+
+abbrev pub outlineIn : OutlineRecord → Outline
+outlineIn o =
+    record {
+      loose = isYes (o .loose);
+      verify = isYes (o .verify);
+      nt = o .nt;
+      behaviour = o .behaviour;
+      hassid = isYes (o .hassid);
+      structured = isYes (o .structured);
+    }
+
+abbrev pub segmentOut : Segment → SegmentRecord
+segmentOut g =
+    record {
+      loose = flagOf (g .loose);
+      verify = flagOf (g .verify);
+      nt = g .nt;
+      behaviour = g .behaviour;
+      hassid = flagOf (g .hassid);
+      sid = g .sid;
+      nai = g .nai;
+      structured = flagOf (g .structured);
+      structure = g .structure;
+    }
+
+-- What a segment's record names beside its octets.
+abbrev pub outlineWithin : SegmentRecord → OutlineRecord
+outlineWithin g =
+    record { loose = g .loose; verify = g .verify; nt = g .nt; behaviour = g .behaviour; hassid = g .hassid; structured = g .structured }
+
+abbrev pub pickedOut : Picked → PickedRecord
+pickedOut p = record { verdict = verdictOut (p .verdict); segment = segmentOut (p .segment) }

@@ -1,0 +1,10 @@
+// A segment as it crosses the border to C and Rust, and what asking for one hands back (include/strundevi.h).
+mod picking;
+mod segment;
+
+pub use picking::PickedRecord;
+pub use picking::picked_out;
+pub use segment::OutlineRecord;
+pub use segment::SegmentRecord;
+pub use segment::outline_in;
+pub use segment::segment_out;
