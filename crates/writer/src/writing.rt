@@ -11,7 +11,7 @@ use subobject::Outline;
 use subobject::Segment;
 
 // Type 1 in the high 4 bits; the low bits are 0.
-const TYPE_OCTET: usize = objects::OBJECT_TYPE * objects::TYPE_WORTH;
+const TYPE_OCTET: u8 = (objects::OBJECT_TYPE * objects::TYPE_WORTH) as u8;
 
 // Writes the header with length 4.
 pub fn begin(buf: &mut [u8], writer: Writer, ero: bool) -> Written
@@ -22,7 +22,7 @@ pub fn begin(buf: &mut [u8], writer: Writer, ero: bool) -> Written
         return state::refuse(answers::BUFFER_FULL, writer);
     }
     buf[objects::CLASS_PLACE] = octets::pick(ero, objects::ERO_CLASS, objects::RRO_CLASS) as u8;
-    buf[objects::TYPE_PLACE] = TYPE_OCTET as u8;
+    buf[objects::TYPE_PLACE] = TYPE_OCTET;
     buf[2] = 0;
     buf[3] = objects::HEADER as u8;
     state::accept(Writer {
