@@ -135,7 +135,15 @@ unfolding nextAnswer nextVerdict nextRules handedAt changeAt nextOf leastWhere w
 heard4 = (refl, refl, refl, refl)
 
 pub worked : WhatIsHeard
-worked = rw (noon-is, dusk-is) (heard3 .0, heard3 .1, heard3 .2, heard4 .0, heard4 .1, heard4 .2, heard4 .3)
+worked = (
+  ap (λ (x : World). hears x 1 1) noon-is ∙ heard3 .0,
+  ap (λ (x : World). hears x 1 2) noon-is ∙ heard3 .1,
+  ap (λ (x : World). hears x 1 3) noon-is ∙ heard3 .2,
+  ap (λ (x : World). hears x 2 2) dusk-is ∙ heard4 .0,
+  ap (λ (x : World). hears x 3 3) dusk-is ∙ heard4 .1,
+  ap (λ (x : World). hears x 3 0) dusk-is ∙ heard4 .2,
+  ap (λ (x : World). hears x 3 2) dusk-is ∙ heard4 .3,
+)
 
 -- ---- what a follower holds after each answer
 
