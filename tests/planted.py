@@ -100,31 +100,24 @@ def run(*words, out=None):
     return done.returncode == 0 and (out is None or done.stdout == open(os.path.join(COPY, out), "rb").read())
 
 
-def build(path=""):
-    """Builds all, or what a change of this file changes."""
-
-    def cc(source, name):
-        return run("cc", "-std=c99", "-pedantic", "-Wall", "-Wextra", "-Werror", "-O1", "-I", "include", source, os.path.join(ARCHIVE, "libstrundevi.a"), "-o", name)
-
-    def cargo(*words):
-        return run("cargo", "build", "--quiet", "--release", "--offline", "--manifest-path", "rust/Cargo.toml", *words)
-
-    good = cargo("--package", "differ")
-    if path in ("", HEADER):
-        good = good and cc("tests/header.c", "header") and cc("tests/boundary.c", "boundary") and cc("examples/route.c", "route")
-    if path == "" or path.startswith(WRAPPER):
-        good = good and cargo("--package", "strundevi", "--example", "route")
-    return good
+def cc(source, name):
+    return run("cc", "-std=c99", "-pedantic", "-Wall", "-Wextra", "-Werror", "-O1", "-I", "include", source, os.path.join(ARCHIVE, "libstrundevi.a"), "-o", name)
 
 
-def pass_all():
-    return (
-        run("./header")
-        and run("./boundary")
-        and run("./route", out="examples/route.out")
-        and run("cargo/release/examples/route", out="rust/strundevi/examples/route.out")
-        and run("cargo/release/differ", "1", "60000", "40000")
-    )
+def cargo(*words):
+    return run("cargo", "build", "--quiet", "--release", "--offline", "--manifest-path", "rust/Cargo.toml", *words)
+
+
+# A fault in the header changes nothing of the wrapper's example, and so on: only what a fault can change is built and run.
+def build(header, wrapper):
+    c = not header or (cc("tests/header.c", "header") and cc("tests/boundary.c", "boundary") and cc("examples/route.c", "route"))
+    return c and cargo("--package", "differ") and (not wrapper or cargo("--package", "strundevi", "--example", "route"))
+
+
+def pass_all(header, wrapper):
+    c = not header or (run("./header") and run("./boundary") and run("./route", out="examples/route.out"))
+    rust = not wrapper or run("cargo/release/examples/route", out="rust/strundevi/examples/route.out")
+    return c and rust and run("cargo/release/differ", "1", "60000", "40000")
 
 
 def copy():
@@ -139,7 +132,7 @@ def write(path, text):
 
 def main(words):
     copy()
-    if not (build() and pass_all()):
+    if not (build(True, True) and pass_all(True, True)):
         sys.exit("planted: the tests do not pass without a fault")
     found, other = 0, []
     chosen = {name: fault for name, fault in FAULTS.items() if not words or any(word in name for word in words)}
@@ -151,7 +144,8 @@ def main(words):
                 sys.exit(f"planted: {name}: {old!r} stands {wrong.count(old)} times in {path}")
             wrong = wrong.replace(old, new)
         write(path, wrong)
-        verdict = "does not compile" if not build(path) else "let pass" if pass_all() else "found"
+        parts = (path == HEADER, path.startswith(WRAPPER))
+        verdict = "does not compile" if not build(*parts) else "let pass" if pass_all(*parts) else "found"
         write(path, whole)
         print(f"{name}: {verdict}", flush=True)
         if verdict == "found":
