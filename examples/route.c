@@ -12,45 +12,61 @@ static const uint8_t open_object[] = {0x01, 0x10, 0x00, 0x20, 0x20, 0x1E, 0x78, 
 static uint8_t store[STRUNDEVI_STORE_OCTETS];
 static strundevi_board board;
 
+/* Ends the program where a call was refused that should not be. */
+static int good(const char *call, size_t number) {
+    if (number != STRUNDEVI_ACCEPTED)
+        printf("%s refused: %zu, %s\n", call, number, strundevi_text(number));
+    return number == STRUNDEVI_ACCEPTED;
+}
+
 int main(void) {
     strundevi_opened opened = strundevi_read_open(open_object, sizeof open_object);
+    if (!good("open", opened.number))
+        return 1;
     strundevi_session session = strundevi_agree(opened, opened);
-    printf("open: number %zu, SRv6 %d, N %d, limit %zu\n", opened.number, opened.srv6, opened.n, opened.limit);
+    printf("open: SRv6 %d, N %d, limit %zu\n", opened.srv6, opened.n, opened.limit);
 
     uint8_t buffer[256];
     strundevi_segment segment = {.behaviour = 1, .hassid = 1, .sid = {0x20, 0x01, 0x0D, 0xB8, [15] = 1}};
     strundevi_writer writer = {0};
     strundevi_written written = strundevi_begin(buffer, sizeof buffer, writer, STRUNDEVI_ERO);
-    for (int i = 0; i < 3 && written.verdict.number == 0; i++) {
+    for (int i = 0; i < 3 && written.verdict.number == STRUNDEVI_ACCEPTED; i++) {
         segment.sid[15] = (uint8_t)(i + 1);
         written = strundevi_add(buffer, sizeof buffer, written.writer, segment);
     }
-    written = strundevi_finish(buffer, sizeof buffer, written.writer);
-    printf("written: number %zu, octets %zu\n", written.verdict.number, written.writer.at);
-
+    if (written.verdict.number == STRUNDEVI_ACCEPTED)
+        written = strundevi_finish(buffer, sizeof buffer, written.writer);
+    if (!good("writing", written.verdict.number))
+        return 1;
     size_t length = written.writer.at;
+    printf("written: %zu octets\n", length);
+
     strundevi_verdict verdict = strundevi_judge(buffer, length, STRUNDEVI_ERO, session, STRUNDEVI_PST_SRV6);
-    printf("judged: number %zu, segments %zu\n", verdict.number, verdict.count);
+    if (!good("judge", verdict.number))
+        return 1;
+    printf("judged: %zu segments\n", verdict.count);
     strundevi_picked picked = strundevi_segment_at(buffer, length, STRUNDEVI_ERO, session, STRUNDEVI_PST_SRV6, 2);
-    printf("segment 2: number %zu, last octet of the SID %d\n", picked.verdict.number, picked.segment.sid[15]);
+    if (!good("segment", picked.verdict.number))
+        return 1;
+    printf("segment 2: last octet of the SID %d\n", picked.segment.sid[15]);
 
     strundevi_empty(&board);
     strundevi_mark mark = strundevi_fresh_mark(&board);
-    strundevi_report(&board, store, sizeof store, 7, buffer, length, session, STRUNDEVI_PST_SRV6);
-    strundevi_report(&board, store, sizeof store, 8, buffer, length, session, STRUNDEVI_PST_SRV6);
-    strundevi_remove(&board, store, sizeof store, 7);
+    if (!good("report", strundevi_report(&board, store, sizeof store, 7, buffer, length, session, STRUNDEVI_PST_SRV6).number) ||
+        !good("report", strundevi_report(&board, store, sizeof store, 8, buffer, length, session, STRUNDEVI_PST_SRV6).number) ||
+        !good("remove", strundevi_remove(&board, store, sizeof store, 7).number))
+        return 1;
     verdict = strundevi_report(&board, store, sizeof store, 0, buffer, length, session, STRUNDEVI_PST_SRV6);
-    printf("key 0: number %zu\n", verdict.number);
+    printf("key 0: %zu, %s\n", verdict.number, strundevi_text(verdict.number));
 
-    for (;;) {
+    /* each turn hands out another change, and there are no more changes than places */
+    for (int turn = 0; turn <= STRUNDEVI_PLACES; turn++) {
         strundevi_change next = strundevi_next(&board, store, sizeof store, mark);
-        if (next.number != 0) {
-            printf("refused: number %zu\n", next.number);
+        if (!good("next", next.number))
             return 1;
-        }
         if (next.kind == STRUNDEVI_LEVEL) {
             printf("level at %llu\n", (unsigned long long)next.version);
-            break;
+            return 0;
         }
         if (next.kind == STRUNDEVI_PATH) {
             const uint8_t *body = store + next.place * STRUNDEVI_PLACE_OCTETS;
@@ -59,7 +75,8 @@ int main(void) {
         } else {
             printf("removed %llu at %llu\n", (unsigned long long)next.key, (unsigned long long)next.version);
         }
-        mark.w = next.version;
+        mark = strundevi_mark_after(mark, next);
     }
-    return 0;
+    printf("never level\n");
+    return 1;
 }

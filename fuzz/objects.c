@@ -1,5 +1,5 @@
 /* A target for libFuzzer over the archive and the header: any octets are taken as a PCC OPEN, a PCE OPEN and a route, cut as the checking
- * program cuts, and put through every call. It stops where two calls disagree.
+ * program cuts, and put through every call. It stops where two calls disagree. tests/library.sh builds it and runs it for a moment.
  *
  *     rt staticlib strundevi
  *     clang -g -O1 -fsanitize=fuzzer,address -I include fuzz/objects.c target/staticlib/libstrundevi.a -o target/fuzz-objects
@@ -18,6 +18,26 @@ static void same(int holds) {
 static size_t cut(const uint8_t *octets, size_t size) {
     size_t length = size < 4 ? 0 : (size_t)octets[2] << 8 | octets[3];
     return length < 4 || length > size ? size : length;
+}
+
+/* The bits of octet `at` of an accepted route that are ignored in reading. */
+static uint8_t ignored(const uint8_t *route, enum strundevi_kind kind, size_t at) {
+    size_t start = 4;
+    if (at < 4)
+        return at == 1 ? 0x0F : 0;
+    while (start + route[start + 1] <= at)
+        start += route[start + 1];
+    const uint8_t *sub = route + start;
+    int no_sid = (sub[3] & 1) != 0;
+    switch (at - start) {
+    case 2: return 0x0F;
+    case 3: return (uint8_t)(0xF0 | (kind == STRUNDEVI_RRO ? 8 : 0) | (no_sid ? 4 : 0));
+    case 4:
+    case 5: return 0xFF;
+    default: break;
+    }
+    /* the last four octets of the SID structure are reserved */
+    return (sub[3] & 4) != 0 && !no_sid && at - start >= (size_t)sub[1] - 4 ? 0xFF : 0;
 }
 
 int LLVMFuzzerTestOneInput(const uint8_t *data, size_t size) {
@@ -50,6 +70,12 @@ int LLVMFuzzerTestOneInput(const uint8_t *data, size_t size) {
     same(strundevi_segment_at(route, length, kind, free_session, STRUNDEVI_PST_SRV6, verdict.count).verdict.number == STRUNDEVI_NO_SUCH_SEGMENT);
     same(strundevi_finish(buffer, sizeof buffer, written.writer).verdict.number == 0 && written.writer.at == length);
     same(strundevi_judge(buffer, length, kind, free_session, STRUNDEVI_PST_SRV6).count == verdict.count);
+
+    /* octet for octet, but for the bits that are ignored in reading and written as 0 */
+    for (size_t at = 0; at < length; at++) {
+        uint8_t less = (uint8_t)(route[at] & ~ignored(route, kind, at));
+        same(buffer[at] == less);
+    }
 
     /* a report that is taken is handed out again, octet for octet */
     strundevi_empty(&board);

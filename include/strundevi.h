@@ -1,4 +1,5 @@
-/* Boxes beside a tram line: read OPEN objects, judge and write SRv6 routes, keep a board of paths that other boxes follow.
+/* Boxes beside a tram line: read OPEN objects, judge and write SRv6 routes, keep a board of paths that other boxes follow. C99 or later, C++11
+ * or later.
  *
  * Link with libstrundevi.a (`rt staticlib strundevi`), which has the proved functions, strundevi_raw_NAME. The language they are written in has no
  * null, so they take no null pointer: call strundevi_NAME, at the end of this file, which tests the pointers and calls them. A null buffer,
@@ -8,13 +9,40 @@
  * Nothing is allocated and nothing is kept between calls. A refusal is a number and a place, and leaves all lent octets and records as
  * they were. Flags are octets: 0 is no, every other number is yes, and an answer has 0 or 1.
  *
+ * Stack: no call recurses, and none needs more than 2,048 octets of stack, the caller's own records apart.
+ *
+ * Threads: strundevi_body, strundevi_next and strundevi_fresh_mark only read, so any number of readers may ask one board at once. While
+ * strundevi_empty, _report, _remove or _compact runs, nobody else may use that board or its store. Different boards have nothing in common.
+ *
+ * A path's octets stay in the store: who was handed a path copies them before the board is changed again.
+ *
  * The caller owes what no call can test: a buffer has at least the octets that its length says, and the buffers and records of one
- * call do not overlap. */
+ * call do not overlap.
+ *
+ * How to follow a board:
+ *   1. start empty, with the mark of strundevi_fresh_mark;
+ *   2. ask strundevi_next with your mark;
+ *   3. a path or a removal: make the change, copy a path's octets before the board is touched again, keep the version as w (strundevi_mark_after);
+ *   4. level: you hold what the board holds, and may set both s and w to its version (strundevi_mark_level);
+ *   5. 23: removals that you did not see were dropped; empty yourself and start afresh;
+ *   6. 24: something is wrong, this is not the board that you followed; the same. */
 #ifndef STRUNDEVI_H
 #define STRUNDEVI_H
 
+#define STRUNDEVI_VERSION_MAJOR 1
+#define STRUNDEVI_VERSION_MINOR 0
+#define STRUNDEVI_VERSION_PATCH 0
+#define STRUNDEVI_VERSION 10000 /* 10000 times major, 100 times minor, patch */
+
 #include <stddef.h>
 #include <stdint.h>
+
+/* On a call whose answer has to be looked at. */
+#if defined(__GNUC__) || defined(__clang__)
+#define STRUNDEVI_LOOK_AT __attribute__((warn_unused_result))
+#else
+#define STRUNDEVI_LOOK_AT
+#endif
 
 #ifdef __cplusplus
 extern "C" {
@@ -136,7 +164,10 @@ typedef struct strundevi_written {
     strundevi_writer writer;
 } strundevi_written;
 
-/* A board. All zeros is the empty one. A key 0 is an empty place, a length 0 at a key the mark of a removal. */
+/* A board. All zeros is the empty one. A key 0 is an empty place, a length 0 at a key the mark of a removal.
+ *
+ * An old mark may fit a board that was started anew, and its follower would keep paths that are withdrawn: whoever starts a board anew sees to
+ * it that every follower empties itself and takes a fresh mark. */
 typedef struct strundevi_board {
     uint32_t keys[STRUNDEVI_PLACES];
     uint64_t versions[STRUNDEVI_PLACES];
@@ -197,7 +228,7 @@ strundevi_mark strundevi_raw_fresh_mark(uint64_t version);
 
 /* The octets that a buffer can lend. */
 static inline size_t strundevi_lent(const void *buffer, size_t length) {
-    return buffer == NULL || length > (size_t)PTRDIFF_MAX ? 0 : length;
+    return buffer == NULL || length > SIZE_MAX / 2 ? 0 : length;
 }
 
 /* A buffer of no octets has a pointer too. */
@@ -216,7 +247,7 @@ static inline strundevi_verdict strundevi_no_board(void) {
 }
 
 /* Reads an OPEN object: 1, 2, 3. */
-static inline strundevi_opened strundevi_read_open(const uint8_t *octets, size_t length) {
+STRUNDEVI_LOOK_AT static inline strundevi_opened strundevi_read_open(const uint8_t *octets, size_t length) {
     return strundevi_raw_read_open(strundevi_from(octets), strundevi_lent(octets, length));
 }
 
@@ -226,25 +257,25 @@ static inline strundevi_session strundevi_agree(strundevi_opened pcc, strundevi_
 }
 
 /* Judges a route: 4, 5, 6, 14, 13; 8, 9, 7, 10, 11 segment by segment; 12. The count is that of its segments. */
-static inline strundevi_verdict strundevi_judge(const uint8_t *octets, size_t length, enum strundevi_kind kind, strundevi_session session,
+STRUNDEVI_LOOK_AT static inline strundevi_verdict strundevi_judge(const uint8_t *octets, size_t length, enum strundevi_kind kind, strundevi_session session,
                                                 uint64_t pst) {
     return strundevi_raw_judge(strundevi_from(octets), strundevi_lent(octets, length), kind != STRUNDEVI_RRO, session, pst);
 }
 
 /* Segment i, from 0, of a route: as in judging, then 15. */
-static inline strundevi_picked strundevi_segment_at(const uint8_t *octets, size_t length, enum strundevi_kind kind, strundevi_session session,
+STRUNDEVI_LOOK_AT static inline strundevi_picked strundevi_segment_at(const uint8_t *octets, size_t length, enum strundevi_kind kind, strundevi_session session,
                                               uint64_t pst, uint64_t i) {
     return strundevi_raw_segment_at(strundevi_from(octets), strundevi_lent(octets, length), kind != STRUNDEVI_RRO, session, pst, i);
 }
 
 /* Begins a route in the buffer: 16. */
-static inline strundevi_written strundevi_begin(uint8_t *buffer, size_t size, strundevi_writer writer, enum strundevi_kind kind) {
+STRUNDEVI_LOOK_AT static inline strundevi_written strundevi_begin(uint8_t *buffer, size_t size, strundevi_writer writer, enum strundevi_kind kind) {
     uint8_t none[1];
     return strundevi_raw_begin(strundevi_into(buffer, none), strundevi_lent(buffer, size), writer, kind != STRUNDEVI_RRO);
 }
 
 /* Adds a segment: 8, 9, 7, 11, 16. */
-static inline strundevi_written strundevi_add(uint8_t *buffer, size_t size, strundevi_writer writer, strundevi_segment segment) {
+STRUNDEVI_LOOK_AT static inline strundevi_written strundevi_add(uint8_t *buffer, size_t size, strundevi_writer writer, strundevi_segment segment) {
     uint8_t none[1];
     strundevi_outline outline = {segment.loose, segment.verify, segment.nt, segment.behaviour, segment.hassid, segment.structured};
     return strundevi_raw_add(strundevi_into(buffer, none), strundevi_lent(buffer, size), writer, outline, segment.sid, segment.nai,
@@ -252,19 +283,19 @@ static inline strundevi_written strundevi_add(uint8_t *buffer, size_t size, stru
 }
 
 /* Finishes the route, whose octets are those before the writer's place: 16, 5. */
-static inline strundevi_written strundevi_finish(uint8_t *buffer, size_t size, strundevi_writer writer) {
+STRUNDEVI_LOOK_AT static inline strundevi_written strundevi_finish(uint8_t *buffer, size_t size, strundevi_writer writer) {
     uint8_t none[1];
     return strundevi_raw_finish(strundevi_into(buffer, none), strundevi_lent(buffer, size), writer);
 }
 
-/* Makes the board the empty one. */
+/* Makes the board the empty one. Then every follower of what it was has to empty itself and take a fresh mark. */
 static inline void strundevi_empty(strundevi_board *board) {
     if (board != NULL)
         strundevi_raw_empty(board->keys, board->versions, board->lengths, &board->version, &board->floor);
 }
 
 /* Reports a path: 17, 18, the route's numbers, 19, 20, 21. The count is that of its segments. */
-static inline strundevi_verdict strundevi_report(strundevi_board *board, uint8_t *store, size_t size, uint64_t key, const uint8_t *ero,
+STRUNDEVI_LOOK_AT static inline strundevi_verdict strundevi_report(strundevi_board *board, uint8_t *store, size_t size, uint64_t key, const uint8_t *ero,
                                                  size_t length, strundevi_session session, uint64_t pst) {
     uint8_t none[1];
     if (board == NULL)
@@ -274,7 +305,7 @@ static inline strundevi_verdict strundevi_report(strundevi_board *board, uint8_t
 }
 
 /* Removes a path: 17, 18, 22, 20. */
-static inline strundevi_verdict strundevi_remove(strundevi_board *board, const uint8_t *store, size_t size, uint64_t key) {
+STRUNDEVI_LOOK_AT static inline strundevi_verdict strundevi_remove(strundevi_board *board, const uint8_t *store, size_t size, uint64_t key) {
     if (board == NULL)
         return strundevi_no_board();
     return strundevi_raw_remove(board->keys, board->versions, board->lengths, &board->version, board->floor, strundevi_from(store),
@@ -282,7 +313,7 @@ static inline strundevi_verdict strundevi_remove(strundevi_board *board, const u
 }
 
 /* Drops the marks of removals with a version of at most c: 17, 24. */
-static inline strundevi_verdict strundevi_compact(strundevi_board *board, const uint8_t *store, size_t size, uint64_t c) {
+STRUNDEVI_LOOK_AT static inline strundevi_verdict strundevi_compact(strundevi_board *board, const uint8_t *store, size_t size, uint64_t c) {
     if (board == NULL)
         return strundevi_no_board();
     return strundevi_raw_compact(board->keys, board->versions, board->lengths, board->version, &board->floor, strundevi_from(store),
@@ -290,7 +321,7 @@ static inline strundevi_verdict strundevi_compact(strundevi_board *board, const 
 }
 
 /* Where a key's path lies in the store: 17, 18, 22. */
-static inline strundevi_part strundevi_body(const strundevi_board *board, const uint8_t *store, size_t size, uint64_t key) {
+STRUNDEVI_LOOK_AT static inline strundevi_part strundevi_body(const strundevi_board *board, const uint8_t *store, size_t size, uint64_t key) {
     if (board == NULL) {
         strundevi_part refused = {STRUNDEVI_NOT_A_BOARD, 0, 0};
         return refused;
@@ -300,7 +331,7 @@ static inline strundevi_part strundevi_body(const strundevi_board *board, const 
 }
 
 /* What a follower with this mark is handed: 17, 24, 23. */
-static inline strundevi_change strundevi_next(const strundevi_board *board, const uint8_t *store, size_t size, strundevi_mark mark) {
+STRUNDEVI_LOOK_AT static inline strundevi_change strundevi_next(const strundevi_board *board, const uint8_t *store, size_t size, strundevi_mark mark) {
     if (board == NULL) {
         strundevi_change refused = {STRUNDEVI_NOT_A_BOARD, STRUNDEVI_REFUSED, 0, 0, 0, 0};
         return refused;
@@ -312,6 +343,86 @@ static inline strundevi_change strundevi_next(const strundevi_board *board, cons
 /* The mark of a follower that begins, and holds nothing. Without a board it is (0, 0). */
 static inline strundevi_mark strundevi_fresh_mark(const strundevi_board *board) {
     return strundevi_raw_fresh_mark(board == NULL ? 0 : board->version);
+}
+
+/* The mark after an answer: w is the version of the change made; level sets both; a refusal leaves it. */
+static inline strundevi_mark strundevi_mark_after(strundevi_mark mark, strundevi_change change) {
+    if (change.kind == STRUNDEVI_PATH || change.kind == STRUNDEVI_REMOVED || change.kind == STRUNDEVI_LEVEL)
+        mark.w = change.version;
+    if (change.kind == STRUNDEVI_LEVEL)
+        mark.s = change.version;
+    return mark;
+}
+
+/* The mark of a follower that was told it is level with a board of this version. */
+static inline strundevi_mark strundevi_mark_level(uint64_t version) {
+    strundevi_mark mark;
+    mark.s = version;
+    mark.w = version;
+    return mark;
+}
+
+/* ---- the numbers in words, and in PCEP */
+
+/* A few words for a number. */
+static inline const char *strundevi_text(size_t number) {
+    switch (number) {
+    case STRUNDEVI_ACCEPTED: return "accepted";
+    case STRUNDEVI_OPEN_MALFORMED: return "OPEN ill formed";
+    case STRUNDEVI_CAPABILITY_MISSING: return "capability missing";
+    case STRUNDEVI_WRONG_MSD: return "wrong MSD type";
+    case STRUNDEVI_FRAME_BROKEN: return "route frame broken";
+    case STRUNDEVI_ROUTE_EMPTY: return "route empty";
+    case STRUNDEVI_KINDS_MIXED: return "kinds mixed";
+    case STRUNDEVI_LENGTH_WRONG: return "F isn't 1 exactly for NT 0, or Length isn't as expected";
+    case STRUNDEVI_NAI_UNKNOWN: return "NT not 0, 2, 4, 6";
+    case STRUNDEVI_NOTHING_THERE: return "S and F both 1";
+    case STRUNDEVI_SID_NEEDED: return "no SID, and the PCC's N is 0";
+    case STRUNDEVI_STRUCTURE_TOO_LONG: return "four bit lengths sum above 128";
+    case STRUNDEVI_TOO_MANY_SEGMENTS: return "more segments than the limit";
+    case STRUNDEVI_NOT_AGREED: return "SRv6 not agreed";
+    case STRUNDEVI_NO_SRV6: return "no SRv6 subobject";
+    case STRUNDEVI_NO_SUCH_SEGMENT: return "no such segment";
+    case STRUNDEVI_BUFFER_FULL: return "lent buffer full";
+    case STRUNDEVI_NOT_A_BOARD: return "not a board";
+    case STRUNDEVI_KEY_OUT_OF_RANGE: return "key out of range";
+    case STRUNDEVI_BODY_TOO_LONG: return "body above 384 octets";
+    case STRUNDEVI_VERSIONS_USED_UP: return "version is 2^64-2";
+    case STRUNDEVI_ALL_PATHS: return "128 paths";
+    case STRUNDEVI_NO_PATH: return "key has no path";
+    case STRUNDEVI_MARK_TOO_OLD: return "mark too old";
+    case STRUNDEVI_MARK_AHEAD: return "mark ahead";
+    default: return "no number of this library";
+    }
+}
+
+/* Error-Type and Error-value of the PCErr to send to the peer. Type 0: nothing in PCEP fits, the fault is on this box. */
+typedef struct strundevi_pcerr {
+    uint8_t type;
+    uint8_t value;
+} strundevi_pcerr;
+
+/* The PCErr for the refusal of an OPEN, or of a route of this kind (docs/NUMBERS.md). */
+static inline strundevi_pcerr strundevi_pcerr_of(size_t number, enum strundevi_kind kind) {
+    strundevi_pcerr none = {0, 0}, open_invalid = {1, 1}, capability = {10, 34}, malformed = {10, 11}, mixed_ero = {10, 20}, mixed_rro = {10, 36};
+    strundevi_pcerr nai = {10, 13}, nothing_ero = {10, 6}, nothing_rro = {10, 35}, sid = {4, 4}, structure = {10, 37}, depth = {10, 3};
+    strundevi_pcerr setup = {19, 19};
+    switch (number) {
+    case STRUNDEVI_OPEN_MALFORMED:
+    case STRUNDEVI_WRONG_MSD: return open_invalid;
+    case STRUNDEVI_CAPABILITY_MISSING: return capability;
+    case STRUNDEVI_FRAME_BROKEN:
+    case STRUNDEVI_ROUTE_EMPTY:
+    case STRUNDEVI_LENGTH_WRONG: return malformed;
+    case STRUNDEVI_KINDS_MIXED: return kind == STRUNDEVI_RRO ? mixed_rro : mixed_ero;
+    case STRUNDEVI_NAI_UNKNOWN: return nai;
+    case STRUNDEVI_NOTHING_THERE: return kind == STRUNDEVI_RRO ? nothing_rro : nothing_ero;
+    case STRUNDEVI_SID_NEEDED: return kind == STRUNDEVI_RRO ? none : sid;
+    case STRUNDEVI_STRUCTURE_TOO_LONG: return structure;
+    case STRUNDEVI_TOO_MANY_SEGMENTS: return kind == STRUNDEVI_RRO ? none : depth;
+    case STRUNDEVI_NOT_AGREED: return setup;
+    default: return none;
+    }
 }
 
 #ifdef __cplusplus

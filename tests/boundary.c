@@ -67,6 +67,9 @@ int main(void) {
     /* a length that no buffer has */
     EXPECT(strundevi_read_open(route, SIZE_MAX).number == STRUNDEVI_OPEN_MALFORMED);
     EXPECT(refused(strundevi_judge(route, (size_t)PTRDIFF_MAX + 1, STRUNDEVI_ERO, session, 3), STRUNDEVI_FRAME_BROKEN));
+    EXPECT(refused(strundevi_report(&board, store, SIZE_MAX, 1, route, sizeof route, session, 3), STRUNDEVI_NOT_A_BOARD));
+    EXPECT(refused(strundevi_remove(&board, store, (size_t)PTRDIFF_MAX + 1, 1), STRUNDEVI_NOT_A_BOARD));
+    EXPECT(kept());
 
     /* every flag but 0 is yes */
     EXPECT(strundevi_judge(route, sizeof route, STRUNDEVI_ERO, yes, 3).count == 1);

@@ -1,5 +1,6 @@
 //! Histories of a board kept by both sides: reports, removals, compactions, followers that come and go, and records that are no boards.
 
+use crate::doors::{self, Door, DOORS};
 use crate::objects;
 use crate::octets::{damage, hex};
 use crate::plain;
@@ -17,6 +18,9 @@ enum Step {
     Compact { c: u64 },
     Body { key: u64 },
     Next { s: u64, w: u64 },
+    FreshMark,
+    /// The board is started anew.
+    Empty,
     /// The record gets another number at this place of one of its parts.
     Set { part: usize, at: usize, value: u64 },
     /// The record becomes this one.
@@ -69,37 +73,54 @@ impl Pair {
     }
 
     /// One step on both sides: call and number, or what differs.
-    fn step(&mut self, step: &Step) -> Result<Option<(Call, usize)>, String> {
+    fn step(&mut self, door: Door, step: &Step) -> Result<Option<(Call, usize)>, String> {
         let n = self.size;
         let (call, ours, theirs) = match step {
             Step::Report { key, ero, session, pst } => {
                 let answer = self.theirs.report(&mut self.their_store[..n], *key, ero, session, *pst);
-                let ours = raw::report(&mut self.ours, &mut self.our_store[..n], *key, ero, plain::session(session), *pst);
+                let ours = doors::report(door, &mut self.ours, &mut self.our_store[..n], *key, ero, session, *pst);
                 (Call::Report, plain::ours(ours), plain::theirs(&answer, |&count| count))
             }
             Step::Remove { key } => {
                 let answer = self.theirs.remove(&self.their_store[..n], *key);
-                (Call::Remove, plain::ours(raw::remove(&mut self.ours, &self.our_store[..n], *key)), plain::theirs(&answer, |_| 0))
+                (Call::Remove, plain::ours(doors::remove(door, &mut self.ours, &mut self.our_store[..n], *key)), plain::theirs(&answer, |_| 0))
             }
             Step::Compact { c } => {
                 let answer = self.theirs.compact(&self.their_store[..n], *c);
-                (Call::Compact, plain::ours(raw::compact(&mut self.ours, &self.our_store[..n], *c)), plain::theirs(&answer, |_| 0))
+                (Call::Compact, plain::ours(doors::compact(door, &mut self.ours, &mut self.our_store[..n], *c)), plain::theirs(&answer, |_| 0))
             }
             Step::Body { key } => {
                 let answer = self.theirs.body(&self.their_store[..n], *key);
                 let start = |body: &[u8]| body.as_ptr() as usize - self.their_store.as_ptr() as usize;
                 let theirs = answer.map_or_else(|e| (e.number as usize, 0, 0), |body| (0, start(body), body.len()));
-                let part = raw::body(&self.ours, &self.our_store[..n], *key);
+                let part = doors::body(door, &mut self.ours, &mut self.our_store[..n], *key);
                 (Call::Body, (part.number, part.start, part.length), theirs)
             }
             Step::Next { s, w } => {
                 let theirs = handed(&self.theirs.next(&self.their_store[..n], *s, *w));
-                let r = raw::next(&self.ours, &self.our_store[..n], *s, *w);
+                let (r, mark) = doors::next(door, &mut self.ours, &mut self.our_store[..n], *s, *w);
                 let ours = (r.number, r.kind, r.key, r.version, r.place, r.length);
+                let expected = match theirs {
+                    (0, 3, _, version, ..) => (version, version),
+                    (0, _, _, version, ..) => (*s, version),
+                    _ => (*s, *w),
+                };
+                if mark.is_some_and(|mark| mark != expected) {
+                    return Err(format!("the mark after {ours:?}\nlibrary   {mark:?}\nexpected  {expected:?}"));
+                }
                 if ours != theirs {
                     return Err(format!("library   {ours:?}\nreference {theirs:?} (number, kind, key, version, place, length)"));
                 }
                 (Call::Next, (ours.0, 0, 0), (theirs.0, 0, 0))
+            }
+            Step::FreshMark => {
+                let (ours, theirs) = (doors::fresh_mark(door, &mut self.ours, &mut self.our_store[..n]), self.theirs.fresh_mark());
+                (Call::FreshMark, (0, ours.0 as usize, ours.1 as usize), (0, theirs.0 as usize, theirs.1 as usize))
+            }
+            Step::Empty => {
+                self.theirs = Board::default();
+                doors::empty(door, &mut self.ours, &mut self.our_store[..n]);
+                (Call::Empty, (0, 0, 0), (0, 0, 0))
             }
             Step::Set { part, at, value } => {
                 match part {
@@ -137,13 +158,13 @@ impl Pair {
     }
 }
 
-fn run(steps: &[Step]) -> Option<String> {
+fn run(steps: &[(Door, Step)]) -> Option<String> {
     let mut pair = Pair::new();
-    steps.iter().find_map(|step| pair.step(step).err())
+    steps.iter().find_map(|(door, step)| pair.step(*door, step).err())
 }
 
 /// The fewest steps found that still differ.
-fn shown(mut steps: Vec<Step>) -> String {
+fn shown(mut steps: Vec<(Door, Step)>) -> String {
     let mut size = steps.len().div_ceil(2);
     while size > 0 {
         let mut at = 0;
@@ -161,26 +182,26 @@ fn shown(mut steps: Vec<Step>) -> String {
     simplify(&mut steps);
     let list: String = steps
         .iter()
-        .map(|step| match step {
-            Step::Report { key, ero, session, pst } => format!("report {key} {pst} {} under {session:?}\n", hex(ero)),
+        .map(|(door, step)| match step {
+            Step::Report { key, ero, session, pst } => format!("{door:?}: report {key} {pst} {} under {session:?}\n", hex(ero)),
             Step::Put { board } => numbers(&record(board)).iter().map(|line| format!("  {line}\n")).collect(),
-            other => format!("{other:?}\n"),
+            other => format!("{door:?}: {other:?}\n"),
         })
         .collect();
     format!("a board\n{list}{}", run(&steps).unwrap_or_default())
 }
 
 /// The shortest route for each report, and the fewest places of a record, that still differ.
-fn simplify(steps: &mut [Step]) {
+fn simplify(steps: &mut [(Door, Step)]) {
     let short = [7, 0x10, 0, 28, 40, 24, 0, 2].into_iter().chain([0; 20]).collect::<Vec<u8>>();
     for at in 0..steps.len() {
         let held = steps[at].clone();
-        match &mut steps[at] {
+        match &mut steps[at].1 {
             Step::Report { ero, .. } => *ero = short.clone(),
             Step::Put { .. } => {
                 for i in 0..PLACES {
                     let held = steps[at].clone();
-                    if let Step::Put { board } = &mut steps[at] {
+                    if let Step::Put { board } = &mut steps[at].1 {
                         (board.keys[i], board.versions[i], board.lengths[i]) = (0, 0, 0);
                     }
                     if run(steps).is_none() {
@@ -284,17 +305,19 @@ fn some_set(r: &mut Random, b: &Board) -> Step {
 
 struct History {
     pair: Pair,
-    steps: Vec<Step>,
+    steps: Vec<(Door, Step)>,
     calls: usize,
 }
 
 impl History {
-    fn step(&mut self, tally: &mut Tally, step: Step) -> Result<(), String> {
-        self.steps.push(step);
+    fn step(&mut self, tally: &mut Tally, r: &mut Random, step: Step) -> Result<(), String> {
+        let door = r.of(&DOORS);
         let floor = self.pair.theirs.floor;
-        match self.pair.step(self.steps.last().unwrap()) {
+        let answer = self.pair.step(door, &step);
+        self.steps.push((door, step));
+        match answer {
             Ok(Some((call, number))) => {
-                tally.count(call, number);
+                tally.count(door, call, number);
                 tally.evictions += u64::from(matches!(call, Call::Report) && self.pair.theirs.floor != floor);
                 self.calls += 1;
                 Ok(())
@@ -337,11 +360,11 @@ fn life(tally: &mut Tally, r: &mut Random, most: usize) -> Result<usize, String>
                         ero = objects::route(r, true, n, 3);
                     }
                 }
-                h.step(tally, Step::Report { key, ero, session, pst })?;
+                h.step(tally, r, Step::Report { key, ero, session, pst })?;
             }
             10..=13 if !r.one_in(removals) => {
                 let key = some_key(r, keys);
-                h.step(tally, Step::Remove { key })?;
+                h.step(tally, r, Step::Remove { key })?;
             }
             14 if r.one_in(5) => {
                 let version = h.pair.theirs.version;
@@ -350,16 +373,21 @@ fn life(tally: &mut Tally, r: &mut Random, most: usize) -> Result<usize, String>
                     1 => r.number(),
                     _ => version - (r.below(40) as u64).min(version),
                 };
-                h.step(tally, Step::Compact { c })?;
+                h.step(tally, r, Step::Compact { c })?;
             }
             15 | 16 => {
                 let key = some_key(r, keys);
-                h.step(tally, Step::Body { key })?;
+                h.step(tally, r, Step::Body { key })?;
             }
             17 if followers.len() < 4 => {
+                h.step(tally, r, Step::FreshMark)?;
                 let mut follower = Follower::fresh(&h.pair.theirs);
                 follower.forgetful = r.one_in(2);
                 followers.push(follower);
+            }
+            18 if r.one_in(30) => {
+                h.step(tally, r, Step::Empty)?;
+                followers.clear();
             }
             18 if r.one_in(12) && !followers.is_empty() => {
                 let gone = r.below(followers.len());
@@ -369,15 +397,17 @@ fn life(tally: &mut Tally, r: &mut Random, most: usize) -> Result<usize, String>
                 let version = h.pair.theirs.version as usize;
                 let mut near = || (version + 2).saturating_sub(r.below(12)) as u64;
                 let (s, w) = (near(), near());
-                h.step(tally, Step::Next { s, w })?;
+                h.step(tally, r, Step::Next { s, w })?;
             }
             20 if r.one_in(40) => {
-                h.step(tally, Step::Lend { size: r.of(&[0, 1, STORE_OCTETS - 1, STORE_OCTETS - 384]) })?;
+                let size = r.of(&[0, 1, STORE_OCTETS - 1, STORE_OCTETS - 384]);
+                h.step(tally, r, Step::Lend { size })?;
                 let key = some_key(r, keys);
                 let step = r.below(5);
                 let ero = objects::good_ero(r, PLACE_OCTETS);
                 h.step(
                     tally,
+                    r,
                     match step {
                         0 => Step::Report { key, ero, session: agreed, pst: 3 },
                         1 => Step::Remove { key },
@@ -386,13 +416,14 @@ fn life(tally: &mut Tally, r: &mut Random, most: usize) -> Result<usize, String>
                         _ => Step::Next { s: 0, w: 0 },
                     },
                 )?;
-                h.step(tally, Step::Lend { size: STORE_OCTETS + r.of(&[0, 0, 1, 8]) })?;
+                let size = STORE_OCTETS + r.of(&[0, 0, 1, 8]);
+                h.step(tally, r, Step::Lend { size })?;
             }
             _ if !followers.is_empty() => {
                 let at = r.below(followers.len());
                 for _ in 0..r.of(&[1, 3, 140]) {
                     let (s, w) = (followers[at].s, followers[at].w);
-                    h.step(tally, Step::Next { s, w })?;
+                    h.step(tally, r, Step::Next { s, w })?;
                     match h.pair.theirs.next(&h.pair.their_store, s, w) {
                         Ok(change) => {
                             if followers[at].forgetful && r.one_in(20) {
@@ -421,10 +452,10 @@ fn life(tally: &mut Tally, r: &mut Random, most: usize) -> Result<usize, String>
 fn records(tally: &mut Tally, r: &mut Random) -> Result<usize, String> {
     let mut h = History { pair: Pair::new(), steps: Vec::new(), calls: 0 };
     let board = some_board(r);
-    h.step(tally, Step::Put { board: Box::new(board) })?;
+    h.step(tally, r, Step::Put { board: Box::new(board) })?;
     for _ in 0..r.of(&[0, 0, 1, 1, 2]) {
         let set = some_set(r, &h.pair.theirs);
-        h.step(tally, set)?;
+        h.step(tally, r, set)?;
     }
     let agreed = Session { agreed: true, n: true, limit: None };
     for _ in 0..6 {
@@ -444,7 +475,7 @@ fn records(tally: &mut Tally, r: &mut Random) -> Result<usize, String> {
             4 => Step::Body { key },
             _ => Step::Next { s: near(r), w: near(r) },
         };
-        h.step(tally, step)?;
+        h.step(tally, r, step)?;
     }
     Ok(h.calls)
 }

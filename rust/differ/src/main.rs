@@ -1,4 +1,5 @@
-//! The proved library against the reference: the same inputs, every answer and every lent octet compared.
+//! The proved library against the reference: the same inputs, every answer and every lent octet compared, by each way in which a program
+//! calls it: the archive's functions, the wrapper's safe calls, the C header's calls.
 //!
 //!     differ [SEED [OBJECTS [CALLS]]]
 //!
@@ -6,6 +7,8 @@
 //! that a call can give never came up.
 
 mod boards;
+mod doors;
+mod header;
 mod objects;
 mod octets;
 mod plain;
@@ -20,6 +23,7 @@ use std::time::Instant;
 use tally::{Call, Tally};
 
 fn run(tally: &mut Tally, seed: u64, objects: usize, calls: usize) -> Result<(), String> {
+    header::check()?;
     let mut r = Random::new(seed);
     reading::exhaust(tally, &mut r)?;
     reading::opens(tally, &mut r, objects / 4)?;

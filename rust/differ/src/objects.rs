@@ -145,6 +145,22 @@ pub fn route(r: &mut Random, ero: bool, n: usize, faults: usize) -> Vec<u8> {
     octets
 }
 
+/// A good route of 2,730 segments and 65,532 octets, cut or drawn out to this size; its length octets say the size as far as they can.
+pub fn long_route(r: &mut Random, ero: bool, size: usize) -> Vec<u8> {
+    let mut octets = vec![if ero { 7 } else { 8 }, 0x10, 0, 0];
+    let long = r.below(2730);
+    for i in 0..2730 {
+        octets.extend_from_slice(&[40, if i == long { 32 } else { 24 }, 0, if i == long { 6 } else { 2 }, 0, 0, 0, 1]);
+        octets.extend_from_slice(&r.octets(16));
+        if i == long {
+            octets.extend_from_slice(&[40, 24, 16, 0, 0, 0, 0, 0]);
+        }
+    }
+    octets.resize(size, 0);
+    seal(&mut octets);
+    octets
+}
+
 /// An ERO that breaks no rule under an agreed session without a limit, with a body of at most `most` octets.
 pub fn good_ero(r: &mut Random, most: usize) -> Vec<u8> {
     loop {

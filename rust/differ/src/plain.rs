@@ -1,7 +1,8 @@
 //! Both sides' answers in one form: that of the archive's records.
 
 use reference as theirs;
-use strundevi::raw;
+use std::net::Ipv6Addr;
+use strundevi::{raw, Nai};
 
 pub type Verdict = (usize, usize, usize);
 
@@ -74,11 +75,57 @@ pub fn segment_back(s: &raw::Segment) -> Option<theirs::Segment> {
     })
 }
 
-/// Whether the safe interface hands out what this segment says.
-pub fn says(safe: &strundevi::Segment, s: &theirs::Segment) -> bool {
-    let nai = theirs::route::nai_size(s.nt).unwrap_or(0);
-    (safe.loose(), safe.verify(), safe.nt(), safe.behaviour()) == (s.loose, s.verify, s.nt, s.behaviour)
-        && safe.sid() == s.has_sid.then_some(&s.sid)
-        && safe.nai() == &s.nai[..nai]
-        && safe.structure() == s.structured.then_some(s.structure)
+/// A segment as the safe interface tells it, part by part.
+pub fn told(s: &strundevi::Segment) -> raw::Segment {
+    let mut r = raw::Segment {
+        loose: s.loose() as u8,
+        verify: s.verify() as u8,
+        nt: s.nt(),
+        behaviour: s.behaviour(),
+        hassid: s.sid().is_some() as u8,
+        sid: s.sid().copied().unwrap_or_default(),
+        structured: s.structure().is_some() as u8,
+        structure: s.structure().unwrap_or_default(),
+        ..raw::Segment::ZERO
+    };
+    let mut octets = Vec::new();
+    match s.nai() {
+        None => {}
+        Some(Nai::Node(node)) => octets.extend(node.octets()),
+        Some(Nai::Adjacency { local, remote }) => octets.extend(local.octets().into_iter().chain(remote.octets())),
+        Some(Nai::LinkLocal { local, local_interface, remote, remote_interface }) => {
+            octets.extend(local.octets().into_iter().chain(local_interface.to_be_bytes()));
+            octets.extend(remote.octets().into_iter().chain(remote_interface.to_be_bytes()));
+        }
+    }
+    assert_eq!((octets.as_slice(), s.nai().map_or(0, |nai| nai.nt())), (s.nai_octets(), s.nt()));
+    r.nai[..octets.len()].copy_from_slice(&octets);
+    r
+}
+
+/// The segment built by the safe interface, if that has it: a SID or an NAI is there, NT is one of ours, and nothing stands in absent parts.
+pub fn built(s: &theirs::Segment) -> Option<strundevi::Segment> {
+    let address = |at: usize| Ipv6Addr::from(<[u8; 16]>::try_from(&s.nai[at..at + 16]).unwrap());
+    let interface = |at: usize| u32::from_be_bytes(s.nai[at..at + 4].try_into().unwrap());
+    let nai = match s.nt {
+        0 => None,
+        2 => Some(Nai::Node(address(0))),
+        4 => Some(Nai::Adjacency { local: address(0), remote: address(16) }),
+        6 => Some(Nai::LinkLocal { local: address(0), local_interface: interface(16), remote: address(20), remote_interface: interface(36) }),
+        _ => return None,
+    };
+    let mut built = match (s.has_sid, nai) {
+        (true, None) => strundevi::Segment::with_sid(s.sid, s.behaviour),
+        (true, Some(nai)) => strundevi::Segment::with_sid(s.sid, s.behaviour).and_nai(nai),
+        (false, Some(nai)) => strundevi::Segment::with_nai(nai, s.behaviour),
+        (false, None) => return None,
+    };
+    if s.structured {
+        built = built.and_structure(s.structure);
+    }
+    built = built.and_loose(s.loose).and_verify(s.verify);
+    let size = theirs::route::nai_size(s.nt).unwrap_or(0);
+    let zero = |octets: &[u8]| octets.iter().all(|&o| o == 0);
+    let absent = zero(&s.nai[size..]) && (s.has_sid || zero(&s.sid)) && (s.structured || zero(&s.structure));
+    absent.then_some(built)
 }

@@ -1,5 +1,6 @@
 //! OPEN and route objects, read by both sides.
 
+use crate::doors::{self, Door, DOORS};
 use crate::objects;
 use crate::octets::{damage, hex, seal, shrink};
 use crate::plain;
@@ -19,8 +20,8 @@ fn octets(hex: &str) -> Vec<u8> {
 
 type OpenFacts = (usize, u8, u8, u8, usize);
 
-fn our_open(s: &[u8]) -> OpenFacts {
-    let r = raw::read_open(s);
+fn our_open(door: Door, s: &[u8]) -> OpenFacts {
+    let r = doors::read_open(door, s);
     (r.number, r.srv6, r.n, r.limited, r.limit)
 }
 
@@ -31,14 +32,15 @@ fn their_open(s: &[u8]) -> OpenFacts {
     }
 }
 
-pub fn check_open(tally: &mut Tally, s: &[u8]) -> Result<(), String> {
+pub fn check_open(tally: &mut Tally, door: Door, s: &[u8]) -> Result<(), String> {
     let theirs = their_open(s);
-    tally.count(Call::Open, theirs.0);
-    if our_open(s) == theirs {
+    tally.count(door, Call::Open, theirs.0);
+    if our_open(door, s) == theirs {
         return Ok(());
     }
-    let small = shrink(s.to_vec(), |s| our_open(s) != their_open(s));
-    Err(format!("pcc {}\nlibrary   {:?}\nreference {:?} (number, SRv6, N, limited, limit)", hex(&small), our_open(&small), their_open(&small)))
+    let small = shrink(s.to_vec(), |s| our_open(door, s) != their_open(s));
+    let (ours, theirs) = (our_open(door, &small), their_open(&small));
+    Err(format!("{door:?}: pcc {}\nlibrary   {ours:?}\nreference {theirs:?} (number, SRv6, N, limited, limit)", hex(&small)))
 }
 
 fn raw_opened(o: &Answer<Open>) -> raw::Opened {
@@ -49,7 +51,8 @@ fn raw_opened(o: &Answer<Open>) -> raw::Opened {
 }
 
 /// The session of two answers, and the same with the refused side's other fields filled with what must not count.
-fn check_session(r: &mut Random, pcc: &Answer<Open>, pce: &Answer<Open>) -> Result<(), String> {
+fn check_session(r: &mut Random, door: Door, octets: [&[u8]; 2]) -> Result<(), String> {
+    let [pcc, pce] = &octets.map(reference::read_open);
     let theirs = Session::agree(pcc, pce);
     let mut ours = [raw_opened(pcc), raw_opened(pce)];
     if r.one_in(2) {
@@ -62,10 +65,11 @@ fn check_session(r: &mut Random, pcc: &Answer<Open>, pce: &Answer<Open>) -> Resu
             }
         }
     }
-    let agreed = raw::agree(ours[0], ours[1]);
+    let agreed = doors::agree(door, ours, octets);
     let expected = plain::session(&theirs);
     if (agreed.agreed, agreed.n, agreed.limited, agreed.limit) != (expected.agreed, expected.n, expected.limited, expected.limit) {
-        return Err(format!("session of {pcc:?} and {pce:?}\nlibrary   {} {} {} {}\nreference {theirs:?}", agreed.agreed, agreed.n, agreed.limited, agreed.limit));
+        let ours = (agreed.agreed, agreed.n, agreed.limited, agreed.limit);
+        return Err(format!("{door:?}: session of {pcc:?} and {pce:?}\nlibrary   {ours:?}\nreference {theirs:?}"));
     }
     Ok(())
 }
@@ -74,6 +78,7 @@ fn check_session(r: &mut Random, pcc: &Answer<Open>, pce: &Answer<Open>) -> Resu
 
 #[derive(Clone, Copy)]
 pub struct Question {
+    pub door: Door,
     pub ero: bool,
     pub session: Session,
     pub pst: u64,
@@ -106,11 +111,11 @@ fn question(r: &mut Random, ero: bool) -> Question {
         1 => r.below(8) as u64,
         _ => r.number(),
     };
-    Question { ero, session: some_session(r), pst: some_pst(r), i }
+    Question { door: r.of(&DOORS), ero, session: some_session(r), pst: some_pst(r), i }
 }
 
 fn our_judge(s: &[u8], q: &Question) -> plain::Verdict {
-    plain::ours(raw::judge(s, q.ero as u8, plain::session(&q.session), q.pst))
+    plain::ours(doors::judge(q.door, s, q.ero, &q.session, q.pst))
 }
 
 fn their_judge(s: &[u8], q: &Question) -> plain::Verdict {
@@ -120,7 +125,7 @@ fn their_judge(s: &[u8], q: &Question) -> plain::Verdict {
 type Picked = (plain::Verdict, Option<reference::Segment>);
 
 fn our_segment(s: &[u8], q: &Question) -> Picked {
-    let r = raw::segment(s, q.ero as u8, plain::session(&q.session), q.pst, q.i);
+    let r = doors::segment(q.door, s, q.ero, &q.session, q.pst, q.i);
     (plain::ours(r.verdict), plain::segment_back(&r.segment))
 }
 
@@ -132,44 +137,23 @@ fn their_segment(s: &[u8], q: &Question) -> Picked {
 }
 
 fn shown(s: &[u8], q: &Question) -> String {
-    format!("{} {} {} under {:?}, segment {}", if q.ero { "ero" } else { "rro" }, q.pst, hex(s), q.session, q.i)
+    format!("{:?}: {} {} {} under {:?}, segment {}", q.door, if q.ero { "ero" } else { "rro" }, q.pst, hex(s), q.session, q.i)
 }
 
 pub fn check_route(tally: &mut Tally, s: &[u8], q: &Question) -> Result<(), String> {
     let theirs = their_judge(s, q);
-    tally.count(if q.ero { Call::Ero } else { Call::Rro }, theirs.0);
+    tally.count(q.door, if q.ero { Call::Ero } else { Call::Rro }, theirs.0);
     if our_judge(s, q) != theirs {
         let small = shrink(s.to_vec(), |s| our_judge(s, q) != their_judge(s, q));
         let (ours, theirs) = (our_judge(&small, q), their_judge(&small, q));
         return Err(format!("{}\nlibrary   {ours:?}\nreference {theirs:?} (number, place, count)", shown(&small, q)));
     }
     let picked = their_segment(s, q);
-    tally.count(Call::Segment, picked.0 .0);
+    tally.count(q.door, Call::Segment, picked.0 .0);
     if our_segment(s, q) != picked {
         let small = shrink(s.to_vec(), |s| our_segment(s, q) != their_segment(s, q));
         let (ours, theirs) = (our_segment(&small, q), their_segment(&small, q));
         return Err(format!("{}\nlibrary   {ours:?}\nreference {theirs:?}", shown(&small, q)));
-    }
-    Ok(())
-}
-
-/// The wrapper says what the archive says.
-fn check_wrapper(s: &[u8], q: &Question) -> Result<(), String> {
-    let (kind, session) = (plain::safe_kind(q.ero), plain::safe_session(&q.session));
-    let plainly = |r: strundevi::Result<usize>| r.map_or_else(|e| (e.number as usize, e.place, 0), |count| (0, 0, count));
-    let judged = plainly(strundevi::judge(s, kind, &session, q.pst));
-    if judged != their_judge(s, q) {
-        return Err(format!("{}\nwrapper   {judged:?}\nreference {:?}", shown(s, q), their_judge(s, q)));
-    }
-    let picked = strundevi::segment(s, kind, &session, q.pst, q.i);
-    let theirs = reference::segment(s, plain::kind(q.ero), &q.session, q.pst, q.i);
-    let same = match (&picked, &theirs) {
-        (Ok(a), Ok(b)) => plain::says(a, b),
-        (Err(a), Err(b)) => (a.number as u8, a.place) == (b.number, b.place),
-        _ => false,
-    };
-    if !same {
-        return Err(format!("{}\nwrapper   {picked:?}\nreference {theirs:?}", shown(s, q)));
     }
     Ok(())
 }
@@ -228,12 +212,12 @@ pub fn exhaust(tally: &mut Tally, r: &mut Random) -> Result<(), String> {
         }
     }
     for sample in &opens {
-        around(sample, |s| check_open(tally, s))?;
+        around(sample, |s| check_open(tally, Door::Archive, s))?;
     }
     let free = Session { agreed: true, n: true, limit: None };
     for (ero, sample) in sample_routes(r) {
         for session in [free, Session { n: false, limit: Some(1), ..free }] {
-            around(&sample, |s| check_route(tally, s, &Question { ero, session, pst: 3, i: 1 }))?;
+            around(&sample, |s| check_route(tally, s, &Question { door: Door::Archive, ero, session, pst: 3, i: 1 }))?;
         }
     }
     Ok(())
@@ -241,7 +225,7 @@ pub fn exhaust(tally: &mut Tally, r: &mut Random) -> Result<(), String> {
 
 /// So many OPEN objects made up, and the sessions of each with the one before it.
 pub fn opens(tally: &mut Tally, r: &mut Random, n: usize) -> Result<(), String> {
-    let mut before = reference::read_open(&octets(O));
+    let mut before = octets(O);
     for _ in 0..n {
         let mut object = if r.one_in(10) {
             let size = r.below(64);
@@ -254,17 +238,29 @@ pub fn opens(tally: &mut Tally, r: &mut Random, n: usize) -> Result<(), String> 
                 damage(r, &mut object);
             }
         }
-        check_open(tally, &object)?;
-        let answer = reference::read_open(&object);
-        check_session(r, &answer, &before)?;
-        before = answer;
+        let door = r.of(&DOORS);
+        check_open(tally, door, &object)?;
+        check_session(r, door, [&object, &before])?;
+        if !r.one_in(4) || reference::read_open(&object).is_ok_and(|o| o.srv6) {
+            before = object;
+        }
     }
     Ok(())
 }
 
 /// So many routes made up.
 pub fn routes(tally: &mut Tally, r: &mut Random, n: usize) -> Result<(), String> {
-    for turn in 0..n {
+    for size in 65_524..=65_540 {
+        for ero in [true, false] {
+            let object = objects::long_route(r, ero, size);
+            for door in DOORS {
+                for i in [0, 2729, 2730] {
+                    check_route(tally, &object, &Question { door, i, ..question(r, ero) })?;
+                }
+            }
+        }
+    }
+    for _ in 0..n {
         let ero = !r.one_in(3);
         let count = match r.below(1000) {
             0 => 2729,
@@ -286,9 +282,6 @@ pub fn routes(tally: &mut Tally, r: &mut Random, n: usize) -> Result<(), String>
         let asked = if r.one_in(30) { !ero } else { ero };
         let q = question(r, asked);
         check_route(tally, &object, &q)?;
-        if turn % 16 == 0 {
-            check_wrapper(&object, &q)?;
-        }
     }
     Ok(())
 }

@@ -1,5 +1,6 @@
 //! How often each call answered each number. A number that a call can answer and never did is a hole in the generator.
 
+use crate::doors::{Door, DOORS};
 use std::fmt;
 
 #[derive(Clone, Copy)]
@@ -16,9 +17,11 @@ pub enum Call {
     Compact,
     Body,
     Next,
+    FreshMark,
+    Empty,
 }
 
-const CALLS: [(&str, &[usize]); 12] = [
+const CALLS: [(&str, &[usize]); 14] = [
     ("open", &[0, 1, 2, 3]),
     ("ero", &[0, 4, 5, 6, 7, 8, 9, 10, 11, 12, 13, 14]),
     ("rro", &[0, 4, 5, 6, 7, 8, 9, 11, 13, 14]),
@@ -31,11 +34,15 @@ const CALLS: [(&str, &[usize]); 12] = [
     ("compact", &[0, 17, 24]),
     ("body", &[0, 17, 18, 22]),
     ("next", &[0, 17, 23, 24]),
+    ("mark", &[0]),
+    ("empty", &[0]),
 ];
 
 #[derive(Default)]
 pub struct Tally {
     counts: [[u64; 25]; CALLS.len()],
+    /// Acceptances of each call by each door.
+    accepted: [[u64; DOORS.len()]; CALLS.len()],
     /// Reports that took the place of the oldest removal.
     pub evictions: u64,
     /// Times that a follower was level, and held what the board held.
@@ -43,8 +50,9 @@ pub struct Tally {
 }
 
 impl Tally {
-    pub fn count(&mut self, call: Call, number: usize) {
+    pub fn count(&mut self, door: Door, call: Call, number: usize) {
         self.counts[call as usize][number] += 1;
+        self.accepted[call as usize][door as usize] += u64::from(number == 0);
     }
 
     pub fn calls(&self, calls: &[Call]) -> u64 {
@@ -56,6 +64,9 @@ impl Tally {
         let never = |&(i, n): &(usize, usize)| self.counts[i][n] == 0;
         let all = CALLS.iter().enumerate().flat_map(|(i, (_, numbers))| numbers.iter().map(move |&n| (i, n)));
         let mut missing: Vec<String> = all.filter(never).map(|(i, n)| format!("{} {n}", CALLS[i].0)).collect();
+        for (accepted, (name, _)) in self.accepted.iter().zip(CALLS) {
+            missing.extend(DOORS.iter().filter(|&&door| accepted[door as usize] == 0).map(|door| format!("{name} 0 by the {door:?}")));
+        }
         if self.evictions == 0 {
             missing.push("a report in a removal's place".to_string());
         }

@@ -1,5 +1,6 @@
 //! Routes written by both sides into equal buffers.
 
+use crate::doors::{self, Door, DOORS};
 use crate::octets::hex;
 use crate::plain;
 use crate::random::Random;
@@ -92,23 +93,18 @@ impl Pair {
     }
 
     /// One step on both sides: the number, or what differs.
-    fn step(&mut self, step: &Step) -> Result<usize, String> {
+    fn step(&mut self, door: Door, step: &Step) -> Result<usize, String> {
         let (answer, written) = match step {
             Step::Resume { ero, at } => {
                 self.theirs = Writer { kind: plain::kind(*ero), at: *at };
                 self.ours = raw::Writer { ero: *ero as u8, at: *at };
                 return Ok(0);
             }
-            Step::Begin { ero } => (Writer::begin(&mut self.their_buffer, plain::kind(*ero)), raw::begin(&mut self.our_buffer, self.ours, *ero as u8)),
+            Step::Begin { ero } => (Writer::begin(&mut self.their_buffer, plain::kind(*ero)), doors::begin(door, &mut self.our_buffer, self.ours, *ero)),
             Step::Add { segment, flag } => {
-                let mut s = plain::segment(segment);
-                s.loose *= flag;
-                s.verify *= flag;
-                s.hassid *= flag;
-                s.structured *= flag;
-                (self.theirs.add(&mut self.their_buffer, segment), raw::add(&mut self.our_buffer, self.ours, &s))
+                (self.theirs.add(&mut self.their_buffer, segment), doors::add(door, &mut self.our_buffer, self.ours, segment, *flag))
             }
-            Step::Finish => (self.theirs.finish(&mut self.their_buffer), raw::finish(&mut self.our_buffer, self.ours)),
+            Step::Finish => (self.theirs.finish(&mut self.their_buffer), doors::finish(door, &mut self.our_buffer, self.ours)),
         };
         let verdict = plain::theirs(&answer, |_| 0);
         self.theirs = answer.unwrap_or(self.theirs);
@@ -127,13 +123,13 @@ impl Pair {
     }
 }
 
-fn run(size: usize, steps: &[Step]) -> Option<String> {
+fn run(size: usize, steps: &[(Door, Step)]) -> Option<String> {
     let mut pair = Pair::new(size);
-    steps.iter().find_map(|step| pair.step(step).err())
+    steps.iter().find_map(|(door, step)| pair.step(*door, step).err())
 }
 
 /// The fewest steps found that still differ.
-fn shown(size: usize, mut steps: Vec<Step>) -> String {
+fn shown(size: usize, mut steps: Vec<(Door, Step)>) -> String {
     let mut at = 0;
     while at < steps.len() {
         let mut fewer = steps.clone();
@@ -144,7 +140,7 @@ fn shown(size: usize, mut steps: Vec<Step>) -> String {
             at += 1;
         }
     }
-    let list: String = steps.iter().map(|step| format!("{step:?}\n")).collect();
+    let list: String = steps.iter().map(|(door, step)| format!("{door:?}: {step:?}\n")).collect();
     format!("a buffer of {size} octets\n{list}{}", run(size, &steps).unwrap_or_default())
 }
 
@@ -165,12 +161,13 @@ pub fn steps(tally: &mut Tally, r: &mut Random, n: usize) -> Result<(), String> 
             if let Step::Begin { ero: kind } | Step::Resume { ero: kind, .. } = step {
                 ero = kind;
             }
-            steps.push(step.clone());
-            let number = pair.step(&step).map_err(|_| shown(size, steps.clone()))?;
+            let door = r.of(&DOORS);
+            steps.push((door, step.clone()));
+            let number = pair.step(door, &step).map_err(|_| shown(size, steps.clone()))?;
             match step {
-                Step::Begin { .. } => tally.count(Call::Begin, number),
-                Step::Add { .. } => tally.count(Call::Add, number),
-                Step::Finish => tally.count(Call::Finish, number),
+                Step::Begin { .. } => tally.count(door, Call::Begin, number),
+                Step::Add { .. } => tally.count(door, Call::Add, number),
+                Step::Finish => tally.count(door, Call::Finish, number),
                 Step::Resume { .. } => {}
             }
             done += 1;

@@ -2,9 +2,8 @@
 //!
 //!     cargo run --release --offline --example route
 
-use strundevi::{judge, read_open, segment, Board, Change, Kind, Refusal, Segment, Session, Writer, STORE_OCTETS};
+use strundevi::{judge, read_open, segment, Board, Change, Kind, Refusal, Segment, Session, Writer, PST_SRV6, STORE_OCTETS};
 
-const PST_SRV6: u64 = 3;
 const OPEN: [u8; 32] = [
     0x01, 0x10, 0x00, 0x20, 0x20, 0x1E, 0x78, 0x07, 0x00, 0x22, 0x00, 0x12, 0x00, 0x00, 0x00, 0x01, 0x03, 0x00, 0x00, 0x00, 0x00, 0x1B, 0x00, 0x06, 0x00, 0x00,
     0x00, 0x00, 0x2C, 0x04, 0x00, 0x00,
@@ -30,19 +29,18 @@ fn main() -> Result<(), Refusal> {
     let last = segment(route, Kind::Ero, &session, PST_SRV6, 2)?;
     println!("segment 2: last octet of the SID {:?}", last.sid().map(|sid| sid[15]));
 
-    let mut store = vec![0; STORE_OCTETS];
-    let mut board = Board::new();
+    let mut board = Board::new(vec![0; STORE_OCTETS]);
     let mut mark = board.fresh_mark();
-    board.report(&mut store, 7, route, &session, PST_SRV6)?;
-    board.report(&mut store, 8, route, &session, PST_SRV6)?;
-    board.remove(&store, 7)?;
-    if let Err(refusal) = board.report(&mut store, 0, route, &session, PST_SRV6) {
+    board.report(7, route, &session, PST_SRV6)?;
+    board.report(8, route, &session, PST_SRV6)?;
+    board.remove(7)?;
+    if let Err(refusal) = board.report(0, route, &session, PST_SRV6) {
         println!("refused: {refusal}");
     }
-    println!("body of 8: {} octets", board.body(&store, 8)?.len());
+    println!("body of 8: {} octets", board.body(8)?.len());
 
     loop {
-        let change = board.next(&store, mark)?;
+        let change = board.next(mark)?;
         match change {
             Change::Path { key, version, body } => println!("path {key} at {version}: {} octets, the same {}", body.len(), *body == route[4..]),
             Change::Removed { key, version } => println!("removed {key} at {version}"),

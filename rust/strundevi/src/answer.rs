@@ -1,12 +1,14 @@
 //! A refusal: the number of the first broken rule, and the octet of the fault or 0.
 
 use crate::raw;
-use std::fmt;
+use crate::route::Kind;
+use core::fmt;
 
 macro_rules! numbers {
     ($($name:ident = $number:literal, $text:literal;)*) => {
         /// Why a call was refused.
         #[derive(Clone, Copy, Debug, PartialEq, Eq, Hash, PartialOrd, Ord)]
+        #[non_exhaustive]
         #[repr(u8)]
         pub enum Number {
             $(#[doc = $text] $name = $number,)*
@@ -21,7 +23,8 @@ macro_rules! numbers {
                 }
             }
 
-            fn text(self) -> &'static str {
+            /// A few words for the number.
+            pub fn text(self) -> &'static str {
                 match self {
                     $(Number::$name => $text,)*
                 }
@@ -57,6 +60,49 @@ numbers! {
     MarkAhead = 24, "mark ahead";
 }
 
+/// Error-Type and Error-value of a PCErr.
+#[derive(Clone, Copy, Debug, PartialEq, Eq, Hash)]
+pub struct PcErr {
+    pub error_type: u8,
+    pub error_value: u8,
+}
+
+impl Number {
+    /// The PCErr to send to the peer for the refusal of an OPEN, or of a route of this kind. None: nothing in PCEP fits, the fault is on this box.
+    ///
+    /// ```
+    /// use strundevi::{Kind, Number};
+    /// let error = Number::KindsMixed.pcerr(Kind::Rro).unwrap();
+    /// assert_eq!((error.error_type, error.error_value), (10, 36));
+    /// assert_eq!(Number::NotABoard.pcerr(Kind::Ero), None);
+    /// ```
+    pub fn pcerr(self, kind: Kind) -> Option<PcErr> {
+        let (error_type, error_value) = match (self, kind) {
+            (Number::OpenMalformed | Number::WrongMsd, _) => (1, 1),
+            (Number::CapabilityMissing, _) => (10, 34),
+            (Number::FrameBroken | Number::RouteEmpty | Number::LengthWrong, _) => (10, 11),
+            (Number::KindsMixed, Kind::Ero) => (10, 20),
+            (Number::KindsMixed, Kind::Rro) => (10, 36),
+            (Number::NaiUnknown, _) => (10, 13),
+            (Number::NothingThere, Kind::Ero) => (10, 6),
+            (Number::NothingThere, Kind::Rro) => (10, 35),
+            (Number::SidNeeded, Kind::Ero) => (4, 4),
+            (Number::StructureTooLong, _) => (10, 37),
+            (Number::TooManySegments, Kind::Ero) => (10, 3),
+            (Number::NotAgreed, _) => (19, 19),
+            _ => return None,
+        };
+        Some(PcErr { error_type, error_value })
+    }
+}
+
+/// The number and its words.
+impl fmt::Display for Number {
+    fn fmt(&self, f: &mut fmt::Formatter<'_>) -> fmt::Result {
+        write!(f, "{}: {}", *self as u8, self.text())
+    }
+}
+
 #[derive(Clone, Copy, Debug, PartialEq, Eq, Hash)]
 pub struct Refusal {
     pub number: Number,
@@ -64,15 +110,25 @@ pub struct Refusal {
     pub place: usize,
 }
 
-pub type Result<T> = std::result::Result<T, Refusal>;
+pub type Result<T> = core::result::Result<T, Refusal>;
 
+/// Number, place and words; no place where none is named.
+///
+/// ```
+/// use strundevi::{read_open, Number, Refusal};
+/// assert_eq!(read_open(&[]).unwrap_err().to_string(), "1: OPEN ill formed");
+/// assert_eq!(Refusal { number: Number::NaiUnknown, place: 28 }.to_string(), "8 at 28: NT not 0, 2, 4, 6");
+/// ```
 impl fmt::Display for Refusal {
     fn fmt(&self, f: &mut fmt::Formatter<'_>) -> fmt::Result {
-        write!(f, "{} at {}: {}", self.number as u8, self.place, self.number.text())
+        match self.place {
+            0 => self.number.fmt(f),
+            place => write!(f, "{} at {place}: {}", self.number as u8, self.number.text()),
+        }
     }
 }
 
-impl std::error::Error for Refusal {}
+impl core::error::Error for Refusal {}
 
 impl raw::Verdict {
     /// The count of an acceptance.

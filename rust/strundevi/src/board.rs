@@ -1,4 +1,4 @@
-//! The board of paths, over a lent store.
+//! The board of paths, with its store.
 
 use crate::answer::{answer, Result};
 use crate::open::Session;
@@ -12,12 +12,58 @@ pub const PLACE_OCTETS: usize = 384;
 /// The least octets of a store.
 pub const STORE_OCTETS: usize = PLACES * PLACE_OCTETS;
 
+/// Keys are 1 to this.
+pub const KEY_MOST: u32 = 1_048_574;
+
+/// The last version that a board can have.
+pub const VERSION_MOST: u64 = u64::MAX - 1;
+
 const PATH: usize = 1;
 const REMOVED: usize = 2;
 
-/// A board's record. Its store is lent to each call, and has to be the same, whole, and as the last call left it.
-#[derive(Clone, Copy, Debug, PartialEq, Eq)]
-pub struct Board(raw::Record);
+/// A board: its record and its store, which belong together. The store is anything that has octets: `Vec<u8>`, `&mut [u8]`, an array.
+///
+/// Looking (`body`, `next`, `fresh_mark`) takes the board by `&`, so any number of readers may look at once. What they are handed borrows the
+/// board: copy a path's octets, and the board can be changed again.
+///
+/// How to follow a board:
+/// 1. start empty, with `fresh_mark`;
+/// 2. ask `next` with your mark;
+/// 3. a path or a removal: make the change, copy a path's octets before the board is touched again, keep the version as w (`Mark::after`);
+/// 4. level: you hold what the board holds, and may set both s and w to its version (`Mark::after` does, or `Mark::level`);
+/// 5. refused with 23: removals that you did not see were dropped; empty yourself and start afresh;
+/// 6. refused with 24: something is wrong, this is not the board that you followed; the same.
+///
+/// ```
+/// use std::collections::BTreeMap;
+/// use strundevi::{Board, Change, Session, PST_SRV6, STORE_OCTETS};
+///
+/// let session = Session { agreed: true, n: true, limit: None };
+/// let route = [7, 16, 0, 28, 40, 24, 0, 2, 0, 0, 0, 1, 32, 1, 13, 184, 0, 0, 0, 1, 0, 0, 0, 0, 0, 0, 0, 1];
+/// let mut board = Board::new(vec![0; STORE_OCTETS]);
+/// board.report(7, &route, &session, PST_SRV6)?;
+/// board.report(8, &route, &session, PST_SRV6)?;
+/// board.remove(7)?;
+///
+/// let mut held = BTreeMap::new();
+/// let mut mark = board.fresh_mark();
+/// loop {
+///     let change = board.next(mark)?;
+///     match change {
+///         Change::Path { key, body, .. } => drop(held.insert(key, body.to_vec())),
+///         Change::Removed { key, .. } => drop(held.remove(&key)),
+///         Change::Level { .. } => break,
+///     }
+///     mark = mark.after(&change);
+/// }
+/// assert_eq!(held, BTreeMap::from([(8, route[4..].to_vec())]));
+/// # Ok::<(), strundevi::Refusal>(())
+/// ```
+#[derive(Clone, Debug, PartialEq, Eq)]
+pub struct Board<S> {
+    record: raw::Record,
+    store: S,
+}
 
 /// Where a follower stands. With a fresh one the follower holds nothing.
 #[derive(Clone, Copy, Debug, PartialEq, Eq)]
@@ -34,66 +80,73 @@ pub enum Change<'a> {
     Level { version: u64 },
 }
 
-impl Default for Board {
-    fn default() -> Board {
-        Board::new()
-    }
-}
-
-impl Board {
-    /// The empty board.
-    pub fn new() -> Board {
+impl<S: AsRef<[u8]> + AsMut<[u8]>> Board<S> {
+    /// The empty board over this store. A store of fewer than `STORE_OCTETS` octets is refused with 17 by every call.
+    ///
+    /// An old mark may fit a board that was started anew, and its follower would keep paths that are withdrawn: whoever starts a board anew
+    /// sees to it that every follower empties itself and takes a fresh mark.
+    pub fn new(store: S) -> Board<S> {
         let mut record = raw::Record { keys: [0; PLACES], versions: [0; PLACES], lengths: [0; PLACES], version: 0, floor: 0 };
         raw::empty(&mut record);
-        Board(record)
+        Board { record, store }
     }
 
-    /// A board from a record of the caller's. One that is not proper is refused by every call.
-    pub fn from_record(record: raw::Record) -> Board {
-        Board(record)
+    /// A board of the caller's, as `into_parts` gave it. A record that is not proper is refused with 17 by every call.
+    pub fn from_parts(record: raw::Record, store: S) -> Board<S> {
+        Board { record, store }
+    }
+
+    pub fn into_parts(self) -> (raw::Record, S) {
+        (self.record, self.store)
     }
 
     pub fn record(&self) -> &raw::Record {
-        &self.0
+        &self.record
+    }
+
+    pub fn store(&self) -> &[u8] {
+        self.store.as_ref()
     }
 
     pub fn version(&self) -> u64 {
-        self.0.version
+        self.record.version
     }
 
     pub fn floor(&self) -> u64 {
-        self.0.floor
+        self.record.floor
     }
 
     /// Reports a path: the number of its segments. Refused with 17, 18, the route's numbers, 19, 20, 21.
     #[inline]
-    pub fn report(&mut self, store: &mut [u8], key: u64, ero: &[u8], session: &Session, pst: u64) -> Result<usize> {
-        raw::report(&mut self.0, store, key, ero, session.raw(), pst).count()
+    pub fn report(&mut self, key: u32, ero: &[u8], session: &Session, pst: u64) -> Result<usize> {
+        raw::report(&mut self.record, self.store.as_mut(), key.into(), ero, session.raw(), pst).count()
     }
 
     /// Removes a path; a mark of the removal stays. Refused with 17, 18, 22, 20.
     #[inline]
-    pub fn remove(&mut self, store: &[u8], key: u64) -> Result<()> {
-        raw::remove(&mut self.0, store, key).count().map(|_| ())
+    pub fn remove(&mut self, key: u32) -> Result<()> {
+        raw::remove(&mut self.record, self.store.as_ref(), key.into()).count().map(|_| ())
     }
 
     /// Drops the marks of removals with a version of at most `c`. Refused with 17, 24.
     #[inline]
-    pub fn compact(&mut self, store: &[u8], c: u64) -> Result<()> {
-        raw::compact(&mut self.0, store, c).count().map(|_| ())
+    pub fn compact(&mut self, c: u64) -> Result<()> {
+        raw::compact(&mut self.record, self.store.as_ref(), c).count().map(|_| ())
     }
 
     /// The octets of a key's path. Refused with 17, 18, 22.
     #[inline]
-    pub fn body<'a>(&self, store: &'a [u8], key: u64) -> Result<&'a [u8]> {
-        let r = raw::body(&self.0, store, key);
+    pub fn body(&self, key: u32) -> Result<&[u8]> {
+        let store = self.store.as_ref();
+        let r = raw::body(&self.record, store, key.into());
         answer(r.number, || &store[r.start..][..r.length])
     }
 
     /// What a follower with this mark is handed. Refused with 17, 24, 23.
     #[inline]
-    pub fn next<'a>(&self, store: &'a [u8], mark: Mark) -> Result<Change<'a>> {
-        let r = raw::next(&self.0, store, mark.s, mark.w);
+    pub fn next(&self, mark: Mark) -> Result<Change<'_>> {
+        let store = self.store.as_ref();
+        let r = raw::next(&self.record, store, mark.s, mark.w);
         answer(r.number, || match r.kind {
             PATH => Change::Path { key: r.key as u32, version: r.version, body: &store[r.place * PLACE_OCTETS..][..r.length] },
             REMOVED => Change::Removed { key: r.key as u32, version: r.version },
@@ -103,17 +156,22 @@ impl Board {
 
     /// The mark of a follower that begins, and holds nothing.
     pub fn fresh_mark(&self) -> Mark {
-        let r = raw::fresh_mark(self.0.version);
+        let r = raw::fresh_mark(self.record.version);
         Mark { s: r.s, w: r.w }
     }
 }
 
 impl Mark {
-    /// The mark after this answer.
+    /// The mark after this answer: w is the version of the change made; level sets both.
     pub fn after(self, change: &Change) -> Mark {
         match *change {
             Change::Path { version, .. } | Change::Removed { version, .. } => Mark { w: version, ..self },
-            Change::Level { version } => Mark { s: version, w: version },
+            Change::Level { version } => Mark::level(version),
         }
+    }
+
+    /// The mark of a follower that was told it is level with a board of this version.
+    pub fn level(version: u64) -> Mark {
+        Mark { s: version, w: version }
     }
 }

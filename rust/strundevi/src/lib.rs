@@ -1,7 +1,26 @@
 //! Boxes beside a tram line: read OPEN objects, judge and write SRv6 routes, keep a board of paths that other boxes follow.
 //!
 //! Every answer comes from the proved library; this crate lends it slices and turns its numbers into `Result`s. A refusal is a number and a
-//! place, and leaves everything as it was.
+//! place, and leaves everything as it was. Nothing is allocated, no call recurses, and none needs more than 2,048 octets of stack.
+//!
+//! ```
+//! use strundevi::{judge, read_open, Kind, Segment, Session, Writer, PST_SRV6};
+//!
+//! let open = [
+//!     0x01, 0x10, 0x00, 0x20, 0x20, 0x1E, 0x78, 0x07, 0x00, 0x22, 0x00, 0x12, 0x00, 0x00, 0x00, 0x01, //
+//!     0x03, 0x00, 0x00, 0x00, 0x00, 0x1B, 0x00, 0x06, 0x00, 0x00, 0x00, 0x00, 0x2C, 0x04, 0x00, 0x00,
+//! ];
+//! let session = Session::agree(&read_open(&open), &read_open(&open));
+//! assert!(session.agreed && session.limit == Some(4));
+//!
+//! let mut buffer = [0; 64];
+//! let mut writer = Writer::begin(&mut buffer, Kind::Ero)?;
+//! writer.add(&Segment::with_sid([0x20; 16], 1))?;
+//! let route = writer.finish()?;
+//! assert_eq!(judge(route, Kind::Ero, &session, PST_SRV6)?, 1);
+//! # Ok::<(), strundevi::Refusal>(())
+//! ```
+#![no_std]
 #![deny(unsafe_code)]
 
 mod answer;
@@ -11,8 +30,11 @@ pub mod raw;
 mod route;
 mod writer;
 
-pub use answer::{Number, Refusal, Result};
-pub use board::{Board, Change, Mark, PLACES, PLACE_OCTETS, STORE_OCTETS};
+pub use answer::{Number, PcErr, Refusal, Result};
+pub use board::{Board, Change, Mark, KEY_MOST, PLACES, PLACE_OCTETS, STORE_OCTETS, VERSION_MOST};
 pub use open::{read_open, Open, Session};
-pub use route::{judge, segment, Kind, Segment};
+pub use route::{judge, segment, Kind, Nai, Segment, PST_SRV6};
 pub use writer::{Writer, OBJECT_MOST};
+
+/// The version of this crate, which is that of the header.
+pub const VERSION: &str = env!("CARGO_PKG_VERSION");

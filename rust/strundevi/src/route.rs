@@ -3,6 +3,10 @@
 use crate::answer::Result;
 use crate::open::Session;
 use crate::raw;
+use core::net::Ipv6Addr;
+
+/// The setup type of SRv6 paths.
+pub const PST_SRV6: u64 = 3;
 
 #[derive(Clone, Copy, Debug, PartialEq, Eq)]
 pub enum Kind {
@@ -28,7 +32,68 @@ impl Kind {
     }
 }
 
-/// A segment as it is read and written. What is absent is all zeros.
+/// The node or adjacency identifier of a segment.
+#[derive(Clone, Copy, Debug, PartialEq, Eq, Hash)]
+pub enum Nai {
+    /// NT 2.
+    Node(Ipv6Addr),
+    /// NT 4.
+    Adjacency { local: Ipv6Addr, remote: Ipv6Addr },
+    /// NT 6: each end is an address and an interface.
+    LinkLocal { local: Ipv6Addr, local_interface: u32, remote: Ipv6Addr, remote_interface: u32 },
+}
+
+impl Nai {
+    pub fn nt(&self) -> u8 {
+        match self {
+            Nai::Node(_) => 2,
+            Nai::Adjacency { .. } => 4,
+            Nai::LinkLocal { .. } => 6,
+        }
+    }
+
+    /// As it stands in a segment; octets behind a shorter one are 0.
+    fn octets(&self) -> [u8; 40] {
+        let mut octets = [0; 40];
+        match self {
+            Nai::Node(node) => octets[..16].copy_from_slice(&node.octets()),
+            Nai::Adjacency { local, remote } => {
+                octets[..16].copy_from_slice(&local.octets());
+                octets[16..32].copy_from_slice(&remote.octets());
+            }
+            Nai::LinkLocal { local, local_interface, remote, remote_interface } => {
+                octets[..16].copy_from_slice(&local.octets());
+                octets[16..20].copy_from_slice(&local_interface.to_be_bytes());
+                octets[20..36].copy_from_slice(&remote.octets());
+                octets[36..].copy_from_slice(&remote_interface.to_be_bytes());
+            }
+        }
+        octets
+    }
+
+    fn of(nt: u8, octets: &[u8; 40]) -> Option<Nai> {
+        let address = |at: usize| Ipv6Addr::from(core::array::from_fn::<u8, 16, _>(|i| octets[at + i]));
+        let interface = |at: usize| u32::from_be_bytes(core::array::from_fn(|i| octets[at + i]));
+        match nt {
+            2 => Some(Nai::Node(address(0))),
+            4 => Some(Nai::Adjacency { local: address(0), remote: address(16) }),
+            6 => Some(Nai::LinkLocal { local: address(0), local_interface: interface(16), remote: address(20), remote_interface: interface(36) }),
+            _ => None,
+        }
+    }
+}
+
+/// A segment as it is read and written: a SID, an NAI, or both. What is absent is all zeros.
+///
+/// ```
+/// use strundevi::{Nai, Segment};
+///
+/// let local = "fe80::1".parse().unwrap();
+/// let remote = "fe80::2".parse().unwrap();
+/// let segment = Segment::with_sid([0x20; 16], 1).and_nai(Nai::Adjacency { local, remote }).and_structure([32, 16, 16, 0]).and_loose(true);
+/// assert_eq!(segment.nt(), 4);
+/// assert_eq!(segment.nai(), Some(Nai::Adjacency { local, remote }));
+/// ```
 #[derive(Clone, Copy, Debug, PartialEq, Eq)]
 #[repr(transparent)]
 pub struct Segment(raw::Segment);
@@ -39,34 +104,32 @@ impl Segment {
         Segment(raw::Segment { behaviour, hassid: 1, sid, ..raw::Segment::ZERO })
     }
 
-    /// A segment that is an NAI and nothing else: NT 2, 4, 6 with 16, 32, 40 octets. Any other is refused in adding.
-    pub fn with_nai(nt: u8, nai: &[u8], behaviour: u16) -> Segment {
-        Segment(raw::Segment { behaviour, ..raw::Segment::ZERO }).and_nai(nt, nai)
+    /// A segment that is an NAI and nothing else.
+    pub fn with_nai(nai: Nai, behaviour: u16) -> Segment {
+        Segment(raw::Segment { behaviour, ..raw::Segment::ZERO }).and_nai(nai)
     }
 
-    /// The same with this NAI. Octets past the fortieth are left out.
-    pub fn and_nai(mut self, nt: u8, nai: &[u8]) -> Segment {
-        let size = nai.len().min(self.0.nai.len());
-        self.0.nt = nt;
-        self.0.nai = [0; 40];
-        self.0.nai[..size].copy_from_slice(&nai[..size]);
+    /// The same with this NAI.
+    pub fn and_nai(mut self, nai: Nai) -> Segment {
+        self.0.nt = nai.nt();
+        self.0.nai = nai.octets();
         self
     }
 
-    /// The same with this SID structure: four bit lengths.
+    /// The same with this SID structure: four bit lengths. Without a SID it is refused in adding.
     pub fn and_structure(mut self, bits: [u8; 4]) -> Segment {
         self.0.structured = 1;
         self.0.structure = bits;
         self
     }
 
-    /// The same with L.
+    /// The same with L. In an RRO it is refused in adding.
     pub fn and_loose(mut self, loose: bool) -> Segment {
         self.0.loose = loose as u8;
         self
     }
 
-    /// The same with V.
+    /// The same with V. In an RRO it is refused in adding.
     pub fn and_verify(mut self, verify: bool) -> Segment {
         self.0.verify = verify as u8;
         self
@@ -92,8 +155,12 @@ impl Segment {
         (self.0.hassid != 0).then_some(&self.0.sid)
     }
 
+    pub fn nai(&self) -> Option<Nai> {
+        Nai::of(self.0.nt, &self.0.nai)
+    }
+
     /// The octets of the NAI: as many as NT asks for.
-    pub fn nai(&self) -> &[u8] {
+    pub fn nai_octets(&self) -> &[u8] {
         let size = match self.0.nt {
             2 => 16,
             4 => 32,

@@ -1,0 +1,116 @@
+/* The calls of include/strundevi.h under names that Rust can link, and its records and numbers as rows, in the order of src/header.rs. */
+#include "strundevi.h"
+
+strundevi_opened header_read_open(const uint8_t *octets, size_t length) {
+    return strundevi_read_open(octets, length);
+}
+
+strundevi_session header_agree(strundevi_opened pcc, strundevi_opened pce) {
+    return strundevi_agree(pcc, pce);
+}
+
+strundevi_verdict header_judge(const uint8_t *octets, size_t length, uint8_t ero, strundevi_session session, uint64_t pst) {
+    return strundevi_judge(octets, length, ero ? STRUNDEVI_ERO : STRUNDEVI_RRO, session, pst);
+}
+
+strundevi_picked header_segment_at(const uint8_t *octets, size_t length, uint8_t ero, strundevi_session session, uint64_t pst, uint64_t i) {
+    return strundevi_segment_at(octets, length, ero ? STRUNDEVI_ERO : STRUNDEVI_RRO, session, pst, i);
+}
+
+strundevi_written header_begin(uint8_t *buffer, size_t size, strundevi_writer writer, uint8_t ero) {
+    return strundevi_begin(buffer, size, writer, ero ? STRUNDEVI_ERO : STRUNDEVI_RRO);
+}
+
+strundevi_written header_add(uint8_t *buffer, size_t size, strundevi_writer writer, const strundevi_segment *segment) {
+    return strundevi_add(buffer, size, writer, *segment);
+}
+
+strundevi_written header_finish(uint8_t *buffer, size_t size, strundevi_writer writer) {
+    return strundevi_finish(buffer, size, writer);
+}
+
+void header_empty(strundevi_board *board) {
+    strundevi_empty(board);
+}
+
+strundevi_verdict header_report(strundevi_board *board, uint8_t *store, size_t size, uint64_t key, const uint8_t *ero, size_t length,
+                                strundevi_session session, uint64_t pst) {
+    return strundevi_report(board, store, size, key, ero, length, session, pst);
+}
+
+strundevi_verdict header_remove(strundevi_board *board, const uint8_t *store, size_t size, uint64_t key) {
+    return strundevi_remove(board, store, size, key);
+}
+
+strundevi_verdict header_compact(strundevi_board *board, const uint8_t *store, size_t size, uint64_t c) {
+    return strundevi_compact(board, store, size, c);
+}
+
+strundevi_part header_body(const strundevi_board *board, const uint8_t *store, size_t size, uint64_t key) {
+    return strundevi_body(board, store, size, key);
+}
+
+strundevi_change header_next(const strundevi_board *board, const uint8_t *store, size_t size, strundevi_mark mark) {
+    return strundevi_next(board, store, size, mark);
+}
+
+strundevi_mark header_fresh_mark(const strundevi_board *board) {
+    return strundevi_fresh_mark(board);
+}
+
+strundevi_mark header_mark_after(strundevi_mark mark, strundevi_change change) {
+    return strundevi_mark_after(mark, change);
+}
+
+strundevi_mark header_mark_level(uint64_t version) {
+    return strundevi_mark_level(version);
+}
+
+const char *header_text(size_t number) {
+    return strundevi_text(number);
+}
+
+strundevi_pcerr header_pcerr(size_t number, uint8_t ero) {
+    return strundevi_pcerr_of(number, ero ? STRUNDEVI_ERO : STRUNDEVI_RRO);
+}
+
+#define AT(record, field) offsetof(strundevi_##record, field)
+
+/* Sizes of the records, each with the places of its fields. */
+static const size_t layout[] = {
+    sizeof(strundevi_verdict), AT(verdict, number), AT(verdict, place), AT(verdict, count),
+    sizeof(strundevi_opened), AT(opened, number), AT(opened, srv6), AT(opened, n), AT(opened, limited), AT(opened, limit),
+    sizeof(strundevi_session), AT(session, agreed), AT(session, n), AT(session, limited), AT(session, limit),
+    sizeof(strundevi_segment), AT(segment, loose), AT(segment, verify), AT(segment, nt), AT(segment, behaviour), AT(segment, hassid),
+    AT(segment, sid), AT(segment, nai), AT(segment, structured), AT(segment, structure),
+    sizeof(strundevi_picked), AT(picked, verdict), AT(picked, segment),
+    sizeof(strundevi_writer), AT(writer, ero), AT(writer, at),
+    sizeof(strundevi_written), AT(written, verdict), AT(written, writer),
+    sizeof(strundevi_board), AT(board, keys), AT(board, versions), AT(board, lengths), AT(board, version), AT(board, floor),
+    sizeof(strundevi_part), AT(part, number), AT(part, start), AT(part, length),
+    sizeof(strundevi_change), AT(change, number), AT(change, kind), AT(change, key), AT(change, version), AT(change, place), AT(change, length),
+    sizeof(strundevi_mark), AT(mark, s), AT(mark, w),
+};
+
+/* Every number and size that the header names. */
+static const uint64_t numbers[] = {
+    STRUNDEVI_ACCEPTED, STRUNDEVI_OPEN_MALFORMED, STRUNDEVI_CAPABILITY_MISSING, STRUNDEVI_WRONG_MSD, STRUNDEVI_FRAME_BROKEN, STRUNDEVI_ROUTE_EMPTY,
+    STRUNDEVI_KINDS_MIXED, STRUNDEVI_LENGTH_WRONG, STRUNDEVI_NAI_UNKNOWN, STRUNDEVI_NOTHING_THERE, STRUNDEVI_SID_NEEDED,
+    STRUNDEVI_STRUCTURE_TOO_LONG, STRUNDEVI_TOO_MANY_SEGMENTS, STRUNDEVI_NOT_AGREED, STRUNDEVI_NO_SRV6, STRUNDEVI_NO_SUCH_SEGMENT,
+    STRUNDEVI_BUFFER_FULL, STRUNDEVI_NOT_A_BOARD, STRUNDEVI_KEY_OUT_OF_RANGE, STRUNDEVI_BODY_TOO_LONG, STRUNDEVI_VERSIONS_USED_UP,
+    STRUNDEVI_ALL_PATHS, STRUNDEVI_NO_PATH, STRUNDEVI_MARK_TOO_OLD, STRUNDEVI_MARK_AHEAD,
+    STRUNDEVI_SID_OCTETS, STRUNDEVI_NAI_OCTETS, STRUNDEVI_STRUCTURE_OCTETS, STRUNDEVI_OBJECT_MOST, STRUNDEVI_PLACES, STRUNDEVI_PLACE_OCTETS,
+    STRUNDEVI_STORE_OCTETS, STRUNDEVI_KEY_MOST, STRUNDEVI_VERSION_MOST, STRUNDEVI_PST_SRV6, STRUNDEVI_RRO, STRUNDEVI_ERO, STRUNDEVI_REFUSED,
+    STRUNDEVI_PATH, STRUNDEVI_REMOVED, STRUNDEVI_LEVEL, STRUNDEVI_VERSION_MAJOR, STRUNDEVI_VERSION_MINOR, STRUNDEVI_VERSION_PATCH, STRUNDEVI_VERSION,
+};
+
+/* Hands out a row and its length. */
+const size_t *header_layout(size_t *length) {
+    *length = sizeof layout / sizeof *layout;
+    return layout;
+}
+
+const uint64_t *header_numbers(size_t *length) {
+    *length = sizeof numbers / sizeof *numbers;
+    return numbers;
+}
