@@ -6,4 +6,5 @@ mod verb;
 pub use form::is_formed;
 pub use verb::ERO;
 pub use verb::Verb;
-pub use verb::named;
+pub use verb::place_named;
+pub use verb::verb_at;
