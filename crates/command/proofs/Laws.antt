@@ -7,19 +7,19 @@ use lib.Dec.{eqb}
 use lib.ListN.{length, getD}
 use native.Mathlib.Omega.{arith}
 use borrow.Author.Tests.{lt-ltb, le-ltb}
-use Rattle.words.specs.Words.{wordOf, sameOf}
+use Rattle.words.specs.Words.{space, wordOf, sameOf}
 use Rattle.decimal.specs.Decimal.{valueOf}
-use Rattle.command_forms.specs.Forms.{space, theEro, verbOf, kindsOf, formed}
+use Rattle.command_forms.specs.Forms.{theEro, verbOf, kindsOf, formed}
 use Rattle.command_forms.specs.declared.verb.Verb.{Verb}
 use Rattle.command_forms.specs.declared.verb.Verb.the-variants as v
-use Rattle.command.specs.Commands.{skipped, longest, bare, commanded, commandOf}
+use Rattle.command.specs.Commands.{hash, skipped, longest, bare, commanded, commandOf}
 
 pub skipped-empty : (l : List ℕ) → length l ≡ 0 → true ≡ skipped l
 unfolding skipped
 skipped-empty [] h = refl
 skipped-empty (c ∷ cs) h = absurd (omega arith)
 
-pub skipped-first : (l : List ℕ) → (length l ≡ 0 → ⊥) → eqb (getD l 0 0) 35 ≡ skipped l
+pub skipped-first : (l : List ℕ) → (length l ≡ 0 → ⊥) → eqb (getD l 0 0) hash ≡ skipped l
 unfolding skipped
 skipped-first [] h = absurd (h refl)
 skipped-first (c ∷ cs) h = refl

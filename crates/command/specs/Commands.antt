@@ -4,17 +4,21 @@ use mathlib.Core.Bool.{Bool, true, false, cond}
 use mathlib.Core.List.{List, [], _∷_}
 use lib.Dec.{eqb, ltb}
 use lib.ListN.{length}
-use Rattle.words.specs.Words.{wordOf, sameOf}
+use Rattle.words.specs.Words.{space, wordOf, sameOf}
 use Rattle.decimal.specs.Decimal.{valueOf}
-use Rattle.command_forms.specs.Forms.{space, theEro, verbOf, kindsOf, formed}
+use Rattle.command_forms.specs.Forms.{theEro, verbOf, kindsOf, formed}
 use Rattle.command_forms.specs.declared.verb.Verb.{Verb}
 use Rattle.command_forms.specs.declared.verb.Verb.the-variants as v
 use Rattle.command.specs.declared.Command.{Command}
 
+-- `#`
+abbrev pub hash : ℕ
+hash = 35
+
 -- "Empty lines, and lines that begin with `#`, are skipped"
 unfoldable pub skipped : List ℕ → Bool
 skipped [] = true
-skipped (c ∷ cs) = eqb c 35
+skipped (c ∷ cs) = eqb c hash
 
 -- the most octets of a line that is no bad line
 abbrev pub longest : ℕ

@@ -6,19 +6,20 @@ ghost use Prim.Native.Nat.{_*_, _≤_};
 ghost use lib.ListN.{length};
 ghost use Rattle.io.specs.Counts.{Counts};
 ghost use Rattle.octets.specs.Octets.{over};
-ghost use Rattle.words.specs.Words.{wordOf};
+ghost use Rattle.words.specs.Words.{space, wordOf};
 ghost use Rattle.hexadecimal.specs.Hexadecimal.{octetsOf};
-ghost use Rattle.command_forms.specs.Forms.{space};
 ghost use Rattle.command.specs.Commands.{commandOf, skipped, bare};
 use command_forms::ERO;
 use command_forms::Verb;
 use command_forms::is_formed;
-use command_forms::named;
+use command_forms::place_named;
+use command_forms::verb_at;
 use decimal::value;
 use words::SPACE;
 use words::same;
 use words::word;
 
+// `#`
 const HASH: u8 = 35;
 
 // the most octets of a line that is no bad line
@@ -67,10 +68,11 @@ pub fn parse(line: &[u8]) -> Command
     if line.len() > LONGEST {
         return alone(Verb::Bad);
     }
-    let verb = named(word(line, SPACE, 0));
-    if !is_formed(line, verb) {
+    let place = place_named(word(line, SPACE, 0));
+    if !is_formed(line, place) {
         return alone(Verb::Bad);
     }
+    let verb = verb_at(place);
     let ero = same(word(line, SPACE, 1), &ERO);
     let one = value(word(line, SPACE, 1));
     let two = value(word(line, SPACE, 2));

@@ -18,7 +18,8 @@ use words::count;
 use words::same;
 use words::word;
 
-const MOST_SIZE: u64 = 65536;
+// the most octets of a buffer
+pub const MOST_SIZE: usize = 65536;
 
 // Is this word of the kind that has this letter?
 fn fits(letter: u8, w: &[u8]) -> bool
@@ -29,7 +30,7 @@ fn fits(letter: u8, w: &[u8]) -> bool
         b'1' => at_most(w, 1),
         b'8' => at_most(w, 255),
         b'6' => at_most(w, 65535),
-        b'z' => at_most(w, MOST_SIZE),
+        b'z' => at_most(w, MOST_SIZE as u64),
         b'o' => is_octets(w),
         b'e' => either(same(w, &ERO), same(w, &RRO)),
         b's' => is_sid(w),

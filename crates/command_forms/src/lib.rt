@@ -3,6 +3,7 @@
 mod form;
 mod verb;
 
+pub use form::MOST_SIZE;
 pub use form::is_formed;
 pub use verb::ERO;
 pub use verb::Verb;

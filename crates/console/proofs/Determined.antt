@@ -6,10 +6,9 @@ use mathlib.Core.Bool.{Bool}
 use mathlib.Core.List.{List}
 use lib.ListN.{length, take}
 use Rattle.octets.specs.Octets.{over}
-use Rattle.words.specs.Words.{wordOf}
+use Rattle.words.specs.Words.{space, wordOf}
 use Rattle.decimal.specs.Decimal.{valueOf, structureOf}
 use Rattle.hexadecimal.specs.Hexadecimal.{isOctets, octetsOf}
-use Rattle.command_forms.specs.Forms.{space}
 use Rattle.printing.specs.Text.{Behind}
 use Rattle.command.specs.Commands.{commandOf}
 use Rattle.command.specs.declared.Command.{Command}

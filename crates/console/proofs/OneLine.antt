@@ -20,7 +20,8 @@ use Rattle.board_rules.specs.declared.answer.Handed.the-variants.{Refused, Path
 use Rattle.board_rules.specs.Body.{bodyNumber, bodyOf}
 use Rattle.board_rules.specs.Next.{nextAnswer, freshMark}
 use Rattle.printing.specs.Text.{spell, decimalOf, glyphOf, hexOf, octetsText}
-use Rattle.console_lines.specs.Lines.{newline, lineOf, acceptance, refusalLine, badLine, doneLine, oneLine, twoLine, octetsLine}
+use Rattle.words.specs.Words.{newline, space, comma}
+use Rattle.console_lines.specs.Lines.{lineOf, acceptance, refusalLine, badLine, doneLine, oneLine, twoLine, octetsLine}
 use Rattle.console_fields.specs.Shown.{bitOf, limitText, openLine, openedLine, structureText, segmentLine}
 use Rattle.command_forms.specs.declared.verb.Verb.{Verb}
 use Rattle.command_forms.specs.declared.verb.Verb.the-variants as v
@@ -108,8 +109,8 @@ unfolding clear
 clear-limit Free = refl
 clear-limit (Most n) = clear-decimal n
 
-clear-comma : (n : ℕ) (t : List ℕ) → clear t ≡ true → clear (decimalOf n ++ (44 ∷ t)) ≡ true
-clear-comma n t h = clear-append (decimalOf n) (44 ∷ t) (clear-decimal n) (clear-cons 44 t (omega arith) h)
+clear-comma : (n : ℕ) (t : List ℕ) → clear t ≡ true → clear (decimalOf n ++ (comma ∷ t)) ≡ true
+clear-comma n t h = clear-append (decimalOf n) (comma ∷ t) (clear-decimal n) (clear-cons comma t (omega arith) h)
 
 clear-structure : (there : Bool) (bits : List ℕ) → clear (structureText there bits) ≡ true
 unfolding clear
@@ -123,8 +124,8 @@ unfolding allClear
 line-one [] w h a = record { line = w; bare = h; same = refl }
 line-one (x ∷ ws) w h a =
     let b = and-true (clear x) (allClear ws) a in
-    let r = line-one ws (w ++ (32 ∷ x)) (clear-append w (32 ∷ x) h (clear-cons 32 x (omega arith) (b .0))) (b .1) in
-    record { line = r .line; bare = r .bare; same = sym (append-assoc w (32 ∷ x) _) ∙ r .same }
+    let r = line-one ws (w ++ (space ∷ x)) (clear-append w (space ∷ x) h (clear-cons space x (omega arith) (b .0))) (b .1) in
+    record { line = r .line; bare = r .bare; same = sym (append-assoc w (space ∷ x) _) ∙ r .same }
 
 nought : clear (48 ∷ []) ≡ true
 unfolding clear

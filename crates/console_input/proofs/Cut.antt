@@ -8,7 +8,7 @@ use lib.ListN.{length, take}
 use lib.Seq.{take-all, length-take-le}
 use native.Mathlib.Omega.{arith}
 use borrow.Author.Tests.{lt-ltb, leb-true, leb-false}
-use Rattle.console_lines.specs.Lines.{newline}
+use Rattle.words.specs.Words.{newline}
 use Rattle.command_forms.specs.declared.verb.Verb.the-variants as v
 use Rattle.command.specs.declared.Command.{Command}
 use Rattle.command.specs.Commands.{skipped, longest, bare, commandOf}

@@ -1,10 +1,13 @@
 -- Lines of standard input, and what the console says to them (console.md).
-use Prim.Native.Nat.{ℕ, _+_, _%_, _^_}
+use Prim.Native.Nat.{ℕ, _+_, _%_, _^_, _≤_}
+use mathlib.Core.Path.{_≡_}
 use mathlib.Core.Bool.{cond}
 use mathlib.Core.List.{List, [], _∷_, _++_}
 use lib.Dec.{eqb}
-use lib.ListN.{take}
-use Rattle.console_lines.specs.Lines.{newline}
+use lib.ListN.{length, take}
+use Rattle.words.specs.Words.{newline}
+use Rattle.command.specs.Commands.{longest}
+use Rattle.console_state.specs.Rooms.{Rooms}
 use Rattle.console_state.specs.Standing.{Console, consoleOf, atStart}
 use Rattle.console_turn.specs.Turns.{Turned, turnOf}
 use Rattle.console_input.specs.declared.heard.Hearing.{Hearing}
@@ -33,7 +36,7 @@ ended g = record { console = turnNow g .console; lines = nextNumber (g .lines); 
 
 -- octets of a line that are kept: one more than the longest line may have
 abbrev pub mostKept : ℕ
-mostKept = 131201
+mostKept = longest + 1
 
 -- More of the line. What is behind the octets that are kept makes no difference: proofs/Cut.
 unfoldable pub longer : Heard → List ℕ → Heard
@@ -56,3 +59,9 @@ sayWhole input = sayAll heardAtStart input ++ turnNow (hearAll heardAtStart inpu
 -- what a state stands for, with what is kept of the line, the store and the memory of the writer's buffer
 abbrev pub heardOf : Hearing → List ℕ → List ℕ → List ℕ → Heard
 heardOf h line store memory = record { console = consoleOf (h .state) store memory; lines = h .lines; line = take (h .kept) line }
+
+-- What is lent is large enough, and the octets that are kept lie within the line's.
+pub record Ready (kept : ℕ) (line store memory room out : List ℕ) : Type 0 where
+  pub within : kept ≤ length line
+  pub whole : length line ≡ mostKept
+  pub rooms : Rooms line store memory room out

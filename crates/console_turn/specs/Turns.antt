@@ -12,7 +12,8 @@ use Rattle.command_forms.specs.declared.verb.Verb.{Verb}
 use Rattle.command_forms.specs.declared.verb.Verb.the-variants as v
 use Rattle.command.specs.declared.Command.{Command}
 use Rattle.command.specs.Commands.{commandOf}
-use Rattle.console_state.specs.Standing.{Console}
+use Rattle.console_state.specs.declared.state.State.{State}
+use Rattle.console_state.specs.Standing.{Console, consoleOf}
 use Rattle.console_routes.specs.Routing.{openIn, routeLine, segmentAnswer}
 use Rattle.console_writer.specs.Composing.{Composing, beginTurn, addTurn, finishTurn, lentLine}
 use Rattle.console_board.specs.Boarding.{Boarding, reportTurn, removeTurn, compactTurn, bodyLine, nextLine, markLine, boardLine}
@@ -103,7 +104,7 @@ turnBy v.Board k c line n = stays k (boardLine (k .board))
 unfoldable pub turnOf : Console → List ℕ → ℕ → Turned
 turnOf k line n = turnBy (commandOf line .verb) k (commandOf line) line n
 
--- The console stands as the turn says, and the octets of its answer, and no others, are laid at the start of a buffer, up to `end`.
-pub record Does (t : Turned) (k : Console) (before after : List ℕ) (end : ℕ) : Type 0 where
-  pub console : k ≡ t .console
-  pub told : Behind before after 0 end (t .answer)
+-- The console stands as the n-th line leaves it, and the octets of its answer, and no others, are laid at the start of a buffer, up to `end`.
+pub record Does (s : State) (store memory line : List ℕ) (n : ℕ) (r : State) (store′ memory′ before after : List ℕ) (end : ℕ) : Type 0 where
+  pub console : consoleOf r store′ memory′ ≡ turnOf (consoleOf s store memory) line n .console
+  pub told : Behind before after 0 end (turnOf (consoleOf s store memory) line n .answer)

@@ -3,7 +3,7 @@ use Prim.Native.Nat.{ℕ, zero, suc, _+_, _-_, _*_, _%_}
 use mathlib.Core.Bool.{Bool, true, false, cond, not, _&&_, _||_}
 use mathlib.Core.List.{List, [], _∷_}
 use lib.Dec.{eqb, ltb, leb}
-use Rattle.words.specs.Words.{wordOf, wordsIn, sameOf}
+use Rattle.words.specs.Words.{comma, dash, wordOf, wordsIn, sameOf}
 use Rattle.decimal.specs.declared.Number.{Number}
 
 -- ## Numbers: "decimal digits and nothing else, 0 to 2^64-1, leading zeros allowed"
@@ -40,13 +40,9 @@ isAtMost most w = isNumber w && leb (valueOf w) most
 -- ## None: `-`
 
 unfoldable pub isNone : List ℕ → Bool
-isNone w = sameOf w (45 ∷ [])
+isNone w = sameOf w (dash ∷ [])
 
 -- ## Structures: "four numbers of 0 to 255 joined by commas, or `-` for none"
-
--- `,`
-abbrev pub comma : ℕ
-comma = 44
 
 unfoldable pub isStructure : List ℕ → Bool
 isStructure w = isNone w || (eqb (wordsIn comma w) 4

@@ -6,14 +6,14 @@ ghost use Prim.Native.Nat.{_%_, _-_, _≤_, _<_};
 use octets::both;
 use octets::either;
 use words::COMMA;
+use words::DASH;
 use words::word;
 
 const ZERO: u8 = 48;
 
 const NINE: u8 = 57;
 
-// `-`
-const NONE: [u8; 1] = [45];
+const NONE: [u8; 1] = [DASH];
 
 // the largest number that ten times itself and a digit more can be under 2^64
 const TENTH: u64 = 1844674407370955161;
