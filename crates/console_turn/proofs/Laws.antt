@@ -2,6 +2,10 @@
 use Prim.Native.Nat.{ℕ}
 use mathlib.Core.Path.{_≡_, sym, _∙_, ap, subst}
 use mathlib.Core.List.{List}
+use Rattle.session.specs.declared.Opened.{Opened}
+use Rattle.session.specs.declared.Session.{Session}
+use Rattle.board_record.specs.declared.record.Board.{Board}
+use Rattle.writer.specs.declared.state.Writer.{Writer}
 use Rattle.printing.specs.Text.{Behind}
 use Rattle.command_forms.specs.declared.verb.Verb.{Verb}
 use Rattle.command.specs.declared.Command.{Command}
@@ -31,3 +35,21 @@ does w {s} {c = c} {store} {memory} {line} {store′} {memory′} {before} {afte
       console = ap (λ (y : State). consoleOf y store′ memory′) f ∙ k ∙ ap (λ (y : Turned). y .console) u;
       told = rw g (subst (λ (y : List ℕ). Behind before after 0 end y) (t ∙ ap (λ (y : Turned). y .answer) u) b);
     }
+
+-- ## What `refl` does not compute
+
+-- The session that was agreed is the console's.
+pub under : (f : Session → Command → List ℕ → List ℕ) {s t : Session} {c : Command} {line : List ℕ} → s ≡ t → f s c line ≡ f t c line
+under f {c = c} {line = line} e = ap (λ (x : Session). f x c line) e
+
+-- The console part by part, after a command that changes it.
+pub parts : {board b : Board} {store s : List ℕ} {pcc o pce p : Opened} {writer w : Writer} {lent l : List ℕ}
+    → board ≡ b
+    → store ≡ s
+    → pcc ≡ o
+    → pce ≡ p
+    → writer ≡ w
+    → lent ≡ l
+    → _≡_ {A = Console} (record { board = board; store = store; pcc = pcc; pce = pce; writer = writer; lent = lent })
+    (record { board = b; store = s; pcc = o; pce = p; writer = w; lent = l })
+parts a b c d e f = λ i. record { board = a i; store = b i; pcc = c i; pce = d i; writer = e i; lent = f i }

@@ -1,9 +1,15 @@
--- Each arm of the match answers as its row of the table says: `search (does v.ROW)` finds in the arm what the law asks for, the line's
--- reading, the arm's verb, what the call ensures and how the turn ended, and computes the row.
-use Rattle.console_turn.proofs.Laws.{does}
+-- Each arm of the match answers as its row of the table says. `does` asks for what stands in the arm: how the line was read, the arm's verb, how the
+-- turn ended, what the call laid; then that the answer and the console are the row's, which `refl` computes where the call speaks of no session.
+use Rattle.console_turn.proofs.Laws.{does, under, parts}
 use Rattle.console_turn.proofs.Formed.{begin-size, add-form}
+use Rattle.console_board.specs.Boarding.{Boarding, reportTurn}
+use Rattle.console_routes.specs.Routing.{routeLine, segmentAnswer}
+use Rattle.console_fields.specs.Shown.{openedLine}
 use Rattle.printing.proofs.Laws.{behind-none}
 use Rattle.command_forms.specs.declared.verb.Verb.the-variants as v
+use Rattle.session.specs.declared.Session.{Session}
+use mathlib.Core.Bool.{true, false}
+use mathlib.Core.Path.{refl, _∙_, ap}
 use native.Mathlib.Omega.{arith}
 use borrow.Author.Needs.{needs}
 use Rattle.console_turn.proofs.answer.answered.Statement.{statement}
@@ -40,7 +46,7 @@ with-pcc-requires : tie.Need-with-pcc-requires
 with-pcc-requires c κs = tt
 
 opened-requires : tie.Need-opened-requires
-opened-requires c κs = search needs
+opened-requires c κs = omega (arith, c .before .before .before .before .before .before .before .before .before .before .before .before .before .before .before .before .before .before .before .pre .stored)
 
 ended-requires-3 : tie.Need-ended-requires-3
 ended-requires-3 c κs = tt
@@ -55,7 +61,9 @@ with-pce-requires : tie.Need-with-pce-requires
 with-pce-requires c κs = tt
 
 opened-requires-2 : tie.Need-opened-requires-2
-opened-requires-2 c κs = search needs
+opened-requires-2 c κs =
+    let before10 = c .before .before .before .before .before .before .before .before .before .before in
+    omega (arith, before10 .before .before .before .before .before .before .before .before .before .pre .stored)
 
 ended-requires-4 : tie.Need-ended-requires-4
 ended-requires-4 c κs = tt
@@ -208,13 +216,19 @@ ended-requires-13 : tie.Need-ended-requires-13
 ended-requires-13 c κs = tt
 
 returns : tie.Need-returns
-returns c = search (does v.Skip, behind-none)
+returns c =
+    let before8 = c .before .before .before .before .before .before .before .before in
+    does v.Skip (before8 .parse .ensures) (c .before .enum-told .given .1)
+    (c .ended .ensures) (behind-none _ 0) refl refl
 
 same-length : tie.Need-same-length
 same-length c = search needs
 
 returns-2 : tie.Need-returns-2
-returns-2 c = search (does v.Bad)
+returns-2 c =
+    let before12 = c .before .before .before .before .before .before .before .before .before .before .before .before in
+    does v.Bad (before12 .parse .ensures) (c .before .before .before .before .before .enum-told2 .given .1)
+    (c .ended2 .ensures) (c .before .before .before .bad .ensures .0) refl refl
 
 same-length-2 : tie.Need-same-length-2
 same-length-2 c = search needs
@@ -223,7 +237,13 @@ same-length-3 : tie.Need-same-length-3
 same-length-3 c = search needs
 
 returns-3 : tie.Need-returns-3
-returns-3 c = search (does v.Pcc)
+returns-3 c =
+    let before8 = c .before .before .before .before .before .before .before .before in
+    let before17 = before8 .before .before .before .before .before .before .before .before .before in
+    does v.Pcc (before17 .parse .ensures) (before8 .before .before .enum-told3 .given .1)
+    (c .ended3 .ensures .0 ∙ c .before .before .before .before .before .with-pcc .ensures, c .ended3 .ensures .1)
+    (c .before .before .before .opened .ensures .0) (ap openedLine (before8 .heard .ensures))
+    (parts refl refl (before8 .heard .ensures) refl refl refl)
 
 same-length-4 : tie.Need-same-length-4
 same-length-4 c = search needs
@@ -232,7 +252,13 @@ same-length-5 : tie.Need-same-length-5
 same-length-5 c = search needs
 
 returns-4 : tie.Need-returns-4
-returns-4 c = search (does v.Pce)
+returns-4 c =
+    let before8 = c .before .before .before .before .before .before .before .before in
+    let before17 = before8 .before .before .before .before .before .before .before .before .before in
+    does v.Pce (before17 .parse .ensures) (before8 .before .before .enum-told4 .given .1)
+    (c .ended4 .ensures .0 ∙ c .before .before .before .before .before .with-pce .ensures, c .ended4 .ensures .1)
+    (c .before .before .before .opened2 .ensures .0) (ap openedLine (before8 .heard2 .ensures))
+    (parts refl refl refl (before8 .heard2 .ensures) refl refl)
 
 same-length-6 : tie.Need-same-length-6
 same-length-6 c = search needs
@@ -241,7 +267,11 @@ same-length-7 : tie.Need-same-length-7
 same-length-7 c = search needs
 
 returns-5 : tie.Need-returns-5
-returns-5 c = search (does v.Ero)
+returns-5 c =
+    let before12 = c .before .before .before .before .before .before .before .before .before .before .before .before in
+    let before15 = before12 .before .before .before in
+    does v.Ero (before15 .parse .ensures) (c .before .before .before .before .before .before .before .before .enum-told5 .given .1)
+    (c .ended5 .ensures) (c .before .before .before .before .before .judged .ensures) (under (routeLine true) (before12 .agree .ensures)) refl
 
 same-length-8 : tie.Need-same-length-8
 same-length-8 c = search needs
@@ -250,7 +280,11 @@ same-length-9 : tie.Need-same-length-9
 same-length-9 c = search needs
 
 returns-6 : tie.Need-returns-6
-returns-6 c = search (does v.Rro)
+returns-6 c =
+    let before12 = c .before .before .before .before .before .before .before .before .before .before .before .before in
+    let before15 = before12 .before .before .before in
+    does v.Rro (before15 .parse .ensures) (c .before .before .before .before .before .before .before .before .enum-told6 .given .1)
+    (c .ended6 .ensures) (c .before .before .before .before .before .judged2 .ensures) (under (routeLine false) (before12 .agree .ensures)) refl
 
 same-length-10 : tie.Need-same-length-10
 same-length-10 c = search needs
@@ -259,7 +293,11 @@ same-length-11 : tie.Need-same-length-11
 same-length-11 c = search needs
 
 returns-7 : tie.Need-returns-7
-returns-7 c = search (does v.EroSegment)
+returns-7 c =
+    let before12 = c .before .before .before .before .before .before .before .before .before .before .before .before in
+    let before15 = before12 .before .before .before in
+    does v.EroSegment (before15 .parse .ensures) (c .before .before .before .before .before .before .before .before .enum-told7 .given .1)
+    (c .ended7 .ensures) (c .before .before .before .before .before .picked .ensures) (under (segmentAnswer true) (before12 .agree .ensures)) refl
 
 same-length-12 : tie.Need-same-length-12
 same-length-12 c = search needs
@@ -268,7 +306,11 @@ same-length-13 : tie.Need-same-length-13
 same-length-13 c = search needs
 
 returns-8 : tie.Need-returns-8
-returns-8 c = search (does v.RroSegment)
+returns-8 c =
+    let before12 = c .before .before .before .before .before .before .before .before .before .before .before .before in
+    let before15 = before12 .before .before .before in
+    does v.RroSegment (before15 .parse .ensures) (c .before .before .before .before .before .before .before .before .enum-told8 .given .1)
+    (c .ended8 .ensures) (c .before .before .before .before .before .picked2 .ensures) (under (segmentAnswer false) (before12 .agree .ensures)) refl
 
 same-length-14 : tie.Need-same-length-14
 same-length-14 c = search needs
@@ -277,7 +319,12 @@ same-length-15 : tie.Need-same-length-15
 same-length-15 c = search needs
 
 returns-9 : tie.Need-returns-9
-returns-9 c = search (does v.Begin)
+returns-9 c =
+    let before5 = c .before .before .before .before .before in
+    let before15 = before5 .before .before .before .before .before .before .before .before .before .before in
+    does v.Begin (before15 .parse .ensures) (before5 .before .before .before .enum-told9 .given .1)
+    (c .composed .ensures) (before5 .begun .ensures .1 .1) refl
+    (parts refl refl refl refl (before5 .begun .ensures .0) (before5 .begun .ensures .1 .0))
 
 same-length-16 : tie.Need-same-length-16
 same-length-16 c = search needs
@@ -289,7 +336,12 @@ same-length-18 : tie.Need-same-length-18
 same-length-18 c = search needs
 
 returns-10 : tie.Need-returns-10
-returns-10 c = search (does v.Add)
+returns-10 c =
+    let before7 = c .before .before .before .before .before .before .before in
+    let before18 = before7 .before .before .before .before .before .before .before .before .before .before .before in
+    does v.Add (before18 .parse .ensures) (before7 .before .before .before .before .enum-told10 .given .1)
+    (c .composed2 .ensures) (before7 .added .ensures .1 .1) refl
+    (parts refl refl refl refl (before7 .added .ensures .0) (before7 .added .ensures .1 .0))
 
 same-length-19 : tie.Need-same-length-19
 same-length-19 c = search needs
@@ -298,7 +350,12 @@ same-length-20 : tie.Need-same-length-20
 same-length-20 c = search needs
 
 returns-11 : tie.Need-returns-11
-returns-11 c = search (does v.Finish)
+returns-11 c =
+    let before5 = c .before .before .before .before .before in
+    let before15 = before5 .before .before .before .before .before .before .before .before .before .before in
+    does v.Finish (before15 .parse .ensures) (before5 .before .before .before .enum-told11 .given .1)
+    (c .composed3 .ensures) (before5 .finished .ensures .1 .1) refl
+    (parts refl refl refl refl (before5 .finished .ensures .0) (before5 .finished .ensures .1 .0))
 
 same-length-21 : tie.Need-same-length-21
 same-length-21 c = search needs
@@ -307,7 +364,10 @@ same-length-22 : tie.Need-same-length-22
 same-length-22 c = search needs
 
 returns-12 : tie.Need-returns-12
-returns-12 c = search (does v.Lent)
+returns-12 c =
+    let before13 = c .before .before .before .before .before .before .before .before .before .before .before .before .before in
+    does v.Lent (before13 .parse .ensures) (c .before .before .before .before .before .before .enum-told12 .given .1)
+    (c .ended9 .ensures) (c .before .before .before .shown .ensures) refl refl
 
 same-length-23 : tie.Need-same-length-23
 same-length-23 c = search needs
@@ -319,7 +379,16 @@ same-length-25 : tie.Need-same-length-25
 same-length-25 c = search needs
 
 returns-13 : tie.Need-returns-13
-returns-13 c = search (does v.Report)
+returns-13 c =
+    let before7 = c .before .before .before .before .before .before .before in
+    let before15 = before7 .before .before .before .before .before .before .before .before in
+    let parse = before15 .before .before .before .parse in
+    let a = before15 .before .before .before .before .before .before .before .before .before .args in
+    let e = ap (λ (x : Session). reportTurn (a .state .board) (a .store .now) x (parse .result) (a .line .now)) (before15 .agree .ensures) in
+    does v.Report (parse .ensures) (before7 .before .before .before .before .enum-told13 .given .1) (c .boarded .ensures)
+    (before7 .reported .ensures .1 .1) (ap (λ (t : Boarding). t .answer) e)
+    (parts (before7 .reported .ensures .0 ∙ ap (λ (t : Boarding). t .board) e)
+    (before7 .reported .ensures .1 .0 ∙ ap (λ (t : Boarding). t .store) e) refl refl refl refl)
 
 same-length-26 : tie.Need-same-length-26
 same-length-26 c = search needs
@@ -328,7 +397,11 @@ same-length-27 : tie.Need-same-length-27
 same-length-27 c = search needs
 
 returns-14 : tie.Need-returns-14
-returns-14 c = search (does v.Remove)
+returns-14 c =
+    let before13 = c .before .before .before .before .before .before .before .before .before .before .before .before .before in
+    does v.Remove (before13 .parse .ensures) (c .before .before .before .before .before .before .enum-told14 .given .1)
+    (c .boarded2 .ensures) (c .before .before .before .removed .ensures .1) refl
+    (parts (c .before .before .before .removed .ensures .0) refl refl refl refl refl)
 
 same-length-28 : tie.Need-same-length-28
 same-length-28 c = search needs
@@ -337,7 +410,11 @@ same-length-29 : tie.Need-same-length-29
 same-length-29 c = search needs
 
 returns-15 : tie.Need-returns-15
-returns-15 c = search (does v.Compact)
+returns-15 c =
+    let before13 = c .before .before .before .before .before .before .before .before .before .before .before .before .before in
+    does v.Compact (before13 .parse .ensures) (c .before .before .before .before .before .before .enum-told15 .given .1)
+    (c .boarded3 .ensures) (c .before .before .before .compacted .ensures .1) refl
+    (parts (c .before .before .before .compacted .ensures .0) refl refl refl refl refl)
 
 same-length-30 : tie.Need-same-length-30
 same-length-30 c = search needs
@@ -346,7 +423,10 @@ same-length-31 : tie.Need-same-length-31
 same-length-31 c = search needs
 
 returns-16 : tie.Need-returns-16
-returns-16 c = search (does v.Body)
+returns-16 c =
+    let before13 = c .before .before .before .before .before .before .before .before .before .before .before .before .before in
+    does v.Body (before13 .parse .ensures) (c .before .before .before .before .before .before .enum-told16 .given .1)
+    (c .ended10 .ensures) (c .before .before .before .body .ensures) refl refl
 
 same-length-32 : tie.Need-same-length-32
 same-length-32 c = search needs
@@ -355,19 +435,28 @@ same-length-33 : tie.Need-same-length-33
 same-length-33 c = search needs
 
 returns-17 : tie.Need-returns-17
-returns-17 c = search (does v.Next)
+returns-17 c =
+    let before13 = c .before .before .before .before .before .before .before .before .before .before .before .before .before in
+    does v.Next (before13 .parse .ensures) (c .before .before .before .before .before .before .enum-told17 .given .1)
+    (c .ended11 .ensures) (c .before .before .before .next .ensures) refl refl
 
 same-length-34 : tie.Need-same-length-34
 same-length-34 c = search needs
 
 returns-18 : tie.Need-returns-18
-returns-18 c = search (does v.Mark)
+returns-18 c =
+    let before12 = c .before .before .before .before .before .before .before .before .before .before .before .before in
+    does v.Mark (before12 .parse .ensures) (c .before .before .before .before .before .enum-told18 .given .1)
+    (c .ended12 .ensures) (c .before .before .before .mark .ensures) refl refl
 
 same-length-35 : tie.Need-same-length-35
 same-length-35 c = search needs
 
 returns-19 : tie.Need-returns-19
-returns-19 c = search (does v.Board)
+returns-19 c =
+    let before12 = c .before .before .before .before .before .before .before .before .before .before .before .before in
+    does v.Board (before12 .parse .ensures) (c .before .before .before .before .before .enum-told19 .given .1)
+    (c .ended13 .ensures) (c .before .before .before .numbers .ensures) refl refl
 
 pub answered-spec : {M : Type 1} → statement M
 answered-spec =
