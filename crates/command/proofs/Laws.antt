@@ -8,11 +8,10 @@ use lib.ListN.{length, getD}
 use native.Mathlib.Omega.{arith}
 use borrow.Author.Tests.{lt-ltb, le-ltb}
 use Rattle.words.specs.Words.{space, wordOf, sameOf}
-use Rattle.decimal.specs.Decimal.{valueOf}
 use Rattle.command_forms.specs.Forms.{theEro, verbOf, kindsOf, formed}
 use Rattle.command_forms.specs.declared.verb.Verb.{Verb}
 use Rattle.command_forms.specs.declared.verb.Verb.the-variants as v
-use Rattle.command.specs.Commands.{hash, skipped, longest, bare, commanded, commandOf}
+use Rattle.command.specs.Commands.{hash, skipped, longest, bare, numberIn, commanded, commandOf}
 
 pub skipped-empty : (l : List ℕ) → length l ≡ 0 → true ≡ skipped l
 unfolding skipped
@@ -42,6 +41,6 @@ module _ (l : List ℕ) where
   read-in-form e h f = rw (e, le-ltb longest (length l) h, f)
 
   pub made : {verb : Verb} {ero : Bool} {one two three four : ℕ} → verb ≡ verbOf (wordOf space l 0) → ero ≡ sameOf (wordOf space l 1) theEro
-      → one ≡ valueOf (wordOf space l 1) → two ≡ valueOf (wordOf space l 2) → three ≡ valueOf (wordOf space l 3) → four ≡ valueOf (wordOf space l 4)
+      → one ≡ numberIn l 1 → two ≡ numberIn l 2 → three ≡ numberIn l 3 → four ≡ numberIn l 4
       → record { verb = verb; ero = ero; one = one; two = two; three = three; four = four } ≡ commanded l
   made a b c d e f = λ i. record { verb = a i; ero = b i; one = c i; two = d i; three = e i; four = f i }

@@ -27,15 +27,19 @@ longest = 131200
 abbrev pub bare : Verb → Command
 bare verb = record { verb = verb; ero = false; one = 0; two = 0; three = 0; four = 0 }
 
+-- word i of a line as a number
+abbrev pub numberIn : List ℕ → ℕ → ℕ
+numberIn line i = valueOf (wordOf space line i)
+
 -- A command, with what its first four words behind the name say as numbers, and whether the first is `ero`.
 abbrev pub commanded : List ℕ → Command
 commanded line = record {
   verb = verbOf (wordOf space line 0);
   ero = sameOf (wordOf space line 1) theEro;
-  one = valueOf (wordOf space line 1);
-  two = valueOf (wordOf space line 2);
-  three = valueOf (wordOf space line 3);
-  four = valueOf (wordOf space line 4);
+  one = numberIn line 1;
+  two = numberIn line 2;
+  three = numberIn line 3;
+  four = numberIn line 4;
 }
 
 -- "Any other line that is not one of the commands, in just that form, is a bad line; so is one of more than 131,200 octets."

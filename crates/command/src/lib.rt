@@ -8,7 +8,7 @@ ghost use Rattle.io.specs.Counts.{Counts};
 ghost use Rattle.octets.specs.Octets.{over};
 ghost use Rattle.words.specs.Words.{space, wordOf};
 ghost use Rattle.hexadecimal.specs.Hexadecimal.{octetsOf};
-ghost use Rattle.command.specs.Commands.{commandOf, skipped, bare};
+ghost use Rattle.command.specs.Commands.{commandOf, skipped, bare, numberIn};
 use command_forms::ERO;
 use command_forms::Verb;
 use command_forms::is_formed;
@@ -74,10 +74,10 @@ pub fn parse(line: &[u8]) -> Command
     }
     let verb = verb_at(place);
     let ero = same(word(line, SPACE, 1), &ERO);
-    let one = value(word(line, SPACE, 1));
-    let two = value(word(line, SPACE, 2));
-    let three = value(word(line, SPACE, 3));
-    let four = value(word(line, SPACE, 4));
+    let one = number_at(line, 1);
+    let two = number_at(line, 2);
+    let three = number_at(line, 3);
+    let four = number_at(line, 4);
     Command {
         verb: verb,
         ero: ero,
@@ -86,6 +86,13 @@ pub fn parse(line: &[u8]) -> Command
         three: three,
         four: four,
     }
+}
+
+// The number that word `i` says, 0 where it says none.
+pub fn number_at(line: &[u8], i: usize) -> u64
+    ensures number { λ r. ⌜ r ≡ numberIn (now (line .entry)) i ⌝ }
+{
+    value(word(line, SPACE, i))
 }
 
 // The octets that word `i` spells, laid over the start of `out`, and their number.

@@ -15,7 +15,7 @@ use Rattle.words.proofs.Laws.{laterWords, allWords, all-word}
 use Rattle.command_forms.specs.declared.verb.Verb.{Verb}
 use Rattle.command_forms.specs.declared.verb.Verb.the-variants as v
 use Rattle.command_forms.specs.Forms.{Row, rows, verbNamed, verbOf, Kind, fits, kindsOf, fitFrom, formed}
-use Rattle.command_forms.specs.Forms.Kind.{number, bit, octet, two, size, octets, side, sid, nai, structure}
+use Rattle.command_forms.specs.Forms.Kind.{number, bit, octet, twoOctets, size, octets, side, sid, nai, structure}
 use Rattle.command_forms.specs.Rows.{placeNamed, verbIn, verbAt, letter, kinds, fitsAny, fitsLetter}
 
 -- ## The text of the table
@@ -101,9 +101,9 @@ elsewhere i k [] A h = (λ j n e. omega arith, h)
 elsewhere i k (r ∷ rs) A h =
     let f = elsewhere i (suc k) rs (A × (i ≡ k → ⊥)) h in
     (go (f .0) (f .1 .1), f .1 .0) where
-  go : ((j : ℕ) → j < length rs → i ≡ suc k + j → ⊥) → (i ≡ k → ⊥) → (j : ℕ) → j < suc (length rs) → i ≡ k + j → ⊥
-  go f g zero n e = g (omega arith)
-  go f g (suc j) n e = f j (omega arith) (omega arith)
+      go : ((j : ℕ) → j < length rs → i ≡ suc k + j → ⊥) → (i ≡ k → ⊥) → (j : ℕ) → j < suc (length rs) → i ≡ k + j → ⊥
+      go f g zero n e = g (omega arith)
+      go f g (suc j) n e = f j (omega arith) (omega arith)
 
 pub no-place : (i : ℕ) → Elsewhere i 0 rows Unit → v.Bad ≡ verbAt i
 no-place i h = verb-past rows i (λ j n e. elsewhere i 0 rows Unit h .0 j n (omega arith))
@@ -154,7 +154,7 @@ unfolding fitsLetter
 letter-fits number w = refl
 letter-fits bit w = refl
 letter-fits octet w = refl
-letter-fits two w = refl
+letter-fits twoOctets w = refl
 letter-fits size w = refl
 letter-fits octets w = refl
 letter-fits side w = refl

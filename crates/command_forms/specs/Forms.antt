@@ -4,7 +4,7 @@ use mathlib.Core.Bool.{Bool, true, false, cond, not, _&&_, _||_}
 use mathlib.Core.List.{List, [], _∷_}
 use lib.Dec.{eqb}
 use lib.ListN.{length}
-use Rattle.words.specs.Words.{space, spelt, wordOf, wordsIn, sameOf}
+use Rattle.words.specs.Words.{space, ascii, wordOf, wordsIn, sameOf}
 use Rattle.decimal.specs.Decimal.{isNumber, isAtMost, isStructure}
 use Rattle.hexadecimal.specs.Hexadecimal.{isOctets, isSid, isNai}
 use Rattle.command_forms.specs.declared.verb.Verb.{Verb}
@@ -19,23 +19,23 @@ pub record Row : Type 0 where
 
 abbrev pub rows : List Row
 rows =
-    record { name = spelt "pcc"; verb = v.Pcc } ∷
-    record { name = spelt "pce"; verb = v.Pce } ∷
-    record { name = spelt "ero"; verb = v.Ero } ∷
-    record { name = spelt "rro"; verb = v.Rro } ∷
-    record { name = spelt "ero-segment"; verb = v.EroSegment } ∷
-    record { name = spelt "rro-segment"; verb = v.RroSegment } ∷
-    record { name = spelt "begin"; verb = v.Begin } ∷
-    record { name = spelt "add"; verb = v.Add } ∷
-    record { name = spelt "finish"; verb = v.Finish } ∷
-    record { name = spelt "lent"; verb = v.Lent } ∷
-    record { name = spelt "report"; verb = v.Report } ∷
-    record { name = spelt "remove"; verb = v.Remove } ∷
-    record { name = spelt "compact"; verb = v.Compact } ∷
-    record { name = spelt "body"; verb = v.Body } ∷
-    record { name = spelt "next"; verb = v.Next } ∷
-    record { name = spelt "mark"; verb = v.Mark } ∷
-    record { name = spelt "board"; verb = v.Board } ∷
+    record { name = ascii "pcc"; verb = v.Pcc } ∷
+    record { name = ascii "pce"; verb = v.Pce } ∷
+    record { name = ascii "ero"; verb = v.Ero } ∷
+    record { name = ascii "rro"; verb = v.Rro } ∷
+    record { name = ascii "ero-segment"; verb = v.EroSegment } ∷
+    record { name = ascii "rro-segment"; verb = v.RroSegment } ∷
+    record { name = ascii "begin"; verb = v.Begin } ∷
+    record { name = ascii "add"; verb = v.Add } ∷
+    record { name = ascii "finish"; verb = v.Finish } ∷
+    record { name = ascii "lent"; verb = v.Lent } ∷
+    record { name = ascii "report"; verb = v.Report } ∷
+    record { name = ascii "remove"; verb = v.Remove } ∷
+    record { name = ascii "compact"; verb = v.Compact } ∷
+    record { name = ascii "body"; verb = v.Body } ∷
+    record { name = ascii "next"; verb = v.Next } ∷
+    record { name = ascii "mark"; verb = v.Mark } ∷
+    record { name = ascii "board"; verb = v.Board } ∷
     []
 
 -- The command of the first row that has this name; `Bad` where none has it.
@@ -50,11 +50,11 @@ verbOf w = verbNamed rows w
 
 -- `ero`
 abbrev pub theEro : List ℕ
-theEro = spelt "ero"
+theEro = ascii "ero"
 
 -- `rro`
 abbrev pub theRro : List ℕ
-theRro = spelt "rro"
+theRro = ascii "rro"
 
 -- the most octets of a buffer
 abbrev pub mostSize : ℕ
@@ -69,7 +69,7 @@ pub data Kind : Type 0 where
   -- 0 to 255
   octet : Kind
   -- 0 to 65,535
-  two : Kind
+  twoOctets : Kind
   -- SIZE, 0 to 65,536
   size : Kind
   -- OCTETS
@@ -84,7 +84,7 @@ abbrev pub fits : Kind → List ℕ → Bool
 fits number w = isNumber w
 fits bit w = isAtMost 1 w
 fits octet w = isAtMost 255 w
-fits two w = isAtMost 65535 w
+fits twoOctets w = isAtMost 65535 w
 fits size w = isAtMost mostSize w
 fits octets w = isOctets w
 fits side w = sameOf w theEro || sameOf w theRro
@@ -103,7 +103,7 @@ kindsOf v.Rro = number ∷ octets ∷ []
 kindsOf v.EroSegment = number ∷ number ∷ octets ∷ []
 kindsOf v.RroSegment = number ∷ number ∷ octets ∷ []
 kindsOf v.Begin = side ∷ size ∷ []
-kindsOf v.Add = bit ∷ bit ∷ octet ∷ two ∷ sid ∷ nai ∷ structure ∷ []
+kindsOf v.Add = bit ∷ bit ∷ octet ∷ twoOctets ∷ sid ∷ nai ∷ structure ∷ []
 kindsOf v.Finish = []
 kindsOf v.Lent = []
 kindsOf v.Report = number ∷ number ∷ octets ∷ []

@@ -5,7 +5,7 @@ use mathlib.Core.Bool.{Bool, false, cond}
 use mathlib.Core.List.{List, [], _∷_}
 use lib.Dec.{eqb}
 use Rattle.command_forms.specs.Forms.{Row, rows, Kind, fits}
-use Rattle.command_forms.specs.Forms.Kind.{number, bit, octet, two, size, octets, side, sid, nai, structure}
+use Rattle.command_forms.specs.Forms.Kind.{number, bit, octet, twoOctets, size, octets, side, sid, nai, structure}
 use Rattle.command_forms.specs.declared.verb.Verb.{Verb}
 use Rattle.command_forms.specs.declared.verb.Verb.the-variants as v
 use Rattle.words.specs.Words.{sameOf}
@@ -29,7 +29,7 @@ abbrev pub letter : Kind → ℕ
 letter number = code "n"
 letter bit = code "1"
 letter octet = code "8"
-letter two = code "6"
+letter twoOctets = code "6"
 letter size = code "z"
 letter octets = code "o"
 letter side = code "e"
@@ -39,7 +39,7 @@ letter structure = code "t"
 
 -- all kinds
 abbrev pub kinds : List Kind
-kinds = number ∷ bit ∷ octet ∷ two ∷ size ∷ octets ∷ side ∷ sid ∷ nai ∷ structure ∷ []
+kinds = number ∷ bit ∷ octet ∷ twoOctets ∷ size ∷ octets ∷ side ∷ sid ∷ nai ∷ structure ∷ []
 
 -- Is this word of the first of these kinds that has this letter?
 abbrev pub fitsAny : List Kind → ℕ → List ℕ → Bool

@@ -20,7 +20,7 @@ use Rattle.board_rules.specs.declared.answer.Handed.the-variants.{Refused, Path
 use Rattle.board_rules.specs.Body.{bodyNumber, bodyOf}
 use Rattle.board_rules.specs.Next.{nextAnswer, freshMark}
 use Rattle.printing.specs.Text.{spell, decimalOf, glyphOf, hexOf, octetsText}
-use Rattle.words.specs.Words.{newline, space, comma}
+use Rattle.words.specs.Words.{newline, space, comma, ascii}
 use Rattle.console_lines.specs.Lines.{lineOf, acceptance, refusalLine, badLine, doneLine, oneLine, twoLine, octetsLine}
 use Rattle.console_fields.specs.Shown.{bitOf, limitText, openLine, openedLine, structureText, segmentLine}
 use Rattle.command_forms.specs.declared.verb.Verb.{Verb}
@@ -139,7 +139,9 @@ refusal-one number place = line-one (decimalOf place ∷ []) (decimalOf number) 
 
 bad-one : (n : ℕ) → OneLine (badLine n)
 unfolding clear
-bad-one n = line-one ((108 ∷ 105 ∷ 110 ∷ 101 ∷ []) ∷ decimalOf n ∷ []) (98 ∷ 97 ∷ 100 ∷ []) refl (all-cons (108 ∷ 105 ∷ 110 ∷ 101 ∷ []) (decimalOf n ∷ []) refl (all-cons (decimalOf n) [] (clear-decimal n) all-none))
+bad-one n =
+    line-one (ascii "line" ∷ decimalOf n ∷ []) (ascii "bad") refl
+    (all-cons (ascii "line") (decimalOf n ∷ []) refl (all-cons (decimalOf n) [] (clear-decimal n) all-none))
 
 number-one : (n : ℕ) → OneLine (oneLine n)
 number-one n = accepted-one (decimalOf n ∷ []) (all-cons (decimalOf n) [] (clear-decimal n) all-none)
@@ -200,9 +202,9 @@ place-one w = answer-one (w .verdict) (oneLine (w .writer .at)) (number-one (w .
 handed-one : (store : List ℕ) (h : Handed) → OneLine (handedLine store h)
 unfolding clear
 handed-one store (Refused w) = refusal-one (w .number) (w .place)
-handed-one store (Path c o) = accepted-one ((112 ∷ 97 ∷ 116 ∷ 104 ∷ []) ∷ _) (all-cons (112 ∷ 97 ∷ 116 ∷ 104 ∷ []) _ refl (numbers-clear (c .key) (c .version) _ (octets-clear _)))
-handed-one store (Removed c) = accepted-one ((114 ∷ 101 ∷ 109 ∷ 111 ∷ 118 ∷ 101 ∷ 100 ∷ []) ∷ _) (all-cons (114 ∷ 101 ∷ 109 ∷ 111 ∷ 118 ∷ 101 ∷ 100 ∷ []) _ refl (numbers-clear (c .key) (c .version) [] all-none))
-handed-one store (Level n) = accepted-one ((108 ∷ 101 ∷ 118 ∷ 101 ∷ 108 ∷ []) ∷ decimalOf n ∷ []) (all-cons (108 ∷ 101 ∷ 118 ∷ 101 ∷ 108 ∷ []) (decimalOf n ∷ []) refl (all-cons (decimalOf n) [] (clear-decimal n) all-none))
+handed-one store (Path c o) = accepted-one (ascii "path" ∷ _) (all-cons (ascii "path") _ refl (numbers-clear (c .key) (c .version) _ (octets-clear _)))
+handed-one store (Removed c) = accepted-one (ascii "removed" ∷ _) (all-cons (ascii "removed") _ refl (numbers-clear (c .key) (c .version) [] all-none))
+handed-one store (Level n) = accepted-one (ascii "level" ∷ decimalOf n ∷ []) (all-cons (ascii "level") (decimalOf n ∷ []) refl (all-cons (decimalOf n) [] (clear-decimal n) all-none))
 
 -- ## Turns
 

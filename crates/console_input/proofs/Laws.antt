@@ -49,7 +49,10 @@ hear-on : (g : Heard) (p xs : List ℕ) → length (untilMark newline xs) < leng
 unfolding hearAll untilMark behindMark
 hear-on g p [] h = absurd (omega arith)
 hear-on g p (x ∷ xs) h = go (eqb x newline) refl (λ k. hear-on g (p ++ (x ∷ [])) xs k) where
-  go : (t : Bool) → eqb x newline ≡ t → (length (untilMark newline xs) < length xs → hearAll (longer g (p ++ (x ∷ []))) xs ≡ hearAll (ended (longer g ((p ++ (x ∷ [])) ++ untilMark newline xs))) (behindMark newline xs)) → hearAll (longer g p) (x ∷ xs) ≡ hearAll (ended (longer g (p ++ untilMark newline (x ∷ xs)))) (behindMark newline (x ∷ xs))
+  go : (t : Bool) → eqb x newline ≡ t
+      → (length (untilMark newline xs) < length xs
+      → hearAll (longer g (p ++ (x ∷ []))) xs ≡ hearAll (ended (longer g ((p ++ (x ∷ [])) ++ untilMark newline xs))) (behindMark newline xs))
+      → hearAll (longer g p) (x ∷ xs) ≡ hearAll (ended (longer g (p ++ untilMark newline (x ∷ xs)))) (behindMark newline (x ∷ xs))
   go true e ih = rw (e, append-nil)
   go false e ih =
       let k = rw e at h in
@@ -60,7 +63,9 @@ hear-in : (g : Heard) (p xs : List ℕ) → length xs ≤ length (untilMark newl
 unfolding hearAll untilMark
 hear-in g p [] h = rw append-nil
 hear-in g p (x ∷ xs) h = go (eqb x newline) refl (λ k. hear-in g (p ++ (x ∷ [])) xs k) where
-  go : (t : Bool) → eqb x newline ≡ t → (length xs ≤ length (untilMark newline xs) → hearAll (longer g (p ++ (x ∷ []))) xs ≡ longer g ((p ++ (x ∷ [])) ++ untilMark newline xs)) → hearAll (longer g p) (x ∷ xs) ≡ longer g (p ++ untilMark newline (x ∷ xs))
+  go : (t : Bool) → eqb x newline ≡ t
+      → (length xs ≤ length (untilMark newline xs) → hearAll (longer g (p ++ (x ∷ []))) xs ≡ longer g ((p ++ (x ∷ [])) ++ untilMark newline xs))
+      → hearAll (longer g p) (x ∷ xs) ≡ longer g (p ++ untilMark newline (x ∷ xs))
   go true e ih = let k = rw e at h in absurd (omega arith)
   go false e ih =
       let k = rw e at h in
@@ -71,8 +76,14 @@ say-on : (g : Heard) (p xs : List ℕ) → length (untilMark newline xs) < lengt
 unfolding sayAll untilMark behindMark
 say-on g p [] h = absurd (omega arith)
 say-on g p (x ∷ xs) h = go (eqb x newline) refl (λ k. say-on g (p ++ (x ∷ [])) xs k) where
-  go : (t : Bool) → eqb x newline ≡ t → (length (untilMark newline xs) < length xs → sayAll (longer g (p ++ (x ∷ []))) xs ≡ turnNow (longer g ((p ++ (x ∷ [])) ++ untilMark newline xs)) .answer ++ sayAll (ended (longer g ((p ++ (x ∷ [])) ++ untilMark newline xs))) (behindMark newline xs))
-      → sayAll (longer g p) (x ∷ xs) ≡ turnNow (longer g (p ++ untilMark newline (x ∷ xs))) .answer ++ sayAll (ended (longer g (p ++ untilMark newline (x ∷ xs)))) (behindMark newline (x ∷ xs))
+  go : (t : Bool) → eqb x newline ≡ t
+      → (length (untilMark newline xs) < length xs
+      → sayAll (longer g (p ++ (x ∷ []))) xs
+      ≡ turnNow (longer g ((p ++ (x ∷ [])) ++ untilMark newline xs)) .answer
+      ++ sayAll (ended (longer g ((p ++ (x ∷ [])) ++ untilMark newline xs))) (behindMark newline xs))
+      → sayAll (longer g p) (x ∷ xs)
+      ≡ turnNow (longer g (p ++ untilMark newline (x ∷ xs))) .answer
+      ++ sayAll (ended (longer g (p ++ untilMark newline (x ∷ xs)))) (behindMark newline (x ∷ xs))
   go true e ih = rw (e, append-nil)
   go false e ih =
       let k = rw e at h in

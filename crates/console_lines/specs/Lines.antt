@@ -1,7 +1,7 @@
 -- The lines that the programs answer by (console.md, the table's last column; document 01, the checking program).
 use Prim.Native.Nat.{ℕ}
 use mathlib.Core.List.{List, [], _∷_, _++_}
-use Rattle.words.specs.Words.{newline, spelt}
+use Rattle.words.specs.Words.{newline, ascii}
 use Rattle.answers.specs.declared.verdict.Verdict.{Verdict}
 use Rattle.printing.specs.Text.{decimalOf, octetsText, spaced}
 
@@ -32,7 +32,7 @@ refusalLine number place = lineOf (decimalOf number) (decimalOf place ∷ [])
 
 -- `bad line N`
 abbrev pub badLine : ℕ → List ℕ
-badLine n = lineOf (spelt "bad") (spelt "line" ∷ decimalOf n ∷ [])
+badLine n = lineOf (ascii "bad") (ascii "line" ∷ decimalOf n ∷ [])
 
 -- `0 0`
 abbrev pub doneLine : List ℕ
@@ -52,15 +52,15 @@ octetsLine s = acceptance (octetsText s ∷ [])
 
 -- `0 0 path KEY VERSION OCTETS`
 abbrev pub pathLine : ℕ → ℕ → List ℕ → List ℕ
-pathLine key version s = acceptance (spelt "path" ∷ decimalOf key ∷ decimalOf version ∷ octetsText s ∷ [])
+pathLine key version s = acceptance (ascii "path" ∷ decimalOf key ∷ decimalOf version ∷ octetsText s ∷ [])
 
 -- `0 0 removed KEY VERSION`
 abbrev pub removedLine : ℕ → ℕ → List ℕ
-removedLine key version = acceptance (spelt "removed" ∷ decimalOf key ∷ decimalOf version ∷ [])
+removedLine key version = acceptance (ascii "removed" ∷ decimalOf key ∷ decimalOf version ∷ [])
 
 -- `0 0 level VERSION`
 abbrev pub levelLine : ℕ → List ℕ
-levelLine version = acceptance (spelt "level" ∷ decimalOf version ∷ [])
+levelLine version = acceptance (ascii "level" ∷ decimalOf version ∷ [])
 
 -- The checking program's line: "number, place, count"
 abbrev pub verdictLine : Verdict → List ℕ

@@ -13,7 +13,7 @@ use Rattle.hexadecimal.specs.Hexadecimal.{octetsOf, isOctets, isSid, isNai}
 use Rattle.command_forms.specs.declared.verb.Verb.{Verb}
 use Rattle.command_forms.specs.declared.verb.Verb.the-variants as v
 use Rattle.command_forms.specs.Forms.{mostSize, verbOf, Kind, fits, kindsOf, formed, fitFrom}
-use Rattle.command_forms.specs.Forms.Kind.{bit, octet, two, size, side, sid, nai, structure}
+use Rattle.command_forms.specs.Forms.Kind.{bit, octet, twoOctets, size, side, sid, nai, structure}
 use Rattle.command.specs.declared.Command.{Command}
 use Rattle.command.specs.Commands.{skipped, longest, bare, commanded, commandOf}
 use Rattle.console_writer.specs.Composing.{AddForm}
@@ -88,10 +88,10 @@ begin-size line {c} p q =
 
 add-at : (line : List ℕ) → formed (kindsOf v.Add) line ≡ true → AddForm (commanded line) line
 add-at line e =
-    let l = fit-word bit (bit ∷ octet ∷ two ∷ sid ∷ nai ∷ structure ∷ []) line 1 (fit-words (kindsOf v.Add) line e) in
-    let m = fit-word bit (octet ∷ two ∷ sid ∷ nai ∷ structure ∷ []) line 2 (l .1) in
-    let t = fit-word octet (two ∷ sid ∷ nai ∷ structure ∷ []) line 3 (m .1) in
-    let b = fit-word two (sid ∷ nai ∷ structure ∷ []) line 4 (t .1) in
+    let l = fit-word bit (bit ∷ octet ∷ twoOctets ∷ sid ∷ nai ∷ structure ∷ []) line 1 (fit-words (kindsOf v.Add) line e) in
+    let m = fit-word bit (octet ∷ twoOctets ∷ sid ∷ nai ∷ structure ∷ []) line 2 (l .1) in
+    let t = fit-word octet (twoOctets ∷ sid ∷ nai ∷ structure ∷ []) line 3 (m .1) in
+    let b = fit-word twoOctets (sid ∷ nai ∷ structure ∷ []) line 4 (t .1) in
     let s = fit-word sid (nai ∷ structure ∷ []) line 5 (b .1) in
     let n = fit-word nai (structure ∷ []) line 6 (s .1) in
     record { nt = at-most 255 _ (t .0); behaviour = at-most 65535 _ (b .0); sid = sid-short _ (s .0); nai = nai-short _ (n .0) }

@@ -26,9 +26,9 @@ abbrev pub newline : ℕ
 newline = 10
 
 -- The octets of a text.
-abbrev pub spelt : String → List ℕ
-spelt end = []
-spelt (c then cs) = code c ∷ spelt cs
+abbrev pub ascii : String → List ℕ
+ascii end = []
+ascii (c then cs) = code c ∷ ascii cs
 
 -- ## Words
 

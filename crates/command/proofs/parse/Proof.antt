@@ -1,7 +1,7 @@
+-- One law of `Laws` for each of the four ways in which a reading ends. The row's place gives the verb and the form (`verb-named`).
 use Rattle.command.proofs.Laws.{made}
 use Prim.Native.Nat.{ℕ}
 use mathlib.Core.List.{List}
-use Rattle.decimal.specs.Decimal.{valueOf}
 use Rattle.words.specs.Words.{sameOf}
 use Rattle.command_forms.specs.Forms.{rows, verbOf, theEro}
 use Rattle.command_forms.specs.Rows.{placeNamed, verbAt}
@@ -62,46 +62,32 @@ slice-aggregate-same c = search needs
 same-requires : tie.Need-same-requires
 same-requires c κs = search needs
 
-word-requires-3 : tie.Need-word-requires-3
-word-requires-3 c κs = search needs
+number-at-requires : tie.Need-number-at-requires
+number-at-requires c κs = search needs
 
-value-requires : tie.Need-value-requires
-value-requires c κs = search needs
+number-at-requires-2 : tie.Need-number-at-requires-2
+number-at-requires-2 c κs = search needs
 
-word-requires-4 : tie.Need-word-requires-4
-word-requires-4 c κs = search needs
+number-at-requires-3 : tie.Need-number-at-requires-3
+number-at-requires-3 c κs = search needs
 
-value-requires-2 : tie.Need-value-requires-2
-value-requires-2 c κs = search needs
-
-word-requires-5 : tie.Need-word-requires-5
-word-requires-5 c κs = search needs
-
-value-requires-3 : tie.Need-value-requires-3
-value-requires-3 c κs = search needs
-
-word-requires-6 : tie.Need-word-requires-6
-word-requires-6 c κs = search needs
-
-value-requires-4 : tie.Need-value-requires-4
-value-requires-4 c κs = search needs
+number-at-requires-4 : tie.Need-number-at-requires-4
+number-at-requires-4 c κs = search needs
 
 returns-4 : tie.Need-returns-4
 returns-4 c =
-    let before5 = c .before .before .before .before .before in
-    let before10 = before5 .before .before .before .before .before in
-    let before15 = before10 .before .before .before .before .before in
-    let e = ap verbAt (before10 .before .before .before .before .place-named .ensures ∙ ap (placeNamed rows) (before15 .word .ensures .0)) ∙ verb-named _ in
-    made _ (before10 .before .verb-at .ensures ∙ e)
-    (before5 .before .before .before .same .ensures
-    ∙ ap (λ (w : List ℕ). sameOf w theEro) (before10 .word2 .ensures .0))
-    (before5 .before .value .ensures ∙ ap valueOf (before5 .before .before .word3 .ensures .0))
-    (c .before .before .before .before .value2 .ensures ∙ ap valueOf (before5 .word4 .ensures .0))
-    (c .before .before .value3 .ensures ∙ ap valueOf (c .before .before .before .word5 .ensures .0))
-    (c .value4 .ensures ∙ ap valueOf (c .before .word6 .ensures .0))
-    ∙ read-in-form _ (sym (before15 .before .before .before .is-skipped .ensures) ∙ before15 .before .before .if1 .left)
-    (before15 .before .if2 .left)
-    (rw (← e) (sym (before10 .before .before .before .is-formed .ensures) ∙ not-false _ (before10 .before .before .if3 .left)))
+    let before6 = c .before .before .before .before .before .before in
+    let before11 = before6 .before .before .before .before .before in
+    let e = ap verbAt (before6 .before .before .before .before .place-named .ensures ∙ ap (placeNamed rows) (before11 .word .ensures .0))
+    ∙ verb-named _ in
+    made _ (before6 .before .verb-at .ensures ∙ e)
+    (c .before .before .before .before .same .ensures
+    ∙ ap (λ (w : List ℕ). sameOf w theEro) (before6 .word2 .ensures .0))
+    (c .before .before .before .number-at .ensures) (c .before .before .number-at2 .ensures)
+    (c .before .number-at3 .ensures) (c .number-at4 .ensures)
+    ∙ read-in-form _ (sym (before11 .before .before .before .is-skipped .ensures) ∙ before11 .before .before .if1 .left)
+    (before11 .before .if2 .left)
+    (rw (← e) (sym (before6 .before .before .before .is-formed .ensures) ∙ not-false _ (before6 .before .before .if3 .left)))
 
 pub parse-spec : {M : Type 1} → statement M
 parse-spec =
@@ -121,12 +107,8 @@ parse-spec =
     word-requires-2
     slice-aggregate-same
     same-requires
-    word-requires-3
-    value-requires
-    word-requires-4
-    value-requires-2
-    word-requires-5
-    value-requires-3
-    word-requires-6
-    value-requires-4
+    number-at-requires
+    number-at-requires-2
+    number-at-requires-3
+    number-at-requires-4
     returns-4)

@@ -1,5 +1,6 @@
+-- One arm for each letter: `by-letter` turns what the test ensures into the kind's own test. In the last arm the letter is that of no kind.
 use Rattle.command_forms.proofs.Laws.{by-letter, no-letter}
-use Rattle.command_forms.specs.Forms.Kind.{number, bit, octet, two, size, octets, side, sid, nai, structure}
+use Rattle.command_forms.specs.Forms.Kind.{number, bit, octet, twoOctets, size, octets, side, sid, nai, structure}
 use Rattle.decimal.proofs.Laws.{or}
 use borrow.Author.Needs.{needs}
 use Rattle.command_forms.proofs.form.fits.Statement.{statement}
@@ -57,7 +58,7 @@ returns-3 : tie.Need-returns-3
 returns-3 c = by-letter octet _ (c .before .match .keys3) (c .at-most2 .ensures)
 
 returns-4 : tie.Need-returns-4
-returns-4 c = by-letter two _ (c .before .match .keys4) (c .at-most3 .ensures)
+returns-4 c = by-letter twoOctets _ (c .before .match .keys4) (c .at-most3 .ensures)
 
 returns-5 : tie.Need-returns-5
 returns-5 c = by-letter size _ (c .before .match .keys5) (c .at-most4 .ensures)

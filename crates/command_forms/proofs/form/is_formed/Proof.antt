@@ -1,3 +1,5 @@
+-- The letters of the row's form are found in the table's text (`form-in`). Then a walk over them: `Fitting` says that what is left of the letters gives
+-- the whole answer, with one law for each way out of a turn.
 use Rattle.command_forms.proofs.Laws.{form-in, Fitting, other-number, fitting-start, fitting-miss, fitting-hit, fitting-end}
 use Rattle.command_forms.specs.Forms.{kindsOf}
 use Rattle.command_forms.specs.Rows.{verbAt, letter, fitsLetter}
@@ -33,13 +35,13 @@ add-if1 : tie.Need-add-if1 Inv-loop μ-loop
 add-if1 c = search needs
 
 returns : tie.Need-returns Inv-loop μ-loop
-returns c = 
+returns c =
     let a = c .before .before .before .before .before .before .args in
     let e = form-in (a .place) refl (c .before .before .before .word .ensures .0) (c .before .before .word2 .ensures .0) in
     other-number (a .place) _ (a .line .now) e (λ h. c .if1 .taken (c .before .count .ensures ∙ h))
 
 loop-holds : tie.Need-loop-holds Inv-loop μ-loop
-loop-holds c = 
+loop-holds c =
     let a = c .before .before .before .before .before .before .args in
     let e = form-in (a .place) refl (c .before .before .before .word .ensures .0) (c .before .before .word2 .ensures .0) in
     (e, fitting-start (a .place) _ (a .line .now) e (sym (c .before .count .ensures) ∙ c .if1 .left))
@@ -57,7 +59,7 @@ fits-requires : tie.Need-fits-requires Inv-loop μ-loop
 fits-requires c κs = search needs
 
 returns-2 : tie.Need-returns-2 Inv-loop μ-loop
-returns-2 c = 
+returns-2 c =
     let before5 = c .before .before .before .before .before in
     let a = before5 .before .before .before .before .before .before .before .args in
     let e = c .before .fits2 .ensures ∙ ap (fitsLetter _) (c .before .before .word3 .ensures .0) in
@@ -71,18 +73,17 @@ loop-less : tie.Need-loop-less Inv-loop μ-loop
 loop-less c = omega arith
 
 loop-again : tie.Need-loop-again Inv-loop μ-loop
-loop-again c = 
+loop-again c =
     let before5 = c .before .before .before .before .before in
     let a = before5 .before .before .before .before .before .before .before .args in
-    let e = c .before .fits2 .ensures ∙ ap (fitsLetter _) (c .before .before .word3 .ensures .0) in
-    (
+    let e = c .before .fits2 .ensures ∙ ap (fitsLetter _) (c .before .before .word3 .ensures .0) in (
       before5 .loop .inv .0,
       fitting-hit (a .place) _ (a .line .now) (before5 .loop .inv .0) (before5 .loop .i) (before5 .loop .inv .1)
           (c .before .before .before .before .loop-test .taken) (sym e ∙ not-false _ (c .if2 .left)),
     )
 
 returns-3 : tie.Need-returns-3 Inv-loop μ-loop
-returns-3 c = 
+returns-3 c =
     let a = c .before .before .before .before .before .before .before .before .args in
     fitting-end (a .place) _ (a .line .now) (c .before .loop .inv .0) (c .before .loop .i) (c .before .loop .inv .1) (c .loop-test .left)
 

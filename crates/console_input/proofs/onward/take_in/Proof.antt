@@ -1,3 +1,5 @@
+-- What was read splits at its first newline. With one, the line before it is answered and the rest is heard next (`heard-line`, `said-line`); without
+-- one, all of it is more of the line (`heard-part`, `said-part`).
 use Rattle.console_input.proofs.Laws.{longer-made, heard-line, said-line, heard-part, said-part, text-within}
 use Rattle.console_input.specs.Hearing.{mostKept, heardOf}
 use Rattle.words.specs.Words.{newline, untilMark, wordOf}

@@ -1,3 +1,4 @@
+-- The invariant: the lent lengths stay, what is kept of a line lies within it, and some input leaves the console as it stands.
 use Rattle.console_input.proofs.Laws.{still-ready}
 use Rattle.console_loop.proofs.Laws.{start-made, reached-start}
 use Rattle.console_loop.specs.Reached.{Reached}

@@ -1,3 +1,4 @@
+-- A walk over what was read: what is left of it, heard from here on, gives the whole. All lent lengths stay.
 use Rattle.console_input.proofs.Laws.{still-ready}
 use Rattle.console_loop.proofs.Laws.{heard-all}
 use Rattle.console_input.specs.Hearing.{heardOf, hearAll}

@@ -46,7 +46,9 @@ with-pcc-requires : tie.Need-with-pcc-requires
 with-pcc-requires c κs = tt
 
 opened-requires : tie.Need-opened-requires
-opened-requires c κs = omega (arith, c .before .before .before .before .before .before .before .before .before .before .before .before .before .before .before .before .before .before .before .pre .stored)
+opened-requires c κs =
+    let before10 = c .before .before .before .before .before .before .before .before .before .before in
+    omega (arith, before10 .before .before .before .before .before .before .before .before .before .pre .stored)
 
 ended-requires-3 : tie.Need-ended-requires-3
 ended-requires-3 c κs = tt
