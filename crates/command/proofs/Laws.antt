@@ -11,7 +11,7 @@ use Rattle.words.specs.Words.{space, wordOf, sameOf}
 use Rattle.command_forms.specs.Forms.{theEro, verbOf, kindsOf, formed}
 use Rattle.command_forms.specs.declared.verb.Verb.{Verb}
 use Rattle.command_forms.specs.declared.verb.Verb.the-variants as v
-use Rattle.command.specs.Commands.{hash, skipped, longest, bare, numberIn, commanded, commandOf}
+use Rattle.command.specs.Commands.{hash, skipped, longest, bareCommand, numberAt, commanded, commandOf}
 
 pub skipped-empty : (l : List ℕ) → length l ≡ 0 → true ≡ skipped l
 unfolding skipped
@@ -24,15 +24,15 @@ skipped-first [] h = absurd (h refl)
 skipped-first (c ∷ cs) h = refl
 
 module _ (l : List ℕ) where
-  pub read-skipped : skipped l ≡ true → bare v.Skip ≡ commandOf l
+  pub read-skipped : skipped l ≡ true → bareCommand v.Skip ≡ commandOf l
   unfolding commandOf
   read-skipped e = rw e
 
-  pub read-long : skipped l ≡ false → longest < length l → bare v.Bad ≡ commandOf l
+  pub read-long : skipped l ≡ false → longest < length l → bareCommand v.Bad ≡ commandOf l
   unfolding commandOf
   read-long e h = rw (e, lt-ltb longest (length l) h)
 
-  pub read-out-of-form : skipped l ≡ false → length l ≤ longest → formed (kindsOf (verbOf (wordOf space l 0))) l ≡ false → bare v.Bad ≡ commandOf l
+  pub read-out-of-form : skipped l ≡ false → length l ≤ longest → formed (kindsOf (verbOf (wordOf space l 0))) l ≡ false → bareCommand v.Bad ≡ commandOf l
   unfolding commandOf
   read-out-of-form e h f = rw (e, le-ltb longest (length l) h, f)
 
@@ -41,6 +41,6 @@ module _ (l : List ℕ) where
   read-in-form e h f = rw (e, le-ltb longest (length l) h, f)
 
   pub made : {verb : Verb} {ero : Bool} {one two three four : ℕ} → verb ≡ verbOf (wordOf space l 0) → ero ≡ sameOf (wordOf space l 1) theEro
-      → one ≡ numberIn l 1 → two ≡ numberIn l 2 → three ≡ numberIn l 3 → four ≡ numberIn l 4
+      → one ≡ numberAt l 1 → two ≡ numberAt l 2 → three ≡ numberAt l 3 → four ≡ numberAt l 4
       → record { verb = verb; ero = ero; one = one; two = two; three = three; four = four } ≡ commanded l
   made a b c d e f = λ i. record { verb = a i; ero = b i; one = c i; two = d i; three = e i; four = f i }

@@ -8,7 +8,7 @@ ghost use Rattle.io.specs.Counts.{Counts};
 ghost use Rattle.octets.specs.Octets.{over};
 ghost use Rattle.words.specs.Words.{space, wordOf};
 ghost use Rattle.hexadecimal.specs.Hexadecimal.{octetsOf};
-ghost use Rattle.command.specs.Commands.{commandOf, skipped, bare, numberIn};
+ghost use Rattle.command.specs.Commands.{commandOf, skipped, bareCommand, numberAt};
 use command_forms::ERO;
 use command_forms::Verb;
 use command_forms::is_formed;
@@ -46,7 +46,7 @@ fn is_skipped(line: &[u8]) -> bool
 }
 
 fn alone(verb: Verb) -> Command
-    ensures bare { λ r. ⌜ r ≡ bare verb ⌝ }
+    ensures bare { λ r. ⌜ r ≡ bareCommand verb ⌝ }
 {
     Command {
         verb: verb,
@@ -90,7 +90,7 @@ pub fn parse(line: &[u8]) -> Command
 
 // The number that word `i` says, 0 where it says none.
 pub fn number_at(line: &[u8], i: usize) -> u64
-    ensures number { λ r. ⌜ r ≡ numberIn (now (line .entry)) i ⌝ }
+    ensures number { λ r. ⌜ r ≡ numberAt (now (line .entry)) i ⌝ }
 {
     value(word(line, SPACE, i))
 }

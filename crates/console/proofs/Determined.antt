@@ -7,7 +7,7 @@ use mathlib.Core.List.{List}
 use lib.ListN.{length, take}
 use Rattle.octets.specs.Octets.{over}
 use Rattle.words.specs.Words.{space, wordOf}
-use Rattle.decimal.specs.Decimal.{valueOf, structureOf}
+use Rattle.decimal.specs.Decimal.{decimalValue, structureOf}
 use Rattle.hexadecimal.specs.Hexadecimal.{isOctets, octetsOf}
 use Rattle.printing.specs.Text.{Behind}
 use Rattle.command.specs.Commands.{commandOf}
@@ -19,7 +19,7 @@ use Rattle.console_turn.specs.Turns.{Does}
 pub word-determined : (m : ℕ) (line : List ℕ) (i : ℕ) {a b : List ℕ} → a ≡ wordOf m line i → b ≡ wordOf m line i → a ≡ b
 word-determined m line i p q = p ∙ sym q
 
-pub value-determined : (w : List ℕ) {a b : ℕ} → a ≡ valueOf w → b ≡ valueOf w → a ≡ b
+pub value-determined : (w : List ℕ) {a b : ℕ} → a ≡ decimalValue w → b ≡ decimalValue w → a ≡ b
 value-determined w p q = p ∙ sym q
 
 pub structure-determined : (w : List ℕ) {a b : List ℕ} → a ≡ structureOf w → b ≡ structureOf w → a ≡ b

@@ -12,13 +12,13 @@ abbrev pub short : ℕ
 short = 128
 
 -- words behind a line's first, and the newline
-abbrev pub onward : List (List ℕ) → List ℕ
-onward [] = newline ∷ []
-onward (w ∷ ws) = spaced w ++ onward ws
+abbrev pub furtherWords : List (List ℕ) → List ℕ
+furtherWords [] = newline ∷ []
+furtherWords (w ∷ ws) = spaced w ++ furtherWords ws
 
 -- words separated by one space, and the newline
 abbrev pub lineOf : List ℕ → List (List ℕ) → List ℕ
-lineOf w ws = w ++ onward ws
+lineOf w ws = w ++ furtherWords ws
 
 -- "Every acceptance begins `0 0`"
 abbrev pub acceptance : List (List ℕ) → List ℕ

@@ -8,14 +8,14 @@ use lib.ListN.{length}
 use native.Mathlib.Omega.{arith}
 use borrow.Author.Tests.{eqb-true, leb-true}
 use Rattle.words.specs.Words.{space, dash, wordOf, wordsIn, sameOf}
-use Rattle.decimal.specs.Decimal.{isAtMost, isNumber, isNone, valueOf}
+use Rattle.decimal.specs.Decimal.{isAtMost, isNumber, isNone, decimalValue}
 use Rattle.hexadecimal.specs.Hexadecimal.{octetsOf, isOctets, isSid, isNai}
 use Rattle.command_forms.specs.declared.verb.Verb.{Verb}
 use Rattle.command_forms.specs.declared.verb.Verb.the-variants as v
 use Rattle.command_forms.specs.Forms.{mostSize, verbOf, Kind, fits, kindsOf, formed, fitFrom}
 use Rattle.command_forms.specs.Forms.Kind.{bit, octet, twoOctets, size, side, sid, nai, structure}
 use Rattle.command.specs.declared.Command.{Command}
-use Rattle.command.specs.Commands.{skipped, longest, bare, commanded, commandOf}
+use Rattle.command.specs.Commands.{skipped, longest, bareCommand, commanded, commandOf}
 use Rattle.console_writer.specs.Composing.{AddForm}
 
 and-true : (a b : Bool) → (a && b) ≡ true → (a ≡ true) × (b ≡ true)
@@ -24,9 +24,9 @@ and-true false b e = absurd (let z : _≡_ {A = ℕ} 0 1 = cc in omega arith)
 
 -- ## Words
 
-at-most : (most : ℕ) (w : List ℕ) → isAtMost most w ≡ true → valueOf w ≤ most
+at-most : (most : ℕ) (w : List ℕ) → isAtMost most w ≡ true → decimalValue w ≤ most
 unfolding isAtMost
-at-most most w e = leb-true (valueOf w) most (and-true (isNumber w) _ e .1)
+at-most most w e = leb-true (decimalValue w) most (and-true (isNumber w) _ e .1)
 
 none-empty : (w : List ℕ) → sameOf w (dash ∷ []) ≡ true → length (octetsOf w) ≤ 16
 unfolding sameOf octetsOf
@@ -53,8 +53,8 @@ pub record Formed (c x : Command) (f : Bool) : Type 0 where
   pub form : f ≡ true
 
 chosen : (s l f : Bool) (x : Command) (w : Verb) → (v.Skip ≡ w → ⊥) → (v.Bad ≡ w → ⊥)
-    → cond s (bare v.Skip) (cond l (bare v.Bad) (cond f x (bare v.Bad))) .verb ≡ w
-    → Formed (cond s (bare v.Skip) (cond l (bare v.Bad) (cond f x (bare v.Bad)))) x f
+    → cond s (bareCommand v.Skip) (cond l (bareCommand v.Bad) (cond f x (bareCommand v.Bad))) .verb ≡ w
+    → Formed (cond s (bareCommand v.Skip) (cond l (bareCommand v.Bad) (cond f x (bareCommand v.Bad)))) x f
 chosen true l f x w p q e = absurd (p e)
 chosen false true f x w p q e = absurd (q e)
 chosen false false true x w p q e = record { same = refl; form = refl }
@@ -75,7 +75,7 @@ fit-words ks line e = and-true (eqb (wordsIn space line) (suc (length ks))) (fit
 fit-word : (k : Kind) (ks : List Kind) (line : List ℕ) (i : ℕ) → fitFrom (k ∷ ks) line i ≡ true → (fits k (wordOf space line i) ≡ true) × (fitFrom ks line (suc i) ≡ true)
 fit-word k ks line i e = and-true (fits k (wordOf space line i)) (fitFrom ks line (suc i)) e
 
-begin-at : (line : List ℕ) → formed (kindsOf v.Begin) line ≡ true → valueOf (wordOf space line 2) ≤ mostSize
+begin-at : (line : List ℕ) → formed (kindsOf v.Begin) line ≡ true → decimalValue (wordOf space line 2) ≤ mostSize
 begin-at line e =
     let a = fit-word side (size ∷ []) line 1 (fit-words (kindsOf v.Begin) line e) in
     at-most mostSize (wordOf space line 2) (fit-word size [] line 2 (a .1) .0)

@@ -42,8 +42,8 @@ pceTurn k line = record {
 }
 
 -- "the session" of both halves
-abbrev pub sessionIn : Console → Session
-sessionIn k = sessionOf (k .pcc) (k .pce)
+abbrev pub agreedIn : Console → Session
+agreedIn k = sessionOf (k .pcc) (k .pce)
 
 -- What a command about the writer leaves, and its line.
 abbrev pub composes : Console → Composing → Turned
@@ -70,13 +70,13 @@ turnBy v.Pcc k c line n = pccTurn k line
 -- `pce OCTETS`
 turnBy v.Pce k c line n = pceTurn k line
 -- `ero PST OCTETS`: "judges a route under the session"
-turnBy v.Ero k c line n = stays k (routeLine true (sessionIn k) c line)
+turnBy v.Ero k c line n = stays k (routeLine true (agreedIn k) c line)
 -- `rro PST OCTETS`
-turnBy v.Rro k c line n = stays k (routeLine false (sessionIn k) c line)
+turnBy v.Rro k c line n = stays k (routeLine false (agreedIn k) c line)
 -- `ero-segment PST I OCTETS`: "asks for segment I of a route"
-turnBy v.EroSegment k c line n = stays k (segmentAnswer true (sessionIn k) c line)
+turnBy v.EroSegment k c line n = stays k (segmentAnswer true (agreedIn k) c line)
 -- `rro-segment PST I OCTETS`
-turnBy v.RroSegment k c line n = stays k (segmentAnswer false (sessionIn k) c line)
+turnBy v.RroSegment k c line n = stays k (segmentAnswer false (agreedIn k) c line)
 -- `begin ero SIZE` · `begin rro SIZE`
 turnBy v.Begin k c line n = composes k (beginTurn (k .writer) (k .lent) c)
 -- `add L V NT BEHAVIOUR SID NAI STRUCTURE`: "adds a segment"
@@ -86,7 +86,7 @@ turnBy v.Finish k c line n = composes k (finishTurn (k .writer) (k .lent))
 -- `lent`: "shows the writer's whole buffer"
 turnBy v.Lent k c line n = stays k (lentLine (k .lent))
 -- `report KEY PST OCTETS`: "reports a path to the board"
-turnBy v.Report k c line n = boards k (reportTurn (k .board) (k .store) (sessionIn k) c line)
+turnBy v.Report k c line n = boards k (reportTurn (k .board) (k .store) (agreedIn k) c line)
 -- `remove KEY`
 turnBy v.Remove k c line n = boards k (removeTurn (k .board) (k .store) c)
 -- `compact C`

@@ -30,12 +30,12 @@ placeLine w = answerLine (w .verdict) (oneLine (w .writer .at))
 -- ## Begin
 
 -- `EE`
-abbrev pub fresh : ℕ
-fresh = 0xEE
+abbrev pub freshOctet : ℕ
+freshOctet = 0xEE
 
 -- "a new buffer of SIZE octets, each `EE`"
 unfoldable pub freshBuffer : ℕ → List ℕ
-freshBuffer size = replicate size fresh
+freshBuffer size = replicate size freshOctet
 
 -- `begin ero SIZE` · `begin rro SIZE`: "lends the writer a new buffer of SIZE octets (0 to 65,536), each `EE`, and begins a route in it. Where that is
 -- refused the writer keeps the buffer, the kind and the place that it had"; `0 0 4`
