@@ -5,7 +5,7 @@ fn main() {
     let mut input = io::large_buffer();
     let n = io::read_full(libc::STDIN_FILENO, &mut input);
     let verdict = checker_verdict::check(&input[..n]);
-    let mut out = [0u8; 128];
+    let mut out = [0u8; console_lines::SHORT];
     let end = console_lines::whole(&mut out, verdict);
     io::write_all(libc::STDOUT_FILENO, &out[..end]);
 }

@@ -7,33 +7,32 @@ use lib.Dec.{eqb}
 use lib.ListN.{length, getD}
 use native.Mathlib.Omega.{arith}
 use borrow.Author.Tests.{lt-ltb, le-ltb}
-use Rattle.words.specs.Words.{wordOf, sameOf}
-use Rattle.decimal.specs.Decimal.{valueOf}
-use Rattle.command_forms.specs.Forms.{space, theEro, verbOf, kindsOf, formed}
+use Rattle.words.specs.Words.{space, wordOf, sameOf}
+use Rattle.command_forms.specs.Forms.{theEro, verbOf, kindsOf, formed}
 use Rattle.command_forms.specs.declared.verb.Verb.{Verb}
 use Rattle.command_forms.specs.declared.verb.Verb.the-variants as v
-use Rattle.command.specs.Commands.{skipped, longest, bare, commanded, commandOf}
+use Rattle.command.specs.Commands.{hash, skipped, longest, bareCommand, numberAt, commanded, commandOf}
 
 pub skipped-empty : (l : List ℕ) → length l ≡ 0 → true ≡ skipped l
 unfolding skipped
 skipped-empty [] h = refl
 skipped-empty (c ∷ cs) h = absurd (omega arith)
 
-pub skipped-first : (l : List ℕ) → (length l ≡ 0 → ⊥) → eqb (getD l 0 0) 35 ≡ skipped l
+pub skipped-first : (l : List ℕ) → (length l ≡ 0 → ⊥) → eqb (getD l 0 0) hash ≡ skipped l
 unfolding skipped
 skipped-first [] h = absurd (h refl)
 skipped-first (c ∷ cs) h = refl
 
 module _ (l : List ℕ) where
-  pub read-skipped : skipped l ≡ true → bare v.Skip ≡ commandOf l
+  pub read-skipped : skipped l ≡ true → bareCommand v.Skip ≡ commandOf l
   unfolding commandOf
   read-skipped e = rw e
 
-  pub read-long : skipped l ≡ false → longest < length l → bare v.Bad ≡ commandOf l
+  pub read-long : skipped l ≡ false → longest < length l → bareCommand v.Bad ≡ commandOf l
   unfolding commandOf
   read-long e h = rw (e, lt-ltb longest (length l) h)
 
-  pub read-out-of-form : skipped l ≡ false → length l ≤ longest → formed (kindsOf (verbOf (wordOf space l 0))) l ≡ false → bare v.Bad ≡ commandOf l
+  pub read-out-of-form : skipped l ≡ false → length l ≤ longest → formed (kindsOf (verbOf (wordOf space l 0))) l ≡ false → bareCommand v.Bad ≡ commandOf l
   unfolding commandOf
   read-out-of-form e h f = rw (e, le-ltb longest (length l) h, f)
 
@@ -42,6 +41,6 @@ module _ (l : List ℕ) where
   read-in-form e h f = rw (e, le-ltb longest (length l) h, f)
 
   pub made : {verb : Verb} {ero : Bool} {one two three four : ℕ} → verb ≡ verbOf (wordOf space l 0) → ero ≡ sameOf (wordOf space l 1) theEro
-      → one ≡ valueOf (wordOf space l 1) → two ≡ valueOf (wordOf space l 2) → three ≡ valueOf (wordOf space l 3) → four ≡ valueOf (wordOf space l 4)
+      → one ≡ numberAt l 1 → two ≡ numberAt l 2 → three ≡ numberAt l 3 → four ≡ numberAt l 4
       → record { verb = verb; ero = ero; one = one; two = two; three = three; four = four } ≡ commanded l
   made a b c d e f = λ i. record { verb = a i; ero = b i; one = c i; two = d i; three = e i; four = f i }

@@ -4,37 +4,45 @@ use mathlib.Core.Bool.{Bool, true, false, cond}
 use mathlib.Core.List.{List, [], _∷_}
 use lib.Dec.{eqb, ltb}
 use lib.ListN.{length}
-use Rattle.words.specs.Words.{wordOf, sameOf}
-use Rattle.decimal.specs.Decimal.{valueOf}
-use Rattle.command_forms.specs.Forms.{space, theEro, verbOf, kindsOf, formed}
+use Rattle.words.specs.Words.{space, wordOf, sameOf}
+use Rattle.decimal.specs.Decimal.{decimalValue}
+use Rattle.command_forms.specs.Forms.{theEro, verbOf, kindsOf, formed}
 use Rattle.command_forms.specs.declared.verb.Verb.{Verb}
 use Rattle.command_forms.specs.declared.verb.Verb.the-variants as v
 use Rattle.command.specs.declared.Command.{Command}
 
+-- `#`
+abbrev pub hash : ℕ
+hash = 35
+
 -- "Empty lines, and lines that begin with `#`, are skipped"
 unfoldable pub skipped : List ℕ → Bool
 skipped [] = true
-skipped (c ∷ cs) = eqb c 35
+skipped (c ∷ cs) = eqb c hash
 
 -- the most octets of a line that is no bad line
 abbrev pub longest : ℕ
 longest = 131200
 
-abbrev pub bare : Verb → Command
-bare verb = record { verb = verb; ero = false; one = 0; two = 0; three = 0; four = 0 }
+abbrev pub bareCommand : Verb → Command
+bareCommand verb = record { verb = verb; ero = false; one = 0; two = 0; three = 0; four = 0 }
+
+-- word i of a line as a number
+abbrev pub numberAt : List ℕ → ℕ → ℕ
+numberAt line i = decimalValue (wordOf space line i)
 
 -- A command, with what its first four words behind the name say as numbers, and whether the first is `ero`.
 abbrev pub commanded : List ℕ → Command
 commanded line = record {
   verb = verbOf (wordOf space line 0);
   ero = sameOf (wordOf space line 1) theEro;
-  one = valueOf (wordOf space line 1);
-  two = valueOf (wordOf space line 2);
-  three = valueOf (wordOf space line 3);
-  four = valueOf (wordOf space line 4);
+  one = numberAt line 1;
+  two = numberAt line 2;
+  three = numberAt line 3;
+  four = numberAt line 4;
 }
 
 -- "Any other line that is not one of the commands, in just that form, is a bad line; so is one of more than 131,200 octets."
 unfoldable pub commandOf : List ℕ → Command
-commandOf line = cond (skipped line) (bare v.Skip) (cond (ltb longest (length line)) (bare v.Bad)
-    (cond (formed (kindsOf (verbOf (wordOf space line 0))) line) (commanded line) (bare v.Bad)))
+commandOf line = cond (skipped line) (bareCommand v.Skip) (cond (ltb longest (length line)) (bareCommand v.Bad)
+    (cond (formed (kindsOf (verbOf (wordOf space line 0))) line) (commanded line) (bareCommand v.Bad)))

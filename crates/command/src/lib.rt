@@ -6,19 +6,20 @@ ghost use Prim.Native.Nat.{_*_, _≤_};
 ghost use lib.ListN.{length};
 ghost use Rattle.io.specs.Counts.{Counts};
 ghost use Rattle.octets.specs.Octets.{over};
-ghost use Rattle.words.specs.Words.{wordOf};
+ghost use Rattle.words.specs.Words.{space, wordOf};
 ghost use Rattle.hexadecimal.specs.Hexadecimal.{octetsOf};
-ghost use Rattle.command_forms.specs.Forms.{space};
-ghost use Rattle.command.specs.Commands.{commandOf, skipped, bare};
+ghost use Rattle.command.specs.Commands.{commandOf, skipped, bareCommand, numberAt};
 use command_forms::ERO;
 use command_forms::Verb;
 use command_forms::is_formed;
-use command_forms::named;
+use command_forms::place_named;
+use command_forms::verb_at;
 use decimal::value;
 use words::SPACE;
 use words::same;
 use words::word;
 
+// `#`
 const HASH: u8 = 35;
 
 // the most octets of a line that is no bad line
@@ -45,7 +46,7 @@ fn is_skipped(line: &[u8]) -> bool
 }
 
 fn alone(verb: Verb) -> Command
-    ensures bare { λ r. ⌜ r ≡ bare verb ⌝ }
+    ensures bare { λ r. ⌜ r ≡ bareCommand verb ⌝ }
 {
     Command {
         verb: verb,
@@ -67,15 +68,16 @@ pub fn parse(line: &[u8]) -> Command
     if line.len() > LONGEST {
         return alone(Verb::Bad);
     }
-    let verb = named(word(line, SPACE, 0));
-    if !is_formed(line, verb) {
+    let place = place_named(word(line, SPACE, 0));
+    if !is_formed(line, place) {
         return alone(Verb::Bad);
     }
+    let verb = verb_at(place);
     let ero = same(word(line, SPACE, 1), &ERO);
-    let one = value(word(line, SPACE, 1));
-    let two = value(word(line, SPACE, 2));
-    let three = value(word(line, SPACE, 3));
-    let four = value(word(line, SPACE, 4));
+    let one = number_at(line, 1);
+    let two = number_at(line, 2);
+    let three = number_at(line, 3);
+    let four = number_at(line, 4);
     Command {
         verb: verb,
         ero: ero,
@@ -84,6 +86,13 @@ pub fn parse(line: &[u8]) -> Command
         three: three,
         four: four,
     }
+}
+
+// The number that word `i` says, 0 where it says none.
+pub fn number_at(line: &[u8], i: usize) -> u64
+    ensures number { λ r. ⌜ r ≡ numberAt (now (line .entry)) i ⌝ }
+{
+    value(word(line, SPACE, i))
 }
 
 // The octets that word `i` spells, laid over the start of `out`, and their number.

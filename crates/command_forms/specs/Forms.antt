@@ -4,15 +4,11 @@ use mathlib.Core.Bool.{Bool, true, false, cond, not, _&&_, _||_}
 use mathlib.Core.List.{List, [], _∷_}
 use lib.Dec.{eqb}
 use lib.ListN.{length}
-use Rattle.words.specs.Words.{wordOf, wordsIn, sameOf}
+use Rattle.words.specs.Words.{space, ascii, wordOf, wordsIn, sameOf}
 use Rattle.decimal.specs.Decimal.{isNumber, isAtMost, isStructure}
 use Rattle.hexadecimal.specs.Hexadecimal.{isOctets, isSid, isNai}
 use Rattle.command_forms.specs.declared.verb.Verb.{Verb}
 use Rattle.command_forms.specs.declared.verb.Verb.the-variants as v
-
--- ` `
-abbrev pub space : ℕ
-space = 32
 
 -- ## Names
 
@@ -21,56 +17,64 @@ pub record Row : Type 0 where
   pub name : List ℕ
   pub verb : Verb
 
--- `ero`
-abbrev pub theEro : List ℕ
-theEro = 101 ∷ 114 ∷ 111 ∷ []
-
--- `rro`
-abbrev pub theRro : List ℕ
-theRro = 114 ∷ 114 ∷ 111 ∷ []
-
--- pcc · pce · ero · rro · ero-segment · rro-segment · begin · add
-abbrev pub routeRows : List Row
-routeRows =
-    record { name = 112 ∷ 99 ∷ 99 ∷ []; verb = v.Pcc } ∷
-    record { name = 112 ∷ 99 ∷ 101 ∷ []; verb = v.Pce } ∷
-    record { name = 101 ∷ 114 ∷ 111 ∷ []; verb = v.Ero } ∷
-    record { name = 114 ∷ 114 ∷ 111 ∷ []; verb = v.Rro } ∷
-    record { name = 101 ∷ 114 ∷ 111 ∷ 45 ∷ 115 ∷ 101 ∷ 103 ∷ 109 ∷ 101 ∷ 110 ∷ 116 ∷ []; verb = v.EroSegment } ∷
-    record { name = 114 ∷ 114 ∷ 111 ∷ 45 ∷ 115 ∷ 101 ∷ 103 ∷ 109 ∷ 101 ∷ 110 ∷ 116 ∷ []; verb = v.RroSegment } ∷
-    record { name = 98 ∷ 101 ∷ 103 ∷ 105 ∷ 110 ∷ []; verb = v.Begin } ∷
-    record { name = 97 ∷ 100 ∷ 100 ∷ []; verb = v.Add } ∷
+abbrev pub rows : List Row
+rows =
+    record { name = ascii "pcc"; verb = v.Pcc } ∷
+    record { name = ascii "pce"; verb = v.Pce } ∷
+    record { name = ascii "ero"; verb = v.Ero } ∷
+    record { name = ascii "rro"; verb = v.Rro } ∷
+    record { name = ascii "ero-segment"; verb = v.EroSegment } ∷
+    record { name = ascii "rro-segment"; verb = v.RroSegment } ∷
+    record { name = ascii "begin"; verb = v.Begin } ∷
+    record { name = ascii "add"; verb = v.Add } ∷
+    record { name = ascii "finish"; verb = v.Finish } ∷
+    record { name = ascii "lent"; verb = v.Lent } ∷
+    record { name = ascii "report"; verb = v.Report } ∷
+    record { name = ascii "remove"; verb = v.Remove } ∷
+    record { name = ascii "compact"; verb = v.Compact } ∷
+    record { name = ascii "body"; verb = v.Body } ∷
+    record { name = ascii "next"; verb = v.Next } ∷
+    record { name = ascii "mark"; verb = v.Mark } ∷
+    record { name = ascii "board"; verb = v.Board } ∷
     []
 
--- finish · lent · report · remove · compact · body · next · mark · board
-abbrev pub boardRows : List Row
-boardRows =
-    record { name = 102 ∷ 105 ∷ 110 ∷ 105 ∷ 115 ∷ 104 ∷ []; verb = v.Finish } ∷
-    record { name = 108 ∷ 101 ∷ 110 ∷ 116 ∷ []; verb = v.Lent } ∷
-    record { name = 114 ∷ 101 ∷ 112 ∷ 111 ∷ 114 ∷ 116 ∷ []; verb = v.Report } ∷
-    record { name = 114 ∷ 101 ∷ 109 ∷ 111 ∷ 118 ∷ 101 ∷ []; verb = v.Remove } ∷
-    record { name = 99 ∷ 111 ∷ 109 ∷ 112 ∷ 97 ∷ 99 ∷ 116 ∷ []; verb = v.Compact } ∷
-    record { name = 98 ∷ 111 ∷ 100 ∷ 121 ∷ []; verb = v.Body } ∷
-    record { name = 110 ∷ 101 ∷ 120 ∷ 116 ∷ []; verb = v.Next } ∷
-    record { name = 109 ∷ 97 ∷ 114 ∷ 107 ∷ []; verb = v.Mark } ∷
-    record { name = 98 ∷ 111 ∷ 97 ∷ 114 ∷ 100 ∷ []; verb = v.Board } ∷
-    []
-
--- The command of the first row that has this name; else `other`.
-abbrev pub verbNamed : List Row → List ℕ → Verb → Verb
-verbNamed [] w other = other
-verbNamed (r ∷ rs) w other = cond (sameOf w (r .name)) (r .verb) (verbNamed rs w other)
+-- The command of the first row that has this name; `Bad` where none has it.
+unfoldable pub verbNamed : List Row → List ℕ → Verb
+verbNamed [] w = v.Bad
+verbNamed (r ∷ rs) w = cond (sameOf w (r .name)) (r .verb) (verbNamed rs w)
 
 unfoldable pub verbOf : List ℕ → Verb
-verbOf w = verbNamed routeRows w (verbNamed boardRows w v.Bad)
+verbOf w = verbNamed rows w
 
 -- ## Forms
 
+-- `ero`
+abbrev pub theEro : List ℕ
+theEro = ascii "ero"
+
+-- `rro`
+abbrev pub theRro : List ℕ
+theRro = ascii "rro"
+
+-- the most octets of a buffer
+abbrev pub mostSize : ℕ
+mostSize = 65536
+
 -- what a word behind the name may be
 pub data Kind : Type 0 where
+  -- any number
   number : Kind
-  upTo : ℕ → Kind
+  -- 0 or 1
+  bit : Kind
+  -- 0 to 255
+  octet : Kind
+  -- 0 to 65,535
+  twoOctets : Kind
+  -- SIZE, 0 to 65,536
+  size : Kind
+  -- OCTETS
   octets : Kind
+  -- `ero` or `rro`
   side : Kind
   sid : Kind
   nai : Kind
@@ -78,7 +82,10 @@ pub data Kind : Type 0 where
 
 abbrev pub fits : Kind → List ℕ → Bool
 fits number w = isNumber w
-fits (upTo most) w = isAtMost most w
+fits bit w = isAtMost 1 w
+fits octet w = isAtMost 255 w
+fits twoOctets w = isAtMost 65535 w
+fits size w = isAtMost mostSize w
 fits octets w = isOctets w
 fits side w = sameOf w theEro || sameOf w theRro
 fits sid w = isSid w
@@ -95,8 +102,8 @@ kindsOf v.Ero = number ∷ octets ∷ []
 kindsOf v.Rro = number ∷ octets ∷ []
 kindsOf v.EroSegment = number ∷ number ∷ octets ∷ []
 kindsOf v.RroSegment = number ∷ number ∷ octets ∷ []
-kindsOf v.Begin = side ∷ upTo 65536 ∷ []
-kindsOf v.Add = upTo 1 ∷ upTo 1 ∷ upTo 255 ∷ upTo 65535 ∷ sid ∷ nai ∷ structure ∷ []
+kindsOf v.Begin = side ∷ size ∷ []
+kindsOf v.Add = bit ∷ bit ∷ octet ∷ twoOctets ∷ sid ∷ nai ∷ structure ∷ []
 kindsOf v.Finish = []
 kindsOf v.Lent = []
 kindsOf v.Report = number ∷ number ∷ octets ∷ []

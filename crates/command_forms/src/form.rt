@@ -1,147 +1,61 @@
 // The form of the words behind a command's name (console.md, the table of commands).
 ghost use mathlib.Core.Path.{_≡_};
-ghost use mathlib.Core.List.{[], _∷_};
-ghost use Rattle.command_forms.specs.Forms.{formed, kindsOf, number, upTo, octets, side, sid, nai, structure};
+ghost use Rattle.command_forms.specs.Forms.{formed, kindsOf};
+ghost use Rattle.command_forms.specs.Rows.{verbAt, fitsLetter};
 use crate::verb::ERO;
+use crate::verb::ROWS;
 use crate::verb::RRO;
-use crate::verb::Verb;
 use decimal::at_most;
 use decimal::is_number;
 use decimal::is_structure;
 use hexadecimal::is_nai;
 use hexadecimal::is_octets;
 use hexadecimal::is_sid;
-use octets::both;
 use octets::either;
+use words::NEWLINE;
 use words::SPACE;
 use words::count;
 use words::same;
 use words::word;
 
-const MOST_SIZE: u64 = 65536;
+// the most octets of a buffer
+pub const MOST_SIZE: usize = 65536;
 
-fn nothing(line: &[u8]) -> bool
-    ensures formed { λ r. ⌜ r ≡ formed [] (now (line .entry)) ⌝ }
+// Is this word of the kind that has this letter?
+fn fits(letter: u8, w: &[u8]) -> bool
+    ensures fits { λ r. ⌜ r ≡ fitsLetter letter (now (w .entry)) ⌝ }
 {
-    both(count(line, SPACE) == 1, true)
-}
-
-fn octets_only(line: &[u8]) -> bool
-    ensures formed { λ r. ⌜ r ≡ formed (octets ∷ []) (now (line .entry)) ⌝ }
-{
-    both(
-        count(line, SPACE) == 2,
-        both(is_octets(word(line, SPACE, 1)), true),
-    )
-}
-
-fn number_octets(line: &[u8]) -> bool
-    ensures formed { λ r. ⌜ r ≡ formed (number ∷ octets ∷ []) (now (line .entry)) ⌝ }
-{
-    both(
-        count(line, SPACE) == 3,
-        both(
-            is_number(word(line, SPACE, 1)),
-            both(is_octets(word(line, SPACE, 2)), true),
-        ),
-    )
-}
-
-fn numbers_octets(line: &[u8]) -> bool
-    ensures formed { λ r. ⌜ r ≡ formed (number ∷ number ∷ octets ∷ []) (now (line .entry)) ⌝ }
-{
-    both(
-        count(line, SPACE) == 4,
-        both(
-            is_number(word(line, SPACE, 1)),
-            both(
-                is_number(word(line, SPACE, 2)),
-                both(is_octets(word(line, SPACE, 3)), true),
-            ),
-        ),
-    )
-}
-
-fn one_number(line: &[u8]) -> bool
-    ensures formed { λ r. ⌜ r ≡ formed (number ∷ []) (now (line .entry)) ⌝ }
-{
-    both(
-        count(line, SPACE) == 2,
-        both(is_number(word(line, SPACE, 1)), true),
-    )
-}
-
-fn two_numbers(line: &[u8]) -> bool
-    ensures formed { λ r. ⌜ r ≡ formed (number ∷ number ∷ []) (now (line .entry)) ⌝ }
-{
-    both(
-        count(line, SPACE) == 3,
-        both(
-            is_number(word(line, SPACE, 1)),
-            both(is_number(word(line, SPACE, 2)), true),
-        ),
-    )
-}
-
-fn side_size(line: &[u8]) -> bool
-    ensures formed { λ r. ⌜ r ≡ formed (side ∷ upTo 65536 ∷ []) (now (line .entry)) ⌝ }
-{
-    let kind = either(
-        same(word(line, SPACE, 1), &ERO),
-        same(word(line, SPACE, 1), &RRO),
-    );
-    both(
-        count(line, SPACE) == 3,
-        both(kind, both(at_most(word(line, SPACE, 2), MOST_SIZE), true)),
-    )
-}
-
-fn segment(line: &[u8]) -> bool
-    ensures formed { λ r. ⌜ r ≡ formed (kindsOf Verb.Add) (now (line .entry)) ⌝ }
-{
-    let parts = both(
-        is_sid(word(line, SPACE, 5)),
-        both(
-            is_nai(word(line, SPACE, 6)),
-            both(is_structure(word(line, SPACE, 7)), true),
-        ),
-    );
-    let numbers = both(
-        at_most(word(line, SPACE, 3), 255),
-        both(at_most(word(line, SPACE, 4), 65535), parts),
-    );
-    both(
-        count(line, SPACE) == 8,
-        both(
-            at_most(word(line, SPACE, 1), 1),
-            both(at_most(word(line, SPACE, 2), 1), numbers),
-        ),
-    )
-}
-
-// Are the words behind the name as this command has them?
-pub fn is_formed(line: &[u8], verb: Verb) -> bool
-    ensures formed { λ r. ⌜ r ≡ formed (kindsOf verb) (now (line .entry)) ⌝ }
-{
-    match verb {
-        Verb::Pcc => octets_only(line),
-        Verb::Pce => octets_only(line),
-        Verb::Ero => number_octets(line),
-        Verb::Rro => number_octets(line),
-        Verb::EroSegment => numbers_octets(line),
-        Verb::RroSegment => numbers_octets(line),
-        Verb::Begin => side_size(line),
-        Verb::Add => segment(line),
-        Verb::Report => numbers_octets(line),
-        Verb::Remove => one_number(line),
-        Verb::Compact => one_number(line),
-        Verb::Body => one_number(line),
-        Verb::Next => two_numbers(line),
-        Verb::Finish => nothing(line),
-        Verb::Lent => nothing(line),
-        Verb::Mark => nothing(line),
-        Verb::Board => nothing(line),
-        Verb::Skip => nothing(line),
-        Verb::Bad => nothing(line),
+    match letter {
+        b'n' => is_number(w),
+        b'1' => at_most(w, 1),
+        b'8' => at_most(w, 255),
+        b'6' => at_most(w, 65535),
+        b'z' => at_most(w, MOST_SIZE as u64),
+        b'o' => is_octets(w),
+        b'e' => either(same(w, &ERO), same(w, &RRO)),
+        b's' => is_sid(w),
+        b'a' => is_nai(w),
+        b't' => is_structure(w),
+        _ => false,
     }
+}
+
+// Are the words behind the name as the row at this place has them?
+pub fn is_formed(line: &[u8], place: usize) -> bool
+    ensures formed { λ r. ⌜ r ≡ formed (kindsOf (verbAt place)) (now (line .entry)) ⌝ }
+{
+    let rows = ROWS;
+    let row = word(&rows, NEWLINE, place);
+    let form = word(row, SPACE, 1);
+    if count(line, SPACE) != form.len() + 1 {
+        return false;
+    }
+    let mut i: usize = 0;
+    while i < form.len() {
+        if !fits(form[i], word(line, SPACE, i + 1)) {
+            return false;
+        }
+        i = i + 1;
+    }
+    true
 }

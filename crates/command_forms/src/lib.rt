@@ -3,7 +3,9 @@
 mod form;
 mod verb;
 
+pub use form::MOST_SIZE;
 pub use form::is_formed;
 pub use verb::ERO;
 pub use verb::Verb;
-pub use verb::named;
+pub use verb::place_named;
+pub use verb::verb_at;

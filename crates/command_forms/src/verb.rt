@@ -1,8 +1,12 @@
-// The names of the commands (console.md), as octets.
+// The table of commands (console.md): to a row its name and a letter for each word behind it.
 ghost use mathlib.Core.Path.{_≡_};
-ghost use mathlib.Core.Bool.{cond};
-ghost use Rattle.command_forms.specs.Forms.{verbNamed, verbOf, boardRows};
+ghost use Rattle.command_forms.specs.Forms.{rows};
+ghost use Rattle.command_forms.specs.Rows.{placeNamed, verbAt};
+use words::NEWLINE;
+use words::SPACE;
+use words::count;
 use words::same;
+use words::word;
 
 pub enum Verb {
     // an empty line or a comment: answered by nothing
@@ -28,74 +32,70 @@ pub enum Verb {
     Board,
 }
 
-pub const PCC: [u8; 3] = *b"pcc";
-
-pub const PCE: [u8; 3] = *b"pce";
-
 pub const ERO: [u8; 3] = *b"ero";
 
 pub const RRO: [u8; 3] = *b"rro";
 
-pub const ERO_SEGMENT: [u8; 11] = *b"ero-segment";
+// The letters: n a number, 1 one of 0 or 1, 8 of 0 to 255, 6 of 0 to 65,535, z a size, o octets, e `ero` or `rro`,
+// s a SID, a a NAI, t a structure.
+pub const ROWS: [u8; 146] = *b"\
+pcc o\n\
+pce o\n\
+ero no\n\
+rro no\n\
+ero-segment nno\n\
+rro-segment nno\n\
+begin ez\n\
+add 1186sat\n\
+finish\n\
+lent\n\
+report nno\n\
+remove n\n\
+compact n\n\
+body n\n\
+next nn\n\
+mark\n\
+board";
 
-pub const RRO_SEGMENT: [u8; 11] = *b"rro-segment";
-
-pub const BEGIN: [u8; 5] = *b"begin";
-
-pub const ADD: [u8; 3] = *b"add";
-
-pub const FINISH: [u8; 6] = *b"finish";
-
-pub const LENT: [u8; 4] = *b"lent";
-
-pub const REPORT: [u8; 6] = *b"report";
-
-pub const REMOVE: [u8; 6] = *b"remove";
-
-pub const COMPACT: [u8; 7] = *b"compact";
-
-pub const BODY: [u8; 4] = *b"body";
-
-pub const NEXT: [u8; 4] = *b"next";
-
-pub const MARK: [u8; 4] = *b"mark";
-
-pub const BOARD: [u8; 5] = *b"board";
-
-// `a` where `is` holds, else `b`.
-fn choose(is: bool, a: Verb, b: Verb) -> Verb
-    ensures chosen { λ r. ⌜ r ≡ cond is a b ⌝ }
+// The place of the row that has this name, from 0; behind the last where none has it.
+pub fn place_named(w: &[u8]) -> usize
+    ensures place { λ r. ⌜ r ≡ placeNamed rows (now (w .entry)) ⌝ }
 {
-    if is { a } else { b }
+    let rows = ROWS;
+    let n = count(&rows, NEWLINE);
+    let mut i: usize = 0;
+    while i < n {
+        let row = word(&rows, NEWLINE, i);
+        if same(w, word(row, SPACE, 0)) {
+            return i;
+        }
+        i = i + 1;
+    }
+    i
 }
 
-// The command of a name, from those that the board knows; else `other`.
-fn board_named(w: &[u8]) -> Verb
-    ensures named { λ r. ⌜ r ≡ verbNamed boardRows (now (w .entry)) Verb.Bad ⌝ }
+// The command of the row at a place.
+pub fn verb_at(place: usize) -> Verb
+    ensures verb { λ r. ⌜ r ≡ verbAt place ⌝ }
 {
-    let verb = choose(same(w, &BOARD), Verb::Board, Verb::Bad);
-    let verb = choose(same(w, &MARK), Verb::Mark, verb);
-    let verb = choose(same(w, &NEXT), Verb::Next, verb);
-    let verb = choose(same(w, &BODY), Verb::Body, verb);
-    let verb = choose(same(w, &COMPACT), Verb::Compact, verb);
-    let verb = choose(same(w, &REMOVE), Verb::Remove, verb);
-    let verb = choose(same(w, &REPORT), Verb::Report, verb);
-    let verb = choose(same(w, &LENT), Verb::Lent, verb);
-    let verb = choose(same(w, &FINISH), Verb::Finish, verb);
-    verb
-}
-
-// The command of a name; `Bad` where it is none.
-pub fn named(w: &[u8]) -> Verb
-    ensures named { λ r. ⌜ r ≡ verbOf (now (w .entry)) ⌝ }
-{
-    let verb = choose(same(w, &ADD), Verb::Add, board_named(w));
-    let verb = choose(same(w, &BEGIN), Verb::Begin, verb);
-    let verb = choose(same(w, &RRO_SEGMENT), Verb::RroSegment, verb);
-    let verb = choose(same(w, &ERO_SEGMENT), Verb::EroSegment, verb);
-    let verb = choose(same(w, &RRO), Verb::Rro, verb);
-    let verb = choose(same(w, &ERO), Verb::Ero, verb);
-    let verb = choose(same(w, &PCE), Verb::Pce, verb);
-    let verb = choose(same(w, &PCC), Verb::Pcc, verb);
-    verb
+    match place {
+        0 => Verb::Pcc,
+        1 => Verb::Pce,
+        2 => Verb::Ero,
+        3 => Verb::Rro,
+        4 => Verb::EroSegment,
+        5 => Verb::RroSegment,
+        6 => Verb::Begin,
+        7 => Verb::Add,
+        8 => Verb::Finish,
+        9 => Verb::Lent,
+        10 => Verb::Report,
+        11 => Verb::Remove,
+        12 => Verb::Compact,
+        13 => Verb::Body,
+        14 => Verb::Next,
+        15 => Verb::Mark,
+        16 => Verb::Board,
+        _ => Verb::Bad,
+    }
 }

@@ -6,20 +6,20 @@ use mathlib.Core.Bool.{Bool}
 use mathlib.Core.List.{List}
 use lib.ListN.{length, take}
 use Rattle.octets.specs.Octets.{over}
-use Rattle.words.specs.Words.{wordOf}
-use Rattle.decimal.specs.Decimal.{valueOf, structureOf}
+use Rattle.words.specs.Words.{space, wordOf}
+use Rattle.decimal.specs.Decimal.{decimalValue, structureOf}
 use Rattle.hexadecimal.specs.Hexadecimal.{isOctets, octetsOf}
-use Rattle.command_forms.specs.Forms.{space}
 use Rattle.printing.specs.Text.{Behind}
 use Rattle.command.specs.Commands.{commandOf}
 use Rattle.command.specs.declared.Command.{Command}
-use Rattle.console_state.specs.Standing.{Console}
-use Rattle.console_turn.specs.Turns.{Turned, Does}
+use Rattle.console_state.specs.declared.state.State.{State}
+use Rattle.console_state.specs.Standing.{consoleOf}
+use Rattle.console_turn.specs.Turns.{Does}
 
 pub word-determined : (m : ℕ) (line : List ℕ) (i : ℕ) {a b : List ℕ} → a ≡ wordOf m line i → b ≡ wordOf m line i → a ≡ b
 word-determined m line i p q = p ∙ sym q
 
-pub value-determined : (w : List ℕ) {a b : ℕ} → a ≡ valueOf w → b ≡ valueOf w → a ≡ b
+pub value-determined : (w : List ℕ) {a b : ℕ} → a ≡ decimalValue w → b ≡ decimalValue w → a ≡ b
 value-determined w p q = p ∙ sym q
 
 pub structure-determined : (w : List ℕ) {a b : List ℕ} → a ≡ structureOf w → b ≡ structureOf w → a ≡ b
@@ -39,5 +39,8 @@ pub text-determined : {before x y more : List ℕ} {at e f : ℕ} → Behind bef
 text-determined p q = (p .ends ∙ sym (q .ends), p .text ∙ sym (q .text))
 
 -- How the console stands after a line, and the text of its answer.
-pub turn-determined : {t : Turned} {k j : Console} {before x y : List ℕ} {e f : ℕ} → Does t k before x e → Does t j before y f → (k ≡ j) × (e ≡ f) × (take e x ≡ take f y)
+pub turn-determined : {s r q : State} {store memory line a b l m before x y : List ℕ} {n e f : ℕ}
+    → Does s store memory line n r a l before x e
+    → Does s store memory line n q b m before y f
+    → (consoleOf r a l ≡ consoleOf q b m) × (e ≡ f) × (take e x ≡ take f y)
 turn-determined p q = (p .console ∙ sym (q .console), text-determined (p .told) (q .told) .0, text-determined (p .told) (q .told) .1)

@@ -19,7 +19,8 @@ use Rattle.board_rules.specs.declared.answer.Handed.{Handed}
 use Rattle.board_rules.specs.declared.answer.Handed.the-variants.{Refused, Path, Removed, Level}
 use Rattle.board_by_value.specs.ByValue.{bodyNumberOn, bodyOn, nextOn, freshMarkOn}
 use Rattle.printing.specs.Text.{spell, decimalOf, glyphOf, hexOf, octetsText}
-use Rattle.console_lines.specs.Lines.{newline, lineOf, acceptance, refusalLine, badLine, doneLine, oneLine, twoLine, octetsLine}
+use Rattle.words.specs.Words.{newline, space, comma, ascii}
+use Rattle.console_lines.specs.Lines.{lineOf, acceptance, refusalLine, badLine, doneLine, oneLine, twoLine, octetsLine}
 use Rattle.console_fields.specs.Shown.{bitOf, limitText, openLine, openedLine, structureText, segmentLine}
 use Rattle.command_forms.specs.declared.verb.Verb.{Verb}
 use Rattle.command_forms.specs.declared.verb.Verb.the-variants as v
@@ -107,8 +108,8 @@ unfolding clear
 clear-limit Free = refl
 clear-limit (Most n) = clear-decimal n
 
-clear-comma : (n : ℕ) (t : List ℕ) → clear t ≡ true → clear (decimalOf n ++ (44 ∷ t)) ≡ true
-clear-comma n t h = clear-append (decimalOf n) (44 ∷ t) (clear-decimal n) (clear-cons 44 t (omega arith) h)
+clear-comma : (n : ℕ) (t : List ℕ) → clear t ≡ true → clear (decimalOf n ++ (comma ∷ t)) ≡ true
+clear-comma n t h = clear-append (decimalOf n) (comma ∷ t) (clear-decimal n) (clear-cons comma t (omega arith) h)
 
 clear-structure : (there : Bool) (bits : List ℕ) → clear (structureText there bits) ≡ true
 unfolding clear
@@ -122,8 +123,8 @@ unfolding allClear
 line-one [] w h a = record { line = w; bare = h; same = refl }
 line-one (x ∷ ws) w h a =
     let b = and-true (clear x) (allClear ws) a in
-    let r = line-one ws (w ++ (32 ∷ x)) (clear-append w (32 ∷ x) h (clear-cons 32 x (omega arith) (b .0))) (b .1) in
-    record { line = r .line; bare = r .bare; same = sym (append-assoc w (32 ∷ x) _) ∙ r .same }
+    let r = line-one ws (w ++ (space ∷ x)) (clear-append w (space ∷ x) h (clear-cons space x (omega arith) (b .0))) (b .1) in
+    record { line = r .line; bare = r .bare; same = sym (append-assoc w (space ∷ x) _) ∙ r .same }
 
 nought : clear (48 ∷ []) ≡ true
 unfolding clear
@@ -137,7 +138,9 @@ refusal-one number place = line-one (decimalOf place ∷ []) (decimalOf number) 
 
 bad-one : (n : ℕ) → OneLine (badLine n)
 unfolding clear
-bad-one n = line-one ((108 ∷ 105 ∷ 110 ∷ 101 ∷ []) ∷ decimalOf n ∷ []) (98 ∷ 97 ∷ 100 ∷ []) refl (all-cons (108 ∷ 105 ∷ 110 ∷ 101 ∷ []) (decimalOf n ∷ []) refl (all-cons (decimalOf n) [] (clear-decimal n) all-none))
+bad-one n =
+    line-one (ascii "line" ∷ decimalOf n ∷ []) (ascii "bad") refl
+    (all-cons (ascii "line") (decimalOf n ∷ []) refl (all-cons (decimalOf n) [] (clear-decimal n) all-none))
 
 number-one : (n : ℕ) → OneLine (oneLine n)
 number-one n = accepted-one (decimalOf n ∷ []) (all-cons (decimalOf n) [] (clear-decimal n) all-none)
@@ -198,9 +201,9 @@ place-one w = answer-one (w .verdict) (oneLine (w .writer .at)) (number-one (w .
 handed-one : (store : List ℕ) (h : Handed) → OneLine (handedLine store h)
 unfolding clear
 handed-one store (Refused w) = refusal-one (w .number) (w .place)
-handed-one store (Path c o) = accepted-one ((112 ∷ 97 ∷ 116 ∷ 104 ∷ []) ∷ _) (all-cons (112 ∷ 97 ∷ 116 ∷ 104 ∷ []) _ refl (numbers-clear (c .key) (c .version) _ (octets-clear _)))
-handed-one store (Removed c) = accepted-one ((114 ∷ 101 ∷ 109 ∷ 111 ∷ 118 ∷ 101 ∷ 100 ∷ []) ∷ _) (all-cons (114 ∷ 101 ∷ 109 ∷ 111 ∷ 118 ∷ 101 ∷ 100 ∷ []) _ refl (numbers-clear (c .key) (c .version) [] all-none))
-handed-one store (Level n) = accepted-one ((108 ∷ 101 ∷ 118 ∷ 101 ∷ 108 ∷ []) ∷ decimalOf n ∷ []) (all-cons (108 ∷ 101 ∷ 118 ∷ 101 ∷ 108 ∷ []) (decimalOf n ∷ []) refl (all-cons (decimalOf n) [] (clear-decimal n) all-none))
+handed-one store (Path c o) = accepted-one (ascii "path" ∷ _) (all-cons (ascii "path") _ refl (numbers-clear (c .key) (c .version) _ (octets-clear _)))
+handed-one store (Removed c) = accepted-one (ascii "removed" ∷ _) (all-cons (ascii "removed") _ refl (numbers-clear (c .key) (c .version) [] all-none))
+handed-one store (Level n) = accepted-one (ascii "level" ∷ decimalOf n ∷ []) (all-cons (ascii "level") (decimalOf n ∷ []) refl (all-cons (decimalOf n) [] (clear-decimal n) all-none))
 
 -- ## Turns
 

@@ -4,6 +4,7 @@ use mathlib.Core.Bool.{Bool, true, false, cond}
 use mathlib.Core.List.{List, [], _∷_, _++_}
 use lib.Dec.{eqb}
 use lib.ListN.{getD, take}
+use Rattle.words.specs.Words.{comma, dash}
 use Rattle.session.specs.declared.Limit.{Limit}
 use Rattle.session.specs.declared.Limit.the-variants.{Free, Most}
 use Rattle.session.specs.declared.Opened.{Opened}
@@ -12,13 +13,17 @@ use Rattle.subobject.specs.Layout.{naiLength}
 use Rattle.printing.specs.Text.{decimalOf, octetsText}
 use Rattle.console_lines.specs.Lines.{acceptance, refusalLine}
 
+-- the octets that the line of a segment takes at most
+abbrev pub long : ℕ
+long = 512
+
 -- "0 or 1"
 abbrev pub bitOf : Bool → ℕ
 bitOf b = cond b 1 0
 
 -- "a number or `-`"
 abbrev pub limitText : Limit → List ℕ
-limitText Free = 45 ∷ []
+limitText Free = dash ∷ []
 limitText (Most n) = decimalOf n
 
 -- `0 0 SRV6 N LIMIT`
@@ -33,8 +38,8 @@ openedLine o = cond (eqb (o .number) 0) (openLine o) (refusalLine (o .number) 0)
 abbrev pub structureText : Bool → List ℕ → List ℕ
 structureText there bits =
     cond there
-    (decimalOf (getD bits 0 0) ++ (44 ∷ decimalOf (getD bits 1 0) ++ (44 ∷ decimalOf (getD bits 2 0) ++ (44 ∷ decimalOf (getD bits 3 0)))))
-    (45 ∷ [])
+    (decimalOf (getD bits 0 0) ++ (comma ∷ decimalOf (getD bits 1 0) ++ (comma ∷ decimalOf (getD bits 2 0) ++ (comma ∷ decimalOf (getD bits 3 0)))))
+    (dash ∷ [])
 
 -- `0 0 L V NT BEHAVIOUR SID NAI STRUCTURE`, "SID and NAI as OCTETS of their own lengths, or `-`"
 abbrev pub segmentLine : Segment → List ℕ

@@ -6,22 +6,22 @@ ghost use mathlib.Core.Bool.{cond, true};
 ghost use lib.ListN.{length, take};
 ghost use Rattle.subobject.specs.Layout.{naiLength};
 ghost use Rattle.printing.specs.Text.{Behind, spaced, octetsText};
-ghost use Rattle.console_fields.specs.Shown.{bitOf, limitText, openLine, openedLine, structureText, segmentLine};
+ghost use Rattle.console_lines.specs.Lines.{short};
+ghost use Rattle.console_fields.specs.Shown.{long, bitOf, limitText, openLine, openedLine, structureText, segmentLine};
+use console_lines::ACCEPTED;
+use console_lines::END;
 use session::Limit;
 use session::Opened;
+use subobject::SID_LENGTH;
 use subobject::Segment;
+use words::COMMA;
+use words::DASH;
+use words::SPACE;
 
-const NEWLINE: [u8; 1] = [10];
-
-const COMMA: [u8; 1] = [44];
+const JOINT: [u8; 1] = [COMMA];
 
 // ` -`
-const NONE: [u8; 2] = [32, 45];
-
-// `0 0`
-const ACCEPTED: [u8; 3] = [48, 32, 48];
-
-const SID_OCTETS: usize = 16;
+const NONE: [u8; 2] = [SPACE, DASH];
 
 fn bit(b: bool) -> u64
     ensures bit { λ r. ⌜ r ≡ bitOf b ⌝ }
@@ -43,23 +43,23 @@ fn limit_field(out: &mut [u8], at: usize, limit: Limit) -> usize
 
 // `0 0 SRV6 N LIMIT`
 fn carried(out: &mut [u8], o: Opened) -> usize
-    requires { ⌜ 128 ≤ length (now out) ⌝ }
+    requires { ⌜ short ≤ length (now out) ⌝ }
     ensures told { λ r. ⌜ Behind (now (out .entry)) (now (out .exit)) 0 r (openLine o) ⌝ }
-    ensures within { λ r. ⌜ r ≤ 128 ⌝ }
+    ensures within { λ r. ⌜ r ≤ short ⌝ }
 {
     let at = printing::push(out, 0, &ACCEPTED);
     let at = printing::field(out, at, bit(o.srv6));
     let at = printing::field(out, at, bit(o.n));
     let limit = o.limit;
     let at = limit_field(out, at, limit);
-    printing::push(out, at, &NEWLINE)
+    printing::push(out, at, &END)
 }
 
 // An OPEN's answer, a refusal too.
 pub fn opened(out: &mut [u8], o: Opened) -> usize
-    requires { ⌜ 128 ≤ length (now out) ⌝ }
+    requires { ⌜ short ≤ length (now out) ⌝ }
     ensures told { λ r. ⌜ Behind (now (out .entry)) (now (out .exit)) 0 r (openedLine o) ⌝ }
-    ensures within { λ r. ⌜ r ≤ 128 ⌝ }
+    ensures within { λ r. ⌜ r ≤ short ⌝ }
 {
     if o.number != 0 {
         return console_lines::refusal(out, o.number, 0);
@@ -84,11 +84,11 @@ fn bits_field(out: &mut [u8], at: usize, bits: [u8; 4]) -> usize
     let c = wide(bits[2]);
     let d = wide(bits[3]);
     let end = printing::field(out, at, a);
-    let end = printing::push(out, end, &COMMA);
+    let end = printing::push(out, end, &JOINT);
     let end = printing::number(out, end, b);
-    let end = printing::push(out, end, &COMMA);
+    let end = printing::push(out, end, &JOINT);
     let end = printing::number(out, end, c);
-    let end = printing::push(out, end, &COMMA);
+    let end = printing::push(out, end, &JOINT);
     printing::number(out, end, d)
 }
 
@@ -110,7 +110,7 @@ fn sid_field(out: &mut [u8], at: usize, there: bool, sid: [u8; 16]) -> usize
     ensures behind { λ r. ⌜ Behind (now (out .entry)) (now (out .exit)) at r (spaced (octetsText (take (cond there 16 0) sid))) ⌝ }
     ensures short { λ r. ⌜ r ≤ at + 34 ⌝ }
 {
-    let k = octets::pick(there, SID_OCTETS, 0);
+    let k = octets::pick(there, SID_LENGTH, 0);
     printing::octets_field(out, at, &sid[..k])
 }
 
@@ -126,9 +126,9 @@ fn nai_field(out: &mut [u8], at: usize, nt: usize, nai: [u8; 40]) -> usize
 
 // `0 0 L V NT BEHAVIOUR SID NAI STRUCTURE`
 pub fn segment(out: &mut [u8], g: Segment) -> usize
-    requires { ⌜ 512 ≤ length (now out) ⌝ }
+    requires { ⌜ long ≤ length (now out) ⌝ }
     ensures told { λ r. ⌜ Behind (now (out .entry)) (now (out .exit)) 0 r (segmentLine g) ⌝ }
-    ensures within { λ r. ⌜ r ≤ 512 ⌝ }
+    ensures within { λ r. ⌜ r ≤ long ⌝ }
 {
     let at = printing::push(out, 0, &ACCEPTED);
     let at = printing::field(out, at, bit(g.loose));
@@ -141,5 +141,5 @@ pub fn segment(out: &mut [u8], g: Segment) -> usize
     let at = nai_field(out, at, g.nt as usize, nai);
     let bits = g.structure;
     let at = structure_field(out, at, g.structured, bits);
-    printing::push(out, at, &NEWLINE)
+    printing::push(out, at, &END)
 }

@@ -8,13 +8,13 @@ use lib.ListN.{length, take}
 use lib.Seq.{take-all, length-take-le}
 use native.Mathlib.Omega.{arith}
 use borrow.Author.Tests.{lt-ltb, leb-true, leb-false}
-use Rattle.console_lines.specs.Lines.{newline}
+use Rattle.words.specs.Words.{newline}
 use Rattle.command_forms.specs.declared.verb.Verb.the-variants as v
 use Rattle.command.specs.declared.Command.{Command}
 use Rattle.command.specs.Commands.{skipped, longest, bare, commandOf}
 use Rattle.console_state.specs.Standing.{Console}
 use Rattle.console_turn.specs.Turns.{turnBy, turnOf}
-use Rattle.console_input.specs.Hearing.{Heard, turnNow, ended, mostKept, longer, sayAll}
+use Rattle.console_input.specs.Hearing.{Dialogue, turnNow, lineEnded, mostKept, longer, sayAll}
 use Rattle.console_input.proofs.Laws.{cut-twice}
 
 -- ## One line
@@ -49,38 +49,38 @@ turn-cut m h k line n = go (leb (length line) m) refl where
 -- ## All lines
 
 -- More of a line that is kept whole.
-abbrev pub wholeLonger : Heard → List ℕ → Heard
+abbrev pub wholeLonger : Dialogue → List ℕ → Dialogue
 wholeLonger g more = record { console = g .console; lines = g .lines; line = g .line ++ more }
 
 -- The answers to lines that are kept whole.
-unfoldable pub sayLines : Heard → List ℕ → List ℕ
+unfoldable pub sayLines : Dialogue → List ℕ → List ℕ
 sayLines g [] = []
-sayLines g (x ∷ xs) = cond (eqb x newline) (turnNow g .answer ++ sayLines (ended g) xs) (sayLines (wholeLonger g (x ∷ [])) xs)
+sayLines g (x ∷ xs) = cond (eqb x newline) (turnNow g .answer ++ sayLines (lineEnded g) xs) (sayLines (wholeLonger g (x ∷ [])) xs)
 
-abbrev pub cut : Heard → Heard
+abbrev pub cut : Dialogue → Dialogue
 cut g = record { console = g .console; lines = g .lines; line = take mostKept (g .line) }
 
-now-cut : (g : Heard) → turnNow (cut g) ≡ turnNow g
+now-cut : (g : Dialogue) → turnNow (cut g) ≡ turnNow g
 unfolding turnNow
 now-cut g = turn-cut mostKept (omega arith) (g .console) (g .line) _
 
-ended-cut : (g : Heard) → ended (cut g) ≡ ended g
-unfolding ended
+ended-cut : (g : Dialogue) → lineEnded (cut g) ≡ lineEnded g
+unfolding lineEnded
 ended-cut g = rw (now-cut g)
 
-longer-cut : (g : Heard) (more : List ℕ) → longer (cut g) more ≡ cut (wholeLonger g more)
+longer-cut : (g : Dialogue) (more : List ℕ) → longer (cut g) more ≡ cut (wholeLonger g more)
 unfolding longer
 longer-cut g more = rw (cut-twice mostKept (g .line) more)
 
-ended-whole : (g : Heard) → ended g ≡ cut (ended g)
-unfolding ended
+ended-whole : (g : Dialogue) → lineEnded g ≡ cut (lineEnded g)
+unfolding lineEnded
 ended-whole g = refl
 
-pub say-cut : (g : Heard) (xs : List ℕ) → sayAll (cut g) xs ≡ sayLines g xs
+pub say-cut : (g : Dialogue) (xs : List ℕ) → sayAll (cut g) xs ≡ sayLines g xs
 unfolding sayAll sayLines
 say-cut g [] = refl
-say-cut g (x ∷ xs) = go (eqb x newline) refl (say-cut (ended g) xs) (say-cut (wholeLonger g (x ∷ [])) xs) where
-  go : (t : Bool) → eqb x newline ≡ t → sayAll (cut (ended g)) xs ≡ sayLines (ended g) xs → sayAll (cut (wholeLonger g (x ∷ []))) xs ≡ sayLines (wholeLonger g (x ∷ [])) xs
+say-cut g (x ∷ xs) = go (eqb x newline) refl (say-cut (lineEnded g) xs) (say-cut (wholeLonger g (x ∷ [])) xs) where
+  go : (t : Bool) → eqb x newline ≡ t → sayAll (cut (lineEnded g)) xs ≡ sayLines (lineEnded g) xs → sayAll (cut (wholeLonger g (x ∷ []))) xs ≡ sayLines (wholeLonger g (x ∷ [])) xs
       → sayAll (cut g) (x ∷ xs) ≡ sayLines g (x ∷ xs)
-  go true e p q = rw (e, now-cut g, ended-cut g) (ap (λ (t : List ℕ). turnNow g .answer ++ t) (ap (λ (h : Heard). sayAll h xs) (ended-whole g) ∙ p))
+  go true e p q = rw (e, now-cut g, ended-cut g) (ap (λ (t : List ℕ). turnNow g .answer ++ t) (ap (λ (h : Dialogue). sayAll h xs) (ended-whole g) ∙ p))
   go false e p q = rw (e, longer-cut g (x ∷ [])) q

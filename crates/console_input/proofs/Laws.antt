@@ -8,7 +8,7 @@ use lib.ListN.{length, take, drop, length-take, length-drop, drop-of-length-le}
 use lib.Seq.{take-all, take-append-add, take-append-le, take-take, length-take-le, drop-drop}
 use native.Mathlib.Omega.{arith}
 use borrow.Author.Tests.{leb-true, leb-false}
-use Rattle.words.specs.Words.{untilMark, behindMark}
+use Rattle.words.specs.Words.{newline, untilMark, behindMark}
 use Rattle.words.proofs.Laws.{behind-drop}
 use Rattle.octets.specs.Octets.{placed}
 use Rattle.printing.specs.Text.{Behind}
@@ -16,7 +16,7 @@ use Rattle.printing.proofs.Laws.{behind-placed}
 use Rattle.console_state.specs.Standing.{Console}
 use Rattle.console_state.proofs.Laws.{take-fit}
 use Rattle.console_turn.specs.Turns.{turnOf}
-use Rattle.console_input.specs.Hearing.{Heard, nextNumber, turnNow, ended, mostKept, longer, hearAll, sayAll}
+use Rattle.console_input.specs.Hearing.{Ready, Dialogue, nextNumber, turnNow, lineEnded, mostKept, longer, hearAll, sayAll}
 
 -- ## What is kept
 
@@ -33,80 +33,91 @@ cut-twice m a b = go (leb (length a) m) refl where
       let k = length-take-le m a (omega arith) in
       take-append-le m (take m a) b (omega arith) ∙ (take-take m m a (omega arith) ∙ sym (take-append-le m a b (omega arith)))
 
-pub longer-twice : (g : Heard) (p q : List ℕ) → longer (longer g p) q ≡ longer g (p ++ q)
+pub longer-twice : (g : Dialogue) (p q : List ℕ) → longer (longer g p) q ≡ longer g (p ++ q)
 unfolding longer
 longer-twice g p q = rw (cut-twice mostKept (g .line ++ p) q, append-assoc)
 
-pub longer-none : (g : Heard) → length (g .line) ≤ mostKept → longer g [] ≡ g
+pub longer-none : (g : Dialogue) → length (g .line) ≤ mostKept → longer g [] ≡ g
 unfolding longer
 longer-none g h = rw (append-nil, take-all mostKept (g .line) h)
 
 -- ## Lines
 
 -- Octets with a newline: the line before it is answered, and what is behind it is heard next.
-hear-on : (g : Heard) (p xs : List ℕ) → length (untilMark 10 xs) < length xs
-    → hearAll (longer g p) xs ≡ hearAll (ended (longer g (p ++ untilMark 10 xs))) (behindMark 10 xs)
+hear-on : (g : Dialogue) (p xs : List ℕ) → length (untilMark newline xs) < length xs
+    → hearAll (longer g p) xs ≡ hearAll (lineEnded (longer g (p ++ untilMark newline xs))) (behindMark newline xs)
 unfolding hearAll untilMark behindMark
 hear-on g p [] h = absurd (omega arith)
-hear-on g p (x ∷ xs) h = go (eqb x 10) refl (λ k. hear-on g (p ++ (x ∷ [])) xs k) where
-  go : (t : Bool) → eqb x 10 ≡ t → (length (untilMark 10 xs) < length xs → hearAll (longer g (p ++ (x ∷ []))) xs ≡ hearAll (ended (longer g ((p ++ (x ∷ [])) ++ untilMark 10 xs))) (behindMark 10 xs)) → hearAll (longer g p) (x ∷ xs) ≡ hearAll (ended (longer g (p ++ untilMark 10 (x ∷ xs)))) (behindMark 10 (x ∷ xs))
+hear-on g p (x ∷ xs) h = go (eqb x newline) refl (λ k. hear-on g (p ++ (x ∷ [])) xs k) where
+  go : (t : Bool) → eqb x newline ≡ t
+      → (length (untilMark newline xs) < length xs
+      → hearAll (longer g (p ++ (x ∷ []))) xs ≡ hearAll (lineEnded (longer g ((p ++ (x ∷ [])) ++ untilMark newline xs))) (behindMark newline xs))
+      → hearAll (longer g p) (x ∷ xs) ≡ hearAll (lineEnded (longer g (p ++ untilMark newline (x ∷ xs)))) (behindMark newline (x ∷ xs))
   go true e ih = rw (e, append-nil)
   go false e ih =
       let k = rw e at h in
       rw (e, longer-twice) (ih (omega arith) ∙ rw append-assoc)
 
 -- Octets without one are more of the line.
-hear-in : (g : Heard) (p xs : List ℕ) → length xs ≤ length (untilMark 10 xs) → hearAll (longer g p) xs ≡ longer g (p ++ untilMark 10 xs)
+hear-in : (g : Dialogue) (p xs : List ℕ) → length xs ≤ length (untilMark newline xs) → hearAll (longer g p) xs ≡ longer g (p ++ untilMark newline xs)
 unfolding hearAll untilMark
 hear-in g p [] h = rw append-nil
-hear-in g p (x ∷ xs) h = go (eqb x 10) refl (λ k. hear-in g (p ++ (x ∷ [])) xs k) where
-  go : (t : Bool) → eqb x 10 ≡ t → (length xs ≤ length (untilMark 10 xs) → hearAll (longer g (p ++ (x ∷ []))) xs ≡ longer g ((p ++ (x ∷ [])) ++ untilMark 10 xs)) → hearAll (longer g p) (x ∷ xs) ≡ longer g (p ++ untilMark 10 (x ∷ xs))
+hear-in g p (x ∷ xs) h = go (eqb x newline) refl (λ k. hear-in g (p ++ (x ∷ [])) xs k) where
+  go : (t : Bool) → eqb x newline ≡ t
+      → (length xs ≤ length (untilMark newline xs) → hearAll (longer g (p ++ (x ∷ []))) xs ≡ longer g ((p ++ (x ∷ [])) ++ untilMark newline xs))
+      → hearAll (longer g p) (x ∷ xs) ≡ longer g (p ++ untilMark newline (x ∷ xs))
   go true e ih = let k = rw e at h in absurd (omega arith)
   go false e ih =
       let k = rw e at h in
       rw (e, longer-twice) (ih (omega arith) ∙ rw append-assoc)
 
-say-on : (g : Heard) (p xs : List ℕ) → length (untilMark 10 xs) < length xs
-    → sayAll (longer g p) xs ≡ turnNow (longer g (p ++ untilMark 10 xs)) .answer ++ sayAll (ended (longer g (p ++ untilMark 10 xs))) (behindMark 10 xs)
+say-on : (g : Dialogue) (p xs : List ℕ) → length (untilMark newline xs) < length xs
+    → sayAll (longer g p) xs ≡ turnNow (longer g (p ++ untilMark newline xs)) .answer ++ sayAll (lineEnded (longer g (p ++ untilMark newline xs))) (behindMark newline xs)
 unfolding sayAll untilMark behindMark
 say-on g p [] h = absurd (omega arith)
-say-on g p (x ∷ xs) h = go (eqb x 10) refl (λ k. say-on g (p ++ (x ∷ [])) xs k) where
-  go : (t : Bool) → eqb x 10 ≡ t → (length (untilMark 10 xs) < length xs → sayAll (longer g (p ++ (x ∷ []))) xs ≡ turnNow (longer g ((p ++ (x ∷ [])) ++ untilMark 10 xs)) .answer ++ sayAll (ended (longer g ((p ++ (x ∷ [])) ++ untilMark 10 xs))) (behindMark 10 xs))
-      → sayAll (longer g p) (x ∷ xs) ≡ turnNow (longer g (p ++ untilMark 10 (x ∷ xs))) .answer ++ sayAll (ended (longer g (p ++ untilMark 10 (x ∷ xs)))) (behindMark 10 (x ∷ xs))
+say-on g p (x ∷ xs) h = go (eqb x newline) refl (λ k. say-on g (p ++ (x ∷ [])) xs k) where
+  go : (t : Bool) → eqb x newline ≡ t
+      → (length (untilMark newline xs) < length xs
+      → sayAll (longer g (p ++ (x ∷ []))) xs
+      ≡ turnNow (longer g ((p ++ (x ∷ [])) ++ untilMark newline xs)) .answer
+      ++ sayAll (lineEnded (longer g ((p ++ (x ∷ [])) ++ untilMark newline xs))) (behindMark newline xs))
+      → sayAll (longer g p) (x ∷ xs)
+      ≡ turnNow (longer g (p ++ untilMark newline (x ∷ xs))) .answer
+      ++ sayAll (lineEnded (longer g (p ++ untilMark newline (x ∷ xs)))) (behindMark newline (x ∷ xs))
   go true e ih = rw (e, append-nil)
   go false e ih =
       let k = rw e at h in
       rw (e, longer-twice) (ih (omega arith) ∙ rw append-assoc)
 
-say-in : (g : Heard) (p xs : List ℕ) → length xs ≤ length (untilMark 10 xs) → sayAll (longer g p) xs ≡ []
+say-in : (g : Dialogue) (p xs : List ℕ) → length xs ≤ length (untilMark newline xs) → sayAll (longer g p) xs ≡ []
 unfolding sayAll untilMark
 say-in g p [] h = refl
-say-in g p (x ∷ xs) h = go (eqb x 10) refl (λ k. say-in g (p ++ (x ∷ [])) xs k) where
-  go : (t : Bool) → eqb x 10 ≡ t → (length xs ≤ length (untilMark 10 xs) → sayAll (longer g (p ++ (x ∷ []))) xs ≡ []) → sayAll (longer g p) (x ∷ xs) ≡ []
+say-in g p (x ∷ xs) h = go (eqb x newline) refl (λ k. say-in g (p ++ (x ∷ [])) xs k) where
+  go : (t : Bool) → eqb x newline ≡ t → (length xs ≤ length (untilMark newline xs) → sayAll (longer g (p ++ (x ∷ []))) xs ≡ []) → sayAll (longer g p) (x ∷ xs) ≡ []
   go true e ih = let k = rw e at h in absurd (omega arith)
   go false e ih = let k = rw e at h in rw (e, longer-twice) (ih (omega arith))
 
 -- What is left after a line, or after all that was read, gives the whole.
-module _ (g : Heard) (small : length (g .line) ≤ mostKept) (xs : List ℕ) where
-  pub hear-line : length (untilMark 10 xs) < length xs
-      → hearAll (ended (longer g (untilMark 10 xs))) (drop (suc (length (untilMark 10 xs))) xs) ≡ hearAll g xs
-  hear-line h = rw (← behind-drop 10 xs) (sym (hear-on g [] xs h) ∙ rw (longer-none g small))
+module _ (g : Dialogue) (small : length (g .line) ≤ mostKept) (xs : List ℕ) where
+  pub hear-line : length (untilMark newline xs) < length xs
+      → hearAll (lineEnded (longer g (untilMark newline xs))) (drop (suc (length (untilMark newline xs))) xs) ≡ hearAll g xs
+  hear-line h = rw (← behind-drop newline xs) (sym (hear-on g [] xs h) ∙ rw (longer-none g small))
 
-  pub hear-part : length xs ≤ length (untilMark 10 xs) → longer g (untilMark 10 xs) ≡ hearAll g xs
+  pub hear-part : length xs ≤ length (untilMark newline xs) → longer g (untilMark newline xs) ≡ hearAll g xs
   hear-part h = sym (hear-in g [] xs h) ∙ rw (longer-none g small)
 
-  pub say-line : length (untilMark 10 xs) < length xs
-      → turnNow (longer g (untilMark 10 xs)) .answer ++ sayAll (ended (longer g (untilMark 10 xs))) (drop (suc (length (untilMark 10 xs))) xs) ≡ sayAll g xs
-  say-line h = rw (← behind-drop 10 xs) (sym (say-on g [] xs h) ∙ rw (longer-none g small))
+  pub say-line : length (untilMark newline xs) < length xs
+      → turnNow (longer g (untilMark newline xs)) .answer ++ sayAll (lineEnded (longer g (untilMark newline xs))) (drop (suc (length (untilMark newline xs))) xs) ≡ sayAll g xs
+  say-line h = rw (← behind-drop newline xs) (sym (say-on g [] xs h) ∙ rw (longer-none g small))
 
-  pub say-part : length xs ≤ length (untilMark 10 xs) → [] ≡ sayAll g xs
+  pub say-part : length xs ≤ length (untilMark newline xs) → [] ≡ sayAll g xs
   say-part h = sym (say-in g [] xs h) ∙ rw (longer-none g small)
 
-pub hear-none : (g : Heard) → hearAll g [] ≡ g
+pub hear-none : (g : Dialogue) → hearAll g [] ≡ g
 unfolding hearAll
 hear-none g = refl
 
-pub say-none : (g : Heard) → sayAll g [] ≡ []
+pub say-none : (g : Dialogue) → sayAll g [] ≡ []
 unfolding sayAll
 say-none g = refl
 
@@ -130,38 +141,38 @@ kept-more line part out kept n h e p =
     let c = cut-append (length line) (take kept line) part (omega arith) in
     rw p (rw w at (b .text) ∙ (rw (take-fit (length line - kept) part e) (sym (rw l at c))))
 
-pub ended-made : (g : Heard) {k : Console} {n : ℕ} → n ≡ nextNumber (g .lines) → k ≡ turnOf (g .console) (g .line) n .console
-    → record { console = k; lines = n; line = [] } ≡ ended g
-unfolding ended turnNow
+pub ended-made : (g : Dialogue) {k : Console} {n : ℕ} → n ≡ nextNumber (g .lines) → k ≡ turnOf (g .console) (g .line) n .console
+    → record { console = k; lines = n; line = [] } ≡ lineEnded g
+unfolding lineEnded turnNow
 ended-made g p q = rw (q, p)
 
-pub turn-told : (g : Heard) {n end : ℕ} {before after : List ℕ} → n ≡ nextNumber (g .lines) → Behind before after 0 end (turnOf (g .console) (g .line) n .answer)
+pub turn-told : (g : Dialogue) {n end : ℕ} {before after : List ℕ} → n ≡ nextNumber (g .lines) → Behind before after 0 end (turnOf (g .console) (g .line) n .answer)
     → Behind before after 0 end (turnNow g .answer)
 unfolding turnNow
 turn-told g p b = rw (← p) b
 
-pub longer-made : (g : Heard) (part u l : List ℕ) (m : ℕ) → part ≡ u → m ≡ mostKept → l ≡ take m (g .line ++ part)
+pub longer-made : (g : Dialogue) (part u l : List ℕ) (m : ℕ) → part ≡ u → m ≡ mostKept → l ≡ take m (g .line ++ part)
     → record { console = g .console; lines = g .lines; line = l } ≡ longer g u
 unfolding longer
 longer-made g part u l m p q e = rw (e, q, p)
 
-module _ (g : Heard) (small : length (g .line) ≤ mostKept) (read : List ℕ) (at : ℕ) (part : List ℕ) (same : part ≡ untilMark 10 (drop at read)) (there : at ≤ length read) (h : Heard)
-    (more : h ≡ longer g (untilMark 10 (drop at read))) where
-  next-drop : drop (at + length part + 1) read ≡ drop (suc (length (untilMark 10 (drop at read)))) (drop at read)
+module _ (g : Dialogue) (small : length (g .line) ≤ mostKept) (read : List ℕ) (at : ℕ) (part : List ℕ) (same : part ≡ untilMark newline (drop at read)) (there : at ≤ length read) (h : Dialogue)
+    (more : h ≡ longer g (untilMark newline (drop at read))) where
+  next-drop : drop (at + length part + 1) read ≡ drop (suc (length (untilMark newline (drop at read)))) (drop at read)
   next-drop =
-      let e : at + length part + 1 ≡ at + suc (length (untilMark 10 (drop at read))) = omega (arith, ap length same) in
+      let e : at + length part + 1 ≡ at + suc (length (untilMark newline (drop at read))) = omega (arith, ap length same) in
       rw (e, drop-drop)
 
-  before-end : at + length part < length read → length (untilMark 10 (drop at read)) < length (drop at read)
+  before-end : at + length part < length read → length (untilMark newline (drop at read)) < length (drop at read)
   before-end l = omega (arith, ap length same, length-drop at read)
 
-  at-end : length read ≤ at + length part → length (drop at read) ≤ length (untilMark 10 (drop at read))
+  at-end : length read ≤ at + length part → length (drop at read) ≤ length (untilMark newline (drop at read))
   at-end l = omega (arith, ap length same, length-drop at read)
 
-  pub heard-line : {k : Heard} → k ≡ ended h → at + length part < length read → hearAll k (drop (at + length part + 1) read) ≡ hearAll g (drop at read)
+  pub heard-line : {k : Dialogue} → k ≡ lineEnded h → at + length part < length read → hearAll k (drop (at + length part + 1) read) ≡ hearAll g (drop at read)
   heard-line e l = rw (e, more, next-drop) (hear-line g small (drop at read) (before-end l))
 
-  pub said-line : {k : Heard} {text : List ℕ} → k ≡ ended h → text ≡ turnNow h .answer → at + length part < length read
+  pub said-line : {k : Dialogue} {text : List ℕ} → k ≡ lineEnded h → text ≡ turnNow h .answer → at + length part < length read
       → text ++ sayAll k (drop (at + length part + 1) read) ≡ sayAll g (drop at read)
   said-line e t l = rw (t, e, more, next-drop) (say-line g small (drop at read) (before-end l))
 
@@ -170,3 +181,25 @@ module _ (g : Heard) (small : length (g .line) ≤ mostKept) (read : List ℕ) (
 
   pub said-part : length read ≤ at + length part → sayAll h (drop (length read) read) ≡ sayAll g (drop at read)
   said-part l = rw (drop-of-length-le read {i = length read} (omega arith), say-none) (say-part g small (drop at read) (at-end l))
+
+-- ## What is lent
+
+-- Whether it is large enough goes by lengths alone.
+pub still-ready : {k k′ : ℕ} {line line′ store store′ memory memory′ room room′ out out′ : List ℕ} → Ready k line store memory room out
+    → length line′ ≡ length line
+    → length store′ ≡ length store
+    → length memory′ ≡ length memory
+    → length room′ ≡ length room
+    → length out′ ≡ length out
+    → k′ ≤ length line
+    → Ready k′ line′ store′ memory′ room′ out′
+still-ready p a b c d e h = record {
+  within = omega arith;
+  whole = a ∙ p .whole;
+  rooms = record {
+    spells = omega (arith, p .rooms .spells);
+    buffer = omega (arith, p .rooms .buffer);
+    stored = omega (arith, p .rooms .stored);
+    lent = omega (arith, p .rooms .lent);
+  };
+}

@@ -1,9 +1,7 @@
 // What has been heard, and the answer to a line.
-ghost use Prim.Native.Nat.{_+_, _*_, _≤_};
 ghost use mathlib.Core.Path.{_≡_};
-ghost use lib.ListN.{length};
 ghost use Rattle.printing.specs.Text.{Behind};
-ghost use Rattle.console_input.specs.Hearing.{heardOf, ended, turnNow};
+ghost use Rattle.console_input.specs.Hearing.{Ready, heardOf, lineEnded, turnNow};
 use console_state::State;
 use console_turn::answered;
 
@@ -29,8 +27,8 @@ pub fn answer(
     room: &mut [u8],
     out: &mut [u8],
 ) -> Said
-    requires { ⌜ (h .kept ≤ length (now line)) × (length (now line) ≤ 2 * length (now room)) × (65536 ≤ length (now memory)) × (2 * length (now store) + 512 ≤ length (now out)) × (2 * length (now memory) + 512 ≤ length (now out)) ⌝ }
-    ensures heard { λ r. ⌜ heardOf (r .hearing) (now (line .entry)) (now (store .exit)) (now (memory .exit)) ≡ ended (heardOf h (now (line .entry)) (now (store .entry)) (now (memory .entry))) ⌝ }
+    requires { ⌜ Ready (h .kept) (now line) (now store) (now memory) (now room) (now out) ⌝ }
+    ensures heard { λ r. ⌜ heardOf (r .hearing) (now (line .entry)) (now (store .exit)) (now (memory .exit)) ≡ lineEnded (heardOf h (now (line .entry)) (now (store .entry)) (now (memory .entry))) ⌝ }
     ensures told { λ r. ⌜ Behind (now (out .entry)) (now (out .exit)) 0 (r .end) (turnNow (heardOf h (now (line .entry)) (now (store .entry)) (now (memory .entry))) .answer) ⌝ }
     ensures begun { λ r. ⌜ r .hearing .kept ≡ 0 ⌝ }
 {

@@ -1,22 +1,24 @@
 -- The lines that the programs answer by (console.md, the table's last column; document 01, the checking program).
 use Prim.Native.Nat.{ℕ}
 use mathlib.Core.List.{List, [], _∷_, _++_}
+use Rattle.words.specs.Words.{newline, ascii}
 use Rattle.answers.specs.declared.verdict.Verdict.{Verdict}
 use Rattle.printing.specs.Text.{decimalOf, octetsText, spaced}
 
 -- ## Lines
 
-abbrev pub newline : ℕ
-newline = 10
+-- the octets that a line of words and numbers takes at most
+abbrev pub short : ℕ
+short = 128
 
 -- words behind a line's first, and the newline
-abbrev pub onward : List (List ℕ) → List ℕ
-onward [] = newline ∷ []
-onward (w ∷ ws) = spaced w ++ onward ws
+abbrev pub furtherWords : List (List ℕ) → List ℕ
+furtherWords [] = newline ∷ []
+furtherWords (w ∷ ws) = spaced w ++ furtherWords ws
 
 -- words separated by one space, and the newline
 abbrev pub lineOf : List ℕ → List (List ℕ) → List ℕ
-lineOf w ws = w ++ onward ws
+lineOf w ws = w ++ furtherWords ws
 
 -- "Every acceptance begins `0 0`"
 abbrev pub acceptance : List (List ℕ) → List ℕ
@@ -30,7 +32,7 @@ refusalLine number place = lineOf (decimalOf number) (decimalOf place ∷ [])
 
 -- `bad line N`
 abbrev pub badLine : ℕ → List ℕ
-badLine n = lineOf (98 ∷ 97 ∷ 100 ∷ []) ((108 ∷ 105 ∷ 110 ∷ 101 ∷ []) ∷ decimalOf n ∷ [])
+badLine n = lineOf (ascii "bad") (ascii "line" ∷ decimalOf n ∷ [])
 
 -- `0 0`
 abbrev pub doneLine : List ℕ
@@ -50,15 +52,15 @@ octetsLine s = acceptance (octetsText s ∷ [])
 
 -- `0 0 path KEY VERSION OCTETS`
 abbrev pub pathLine : ℕ → ℕ → List ℕ → List ℕ
-pathLine key version s = acceptance ((112 ∷ 97 ∷ 116 ∷ 104 ∷ []) ∷ decimalOf key ∷ decimalOf version ∷ octetsText s ∷ [])
+pathLine key version s = acceptance (ascii "path" ∷ decimalOf key ∷ decimalOf version ∷ octetsText s ∷ [])
 
 -- `0 0 removed KEY VERSION`
 abbrev pub removedLine : ℕ → ℕ → List ℕ
-removedLine key version = acceptance ((114 ∷ 101 ∷ 109 ∷ 111 ∷ 118 ∷ 101 ∷ 100 ∷ []) ∷ decimalOf key ∷ decimalOf version ∷ [])
+removedLine key version = acceptance (ascii "removed" ∷ decimalOf key ∷ decimalOf version ∷ [])
 
 -- `0 0 level VERSION`
 abbrev pub levelLine : ℕ → List ℕ
-levelLine version = acceptance ((108 ∷ 101 ∷ 118 ∷ 101 ∷ 108 ∷ []) ∷ decimalOf version ∷ [])
+levelLine version = acceptance (ascii "level" ∷ decimalOf version ∷ [])
 
 -- The checking program's line: "number, place, count"
 abbrev pub verdictLine : Verdict → List ℕ

@@ -3,123 +3,128 @@
 ghost use Prim.Native.Nat.{_+_, _*_, _≤_};
 ghost use lib.ListN.{length};
 ghost use Rattle.printing.specs.Text.{Behind};
-ghost use Rattle.console_lines.specs.Lines.{refusalLine, badLine, doneLine, oneLine, twoLine, octetsLine, pathLine, removedLine, levelLine, verdictLine};
+ghost use Rattle.console_lines.specs.Lines.{short, refusalLine, badLine, doneLine, oneLine, twoLine, octetsLine, pathLine, removedLine, levelLine, verdictLine};
 use answers::Verdict;
+use words::NEWLINE;
 
-const NEWLINE: [u8; 1] = [10];
+// the octets that a line of words and numbers takes at most
+pub const SHORT: usize = 128;
+
+// what ends a line
+pub const END: [u8; 1] = [NEWLINE];
 
 // `0 0`
-const ACCEPTED: [u8; 3] = *b"0 0";
+pub const ACCEPTED: [u8; 3] = *b"0 0";
 
 // `NUMBER PLACE`
 pub fn refusal(out: &mut [u8], number: usize, place: usize) -> usize
-    requires { ⌜ 128 ≤ length (now out) ⌝ }
+    requires { ⌜ short ≤ length (now out) ⌝ }
     ensures told { λ r. ⌜ Behind (now (out .entry)) (now (out .exit)) 0 r (refusalLine number place) ⌝ }
-    ensures within { λ r. ⌜ r ≤ 128 ⌝ }
+    ensures within { λ r. ⌜ r ≤ short ⌝ }
 {
     let at = printing::number(out, 0, number as u64);
     let at = printing::field(out, at, place as u64);
-    printing::push(out, at, &NEWLINE)
+    printing::push(out, at, &END)
 }
 
 // `bad line N`
 pub fn bad(out: &mut [u8], n: u64) -> usize
-    requires { ⌜ 128 ≤ length (now out) ⌝ }
+    requires { ⌜ short ≤ length (now out) ⌝ }
     ensures told { λ r. ⌜ Behind (now (out .entry)) (now (out .exit)) 0 r (badLine n) ⌝ }
-    ensures within { λ r. ⌜ r ≤ 128 ⌝ }
+    ensures within { λ r. ⌜ r ≤ short ⌝ }
 {
     let at = printing::push(out, 0, b"bad line");
     let at = printing::field(out, at, n);
-    printing::push(out, at, &NEWLINE)
+    printing::push(out, at, &END)
 }
 
 // `0 0`
 pub fn done(out: &mut [u8]) -> usize
-    requires { ⌜ 128 ≤ length (now out) ⌝ }
+    requires { ⌜ short ≤ length (now out) ⌝ }
     ensures told { λ r. ⌜ Behind (now (out .entry)) (now (out .exit)) 0 r (doneLine) ⌝ }
-    ensures within { λ r. ⌜ r ≤ 128 ⌝ }
+    ensures within { λ r. ⌜ r ≤ short ⌝ }
 {
     printing::push(out, 0, b"0 0\n")
 }
 
 // `0 0 A`
 pub fn one(out: &mut [u8], a: u64) -> usize
-    requires { ⌜ 128 ≤ length (now out) ⌝ }
+    requires { ⌜ short ≤ length (now out) ⌝ }
     ensures told { λ r. ⌜ Behind (now (out .entry)) (now (out .exit)) 0 r (oneLine a) ⌝ }
-    ensures within { λ r. ⌜ r ≤ 128 ⌝ }
+    ensures within { λ r. ⌜ r ≤ short ⌝ }
 {
     let at = printing::push(out, 0, &ACCEPTED);
     let at = printing::field(out, at, a);
-    printing::push(out, at, &NEWLINE)
+    printing::push(out, at, &END)
 }
 
 // `0 0 A B`
 pub fn two(out: &mut [u8], a: u64, b: u64) -> usize
-    requires { ⌜ 128 ≤ length (now out) ⌝ }
+    requires { ⌜ short ≤ length (now out) ⌝ }
     ensures told { λ r. ⌜ Behind (now (out .entry)) (now (out .exit)) 0 r (twoLine a b) ⌝ }
-    ensures within { λ r. ⌜ r ≤ 128 ⌝ }
+    ensures within { λ r. ⌜ r ≤ short ⌝ }
 {
     let at = printing::push(out, 0, &ACCEPTED);
     let at = printing::field(out, at, a);
     let at = printing::field(out, at, b);
-    printing::push(out, at, &NEWLINE)
+    printing::push(out, at, &END)
 }
 
 // `0 0 OCTETS`
 pub fn octets(out: &mut [u8], s: &[u8]) -> usize
-    requires { ⌜ 2 * length (now s) + 128 ≤ length (now out) ⌝ }
+    requires { ⌜ 2 * length (now s) + short ≤ length (now out) ⌝ }
     ensures told { λ r. ⌜ Behind (now (out .entry)) (now (out .exit)) 0 r (octetsLine (now (s .entry))) ⌝ }
-    ensures within { λ r. ⌜ r ≤ 2 * length (now (s .entry)) + 128 ⌝ }
+    ensures within { λ r. ⌜ r ≤ 2 * length (now (s .entry)) + short ⌝ }
 {
     let at = printing::push(out, 0, &ACCEPTED);
     let at = printing::octets_field(out, at, s);
-    printing::push(out, at, &NEWLINE)
+    printing::push(out, at, &END)
 }
 
 // `0 0 path KEY VERSION OCTETS`
 pub fn path(out: &mut [u8], key: u64, version: u64, s: &[u8]) -> usize
-    requires { ⌜ 2 * length (now s) + 128 ≤ length (now out) ⌝ }
+    requires { ⌜ 2 * length (now s) + short ≤ length (now out) ⌝ }
     ensures told { λ r. ⌜ Behind (now (out .entry)) (now (out .exit)) 0 r (pathLine key version (now (s .entry))) ⌝ }
-    ensures within { λ r. ⌜ r ≤ 2 * length (now (s .entry)) + 128 ⌝ }
+    ensures within { λ r. ⌜ r ≤ 2 * length (now (s .entry)) + short ⌝ }
 {
     let at = printing::push(out, 0, b"0 0 path");
     let at = printing::field(out, at, key);
     let at = printing::field(out, at, version);
     let at = printing::octets_field(out, at, s);
-    printing::push(out, at, &NEWLINE)
+    printing::push(out, at, &END)
 }
 
 // `0 0 removed KEY VERSION`
 pub fn removed(out: &mut [u8], key: u64, version: u64) -> usize
-    requires { ⌜ 128 ≤ length (now out) ⌝ }
+    requires { ⌜ short ≤ length (now out) ⌝ }
     ensures told { λ r. ⌜ Behind (now (out .entry)) (now (out .exit)) 0 r (removedLine key version) ⌝ }
-    ensures within { λ r. ⌜ r ≤ 128 ⌝ }
+    ensures within { λ r. ⌜ r ≤ short ⌝ }
 {
     let at = printing::push(out, 0, b"0 0 removed");
     let at = printing::field(out, at, key);
     let at = printing::field(out, at, version);
-    printing::push(out, at, &NEWLINE)
+    printing::push(out, at, &END)
 }
 
 // `0 0 level VERSION`
 pub fn level(out: &mut [u8], version: u64) -> usize
-    requires { ⌜ 128 ≤ length (now out) ⌝ }
+    requires { ⌜ short ≤ length (now out) ⌝ }
     ensures told { λ r. ⌜ Behind (now (out .entry)) (now (out .exit)) 0 r (levelLine version) ⌝ }
-    ensures within { λ r. ⌜ r ≤ 128 ⌝ }
+    ensures within { λ r. ⌜ r ≤ short ⌝ }
 {
     let at = printing::push(out, 0, b"0 0 level");
     let at = printing::field(out, at, version);
-    printing::push(out, at, &NEWLINE)
+    printing::push(out, at, &END)
 }
 
 // The checking program's line: number, place, count.
 pub fn whole(out: &mut [u8], v: Verdict) -> usize
-    requires { ⌜ 128 ≤ length (now out) ⌝ }
+    requires { ⌜ short ≤ length (now out) ⌝ }
     ensures told { λ r. ⌜ Behind (now (out .entry)) (now (out .exit)) 0 r (verdictLine v) ⌝ }
-    ensures within { λ r. ⌜ r ≤ 128 ⌝ }
+    ensures within { λ r. ⌜ r ≤ short ⌝ }
 {
     let at = printing::number(out, 0, v.number as u64);
     let at = printing::field(out, at, v.place as u64);
     let at = printing::field(out, at, v.count as u64);
-    printing::push(out, at, &NEWLINE)
+    printing::push(out, at, &END)
 }

@@ -3,27 +3,28 @@ use Prim.Native.Nat.{ℕ, _≤_}
 use mathlib.Core.Path.{_≡_, refl, _∙_}
 use mathlib.Core.List.{List, [], _∷_, _++_}
 use lib.ListN.{length, drop, drop-of-length-le}
+use Rattle.words.specs.Words.{newline}
 use Rattle.console_state.specs.declared.state.State.{State}
 use Rattle.console_state.specs.Standing.{stateAtStart, storeAtStart}
 use Rattle.console_input.proofs.Portions.{hear-append}
-use Rattle.console_input.specs.Hearing.{Heard, heardAtStart, heardOf, hearAll, ended}
+use Rattle.console_input.specs.Hearing.{Dialogue, heardAtStart, heardOf, hearAll, lineEnded}
 use Rattle.console_loop.specs.Reached.{Reached}
 
-pub reached-start : {g : Heard} → g ≡ heardAtStart → Reached g
+pub reached-start : {g : Dialogue} → g ≡ heardAtStart → Reached g
 unfolding hearAll
 reached-start e = record { input = []; same = e }
 
-pub reached-more : {g h : Heard} (xs : List ℕ) → h ≡ hearAll g xs → Reached g → Reached h
+pub reached-more : {g h : Dialogue} (xs : List ℕ) → h ≡ hearAll g xs → Reached g → Reached h
 reached-more xs e r = record { input = r .input ++ xs; same = e ∙ (rw (r .same) (hear-append heardAtStart (r .input) xs)) }
 
-ended-newline : (g : Heard) → ended g ≡ hearAll g (10 ∷ [])
+ended-newline : (g : Dialogue) → lineEnded g ≡ hearAll g (newline ∷ [])
 unfolding hearAll
 ended-newline g = refl
 
-pub reached-ended : {g h : Heard} → h ≡ ended g → Reached g → Reached h
-reached-ended {g} e r = reached-more (10 ∷ []) (e ∙ ended-newline g) r
+pub reached-ended : {g h : Dialogue} → h ≡ lineEnded g → Reached g → Reached h
+reached-ended {g} e r = reached-more (newline ∷ []) (e ∙ ended-newline g) r
 
-pub heard-all : (g : Heard) (read : List ℕ) (at : ℕ) → length read ≤ at → hearAll g (drop at read) ≡ g
+pub heard-all : (g : Dialogue) (read : List ℕ) (at : ℕ) → length read ≤ at → hearAll g (drop at read) ≡ g
 unfolding hearAll
 heard-all g read at h = rw (drop-of-length-le read h)
 

@@ -2,9 +2,9 @@
 use Prim.Native.Nat.{ℕ}
 use mathlib.Core.Path.{_≡_}
 use mathlib.Core.List.{List}
-use Rattle.console_input.specs.Hearing.{Heard, heardAtStart, hearAll}
+use Rattle.console_input.specs.Hearing.{Dialogue, heardAtStart, hearAll}
 
 -- as some input leaves it, from the start on
-pub record Reached (g : Heard) : Type 0 where
+pub record Reached (g : Dialogue) : Type 0 where
   pub input : List ℕ
   pub same : g ≡ hearAll heardAtStart input

@@ -3,11 +3,23 @@ ghost use Prim.Native.Nat.{_+_, _*_, _≤_};
 ghost use mathlib.Core.Path.{_≡_};
 ghost use lib.ListN.{length};
 ghost use Rattle.console_state.specs.Standing.{storeAtStart};
-ghost use Rattle.console_input.specs.Hearing.{heardOf, hearAll};
+ghost use Rattle.console_input.specs.Hearing.{Ready, heardOf, hearAll};
 ghost use Rattle.console_loop.specs.Reached.{Reached};
+use board_record::STORE;
+use command::LONGEST;
+use command_forms::MOST_SIZE;
 use console_input::Hearing;
 use console_input::answer;
 use console_input::take_in;
+
+// one octet more than the longest line has
+const KEPT: usize = LONGEST + 1;
+
+// the octets that a line spells
+const SPELLED: usize = KEPT / 2 + 1;
+
+// a line of octets, and words before them
+const ANSWER: usize = 2 * MOST_SIZE + 512;
 
 // Takes in all that was read, and writes the answer to each line that ends there.
 fn take_all(
@@ -19,7 +31,7 @@ fn take_all(
     room: &mut [u8],
     out: &mut [u8],
 ) -> Hearing
-    requires { ⌜ (h .kept ≤ length (now line)) × (length (now line) ≡ 131201) × (length (now line) ≤ 2 * length (now room)) × (65536 ≤ length (now memory)) × (2 * length (now store) + 512 ≤ length (now out)) × (2 * length (now memory) + 512 ≤ length (now out)) ⌝ }
+    requires { ⌜ Ready (h .kept) (now line) (now store) (now memory) (now room) (now out) ⌝ }
     ensures heard { λ r. ⌜ heardOf r (now (line .exit)) (now (store .exit)) (now (memory .exit)) ≡ hearAll (heardOf h (now (line .entry)) (now (store .entry)) (now (memory .entry))) (now (read .entry)) ⌝ }
     ensures within { λ r. ⌜ r .kept ≤ length (now (line .entry)) ⌝ }
 {
@@ -51,7 +63,7 @@ fn listen(
     room: &mut [u8],
     out: &mut [u8],
 ) -> Listened
-    requires { ⌜ (h .kept ≤ length (now line)) × (length (now line) ≡ 131201) × (length (now line) ≤ 2 * length (now room)) × (65536 ≤ length (now memory)) × (2 * length (now store) + 512 ≤ length (now out)) × (2 * length (now memory) + 512 ≤ length (now out)) ⌝ }
+    requires { ⌜ Ready (h .kept) (now line) (now store) (now memory) (now room) (now out) ⌝ }
     ensures reached { λ r. ⌜ (Reached (heardOf h (now (line .entry)) (now (store .entry)) (now (memory .entry))) → Reached (heardOf (r .hearing) (now (line .exit)) (now (store .exit)) (now (memory .exit)))) ⌝ }
     ensures within { λ r. ⌜ r .hearing .kept ≤ length (now (line .entry)) ⌝ }
 {
@@ -84,7 +96,7 @@ fn go_on(
     room: &mut [u8],
     out: &mut [u8],
 ) -> Hearing
-    requires { ⌜ (now store ≡ storeAtStart) × (length (now line) ≡ 131201) × (length (now line) ≤ 2 * length (now room)) × (65536 ≤ length (now memory)) × (2 * length (now store) + 512 ≤ length (now out)) × (2 * length (now memory) + 512 ≤ length (now out)) ⌝ }
+    requires { ⌜ (now store ≡ storeAtStart) × Ready 0 (now line) (now store) (now memory) (now room) (now out) ⌝ }
     ensures reached { λ r. ⌜ Reached (heardOf r (now (line .exit)) (now (store .exit)) (now (memory .exit))) ⌝ }
 {
     let state = console_state::start();
@@ -107,10 +119,10 @@ fn go_on(
 
 // Answers every line of standard input.
 pub fn converse() {
-    let mut line = [0u8; 131201];
-    let mut store = [0u8; 49152];
-    let mut memory = [0u8; 65536];
-    let mut room = [0u8; 65601];
-    let mut out = [0u8; 131584];
+    let mut line = [0u8; KEPT];
+    let mut store = [0u8; STORE];
+    let mut memory = [0u8; MOST_SIZE];
+    let mut room = [0u8; SPELLED];
+    let mut out = [0u8; ANSWER];
     let h = go_on(&mut line, &mut store, &mut memory, &mut room, &mut out);
 }

@@ -1,9 +1,12 @@
 // The console's commands about OPENs and routes: pcc, pce, ero, rro, ero-segment, rro-segment (console.md). `room`
 // takes the octets that the line spells.
-ghost use Prim.Native.Nat.{_*_, _≤_};
+ghost use Prim.Native.Nat.{_≤_};
 ghost use mathlib.Core.Path.{_≡_};
 ghost use lib.ListN.{length};
 ghost use Rattle.printing.specs.Text.{Behind};
+ghost use Rattle.console_lines.specs.Lines.{short};
+ghost use Rattle.console_fields.specs.Shown.{long};
+ghost use Rattle.console_state.specs.Rooms.{Spells};
 ghost use Rattle.console_routes.specs.Routing.{openIn, routeLine, segmentAnswer};
 use command::Command;
 use command::octets_at;
@@ -12,7 +15,7 @@ use session::Session;
 
 // `pcc OCTETS`, `pce OCTETS`: the answer to the OPEN of the line.
 pub fn heard(line: &[u8], room: &mut [u8]) -> Opened
-    requires { ⌜ length (now line) ≤ 2 * length (now room) ⌝ }
+    requires { ⌜ Spells (now line) (now room) ⌝ }
     ensures read { λ r. ⌜ r ≡ openIn (now (line .entry)) ⌝ }
 {
     let n = octets_at(line, 1, room);
@@ -28,7 +31,7 @@ pub fn judged(
     room: &mut [u8],
     out: &mut [u8],
 ) -> usize
-    requires { ⌜ (length (now line) ≤ 2 * length (now room)) × (128 ≤ length (now out)) ⌝ }
+    requires { ⌜ Spells (now line) (now room) × (short ≤ length (now out)) ⌝ }
     ensures told { λ r. ⌜ Behind (now (out .entry)) (now (out .exit)) 0 r (routeLine ero session c (now (line .entry))) ⌝ }
 {
     let n = octets_at(line, 2, room);
@@ -45,7 +48,7 @@ pub fn picked(
     room: &mut [u8],
     out: &mut [u8],
 ) -> usize
-    requires { ⌜ (length (now line) ≤ 2 * length (now room)) × (512 ≤ length (now out)) ⌝ }
+    requires { ⌜ Spells (now line) (now room) × (long ≤ length (now out)) ⌝ }
     ensures told { λ r. ⌜ Behind (now (out .entry)) (now (out .exit)) 0 r (segmentAnswer ero session c (now (line .entry))) ⌝ }
 {
     let n = octets_at(line, 3, room);

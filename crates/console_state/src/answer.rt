@@ -2,12 +2,13 @@
 ghost use Prim.Native.Nat.{_≤_};
 ghost use lib.ListN.{length};
 ghost use Rattle.printing.specs.Text.{Behind};
+ghost use Rattle.console_lines.specs.Lines.{short};
 ghost use Rattle.console_state.specs.Answers.{countLine, plainLine};
 use answers::Verdict;
 
 // `0 0 COUNT`, or the refusal.
 pub fn counted(out: &mut [u8], v: Verdict) -> usize
-    requires { ⌜ 128 ≤ length (now out) ⌝ }
+    requires { ⌜ short ≤ length (now out) ⌝ }
     ensures told { λ r. ⌜ Behind (now (out .entry)) (now (out .exit)) 0 r (countLine v) ⌝ }
 {
     if v.number != 0 {
@@ -18,7 +19,7 @@ pub fn counted(out: &mut [u8], v: Verdict) -> usize
 
 // `0 0`, or the refusal.
 pub fn plain(out: &mut [u8], v: Verdict) -> usize
-    requires { ⌜ 128 ≤ length (now out) ⌝ }
+    requires { ⌜ short ≤ length (now out) ⌝ }
     ensures told { λ r. ⌜ Behind (now (out .entry)) (now (out .exit)) 0 r (plainLine v) ⌝ }
 {
     if v.number != 0 {

@@ -7,15 +7,15 @@ use lib.Dec.{eqb, ltb}
 use lib.ListN.{length}
 use native.Mathlib.Omega.{arith}
 use borrow.Author.Tests.{eqb-true, leb-true}
-use Rattle.words.specs.Words.{wordOf, wordsIn, sameOf}
-use Rattle.decimal.specs.Decimal.{isAtMost, isNumber, isNone, valueOf}
+use Rattle.words.specs.Words.{space, dash, wordOf, wordsIn, sameOf}
+use Rattle.decimal.specs.Decimal.{isAtMost, isNumber, isNone, decimalValue}
 use Rattle.hexadecimal.specs.Hexadecimal.{octetsOf, isOctets, isSid, isNai}
 use Rattle.command_forms.specs.declared.verb.Verb.{Verb}
 use Rattle.command_forms.specs.declared.verb.Verb.the-variants as v
-use Rattle.command_forms.specs.Forms.{space, verbOf, Kind, fits, kindsOf, formed, fitFrom}
-use Rattle.command_forms.specs.Forms.Kind.{upTo, side, sid, nai, structure}
+use Rattle.command_forms.specs.Forms.{mostSize, verbOf, Kind, fits, kindsOf, formed, fitFrom}
+use Rattle.command_forms.specs.Forms.Kind.{bit, octet, twoOctets, size, side, sid, nai, structure}
 use Rattle.command.specs.declared.Command.{Command}
-use Rattle.command.specs.Commands.{skipped, longest, bare, commanded, commandOf}
+use Rattle.command.specs.Commands.{skipped, longest, bareCommand, commanded, commandOf}
 use Rattle.console_writer.specs.Composing.{AddForm}
 
 and-true : (a b : Bool) → (a && b) ≡ true → (a ≡ true) × (b ≡ true)
@@ -24,20 +24,20 @@ and-true false b e = absurd (let z : _≡_ {A = ℕ} 0 1 = cc in omega arith)
 
 -- ## Words
 
-at-most : (most : ℕ) (w : List ℕ) → isAtMost most w ≡ true → valueOf w ≤ most
+at-most : (most : ℕ) (w : List ℕ) → isAtMost most w ≡ true → decimalValue w ≤ most
 unfolding isAtMost
-at-most most w e = leb-true (valueOf w) most (and-true (isNumber w) _ e .1)
+at-most most w e = leb-true (decimalValue w) most (and-true (isNumber w) _ e .1)
 
-none-empty : (w : List ℕ) → sameOf w (45 ∷ []) ≡ true → length (octetsOf w) ≤ 16
+none-empty : (w : List ℕ) → sameOf w (dash ∷ []) ≡ true → length (octetsOf w) ≤ 16
 unfolding sameOf octetsOf
 none-empty [] e = omega arith
 none-empty (a ∷ []) e = omega arith
-none-empty (a ∷ b ∷ r) e = absurd (let f = and-true (eqb a 45) false e .1 in let z : _≡_ {A = ℕ} 0 1 = cc in omega arith)
+none-empty (a ∷ b ∷ r) e = absurd (let f = and-true (eqb a dash) false e .1 in let z : _≡_ {A = ℕ} 0 1 = cc in omega arith)
 
 sid-short : (w : List ℕ) → isSid w ≡ true → length (octetsOf w) ≤ 16
 unfolding isSid isNone
-sid-short w e = go (sameOf w (45 ∷ [])) refl (and-true (isOctets w) _ e .1) where
-  go : (b : Bool) → sameOf w (45 ∷ []) ≡ b → (b || eqb (length (octetsOf w)) 16) ≡ true → length (octetsOf w) ≤ 16
+sid-short w e = go (sameOf w (dash ∷ [])) refl (and-true (isOctets w) _ e .1) where
+  go : (b : Bool) → sameOf w (dash ∷ []) ≡ b → (b || eqb (length (octetsOf w)) 16) ≡ true → length (octetsOf w) ≤ 16
   go true h f = none-empty w h
   go false h f = let k = eqb-true (length (octetsOf w)) 16 f in omega arith
 
@@ -53,8 +53,8 @@ pub record Formed (c x : Command) (f : Bool) : Type 0 where
   pub form : f ≡ true
 
 chosen : (s l f : Bool) (x : Command) (w : Verb) → (v.Skip ≡ w → ⊥) → (v.Bad ≡ w → ⊥)
-    → cond s (bare v.Skip) (cond l (bare v.Bad) (cond f x (bare v.Bad))) .verb ≡ w
-    → Formed (cond s (bare v.Skip) (cond l (bare v.Bad) (cond f x (bare v.Bad)))) x f
+    → cond s (bareCommand v.Skip) (cond l (bareCommand v.Bad) (cond f x (bareCommand v.Bad))) .verb ≡ w
+    → Formed (cond s (bareCommand v.Skip) (cond l (bareCommand v.Bad) (cond f x (bareCommand v.Bad)))) x f
 chosen true l f x w p q e = absurd (p e)
 chosen false true f x w p q e = absurd (q e)
 chosen false false true x w p q e = record { same = refl; form = refl }
@@ -75,23 +75,23 @@ fit-words ks line e = and-true (eqb (wordsIn space line) (suc (length ks))) (fit
 fit-word : (k : Kind) (ks : List Kind) (line : List ℕ) (i : ℕ) → fitFrom (k ∷ ks) line i ≡ true → (fits k (wordOf space line i) ≡ true) × (fitFrom ks line (suc i) ≡ true)
 fit-word k ks line i e = and-true (fits k (wordOf space line i)) (fitFrom ks line (suc i)) e
 
-begin-at : (line : List ℕ) → formed (kindsOf v.Begin) line ≡ true → valueOf (wordOf space line 2) ≤ 65536
+begin-at : (line : List ℕ) → formed (kindsOf v.Begin) line ≡ true → decimalValue (wordOf space line 2) ≤ mostSize
 begin-at line e =
-    let a = fit-word side (upTo 65536 ∷ []) line 1 (fit-words (kindsOf v.Begin) line e) in
-    at-most 65536 (wordOf space line 2) (fit-word (upTo 65536) [] line 2 (a .1) .0)
+    let a = fit-word side (size ∷ []) line 1 (fit-words (kindsOf v.Begin) line e) in
+    at-most mostSize (wordOf space line 2) (fit-word size [] line 2 (a .1) .0)
 
 -- "SIZE octets (0 to 65,536)"
-pub begin-size : (line : List ℕ) {c : Command} → c ≡ commandOf line → c .verb ≡ v.Begin → c .two ≤ 65536
+pub begin-size : (line : List ℕ) {c : Command} → c ≡ commandOf line → c .verb ≡ v.Begin → c .two ≤ mostSize
 begin-size line {c} p q =
     let f = in-form line v.Begin (λ e. let z : _≡_ {A = ℕ} 0 1 = cc in omega arith) (λ e. let z : _≡_ {A = ℕ} 0 1 = cc in omega arith) (rw p at q) in
     rw (p, f .same) (begin-at line (f .form))
 
 add-at : (line : List ℕ) → formed (kindsOf v.Add) line ≡ true → AddForm (commanded line) line
 add-at line e =
-    let l = fit-word (upTo 1) (upTo 1 ∷ upTo 255 ∷ upTo 65535 ∷ sid ∷ nai ∷ structure ∷ []) line 1 (fit-words (kindsOf v.Add) line e) in
-    let m = fit-word (upTo 1) (upTo 255 ∷ upTo 65535 ∷ sid ∷ nai ∷ structure ∷ []) line 2 (l .1) in
-    let t = fit-word (upTo 255) (upTo 65535 ∷ sid ∷ nai ∷ structure ∷ []) line 3 (m .1) in
-    let b = fit-word (upTo 65535) (sid ∷ nai ∷ structure ∷ []) line 4 (t .1) in
+    let l = fit-word bit (bit ∷ octet ∷ twoOctets ∷ sid ∷ nai ∷ structure ∷ []) line 1 (fit-words (kindsOf v.Add) line e) in
+    let m = fit-word bit (octet ∷ twoOctets ∷ sid ∷ nai ∷ structure ∷ []) line 2 (l .1) in
+    let t = fit-word octet (twoOctets ∷ sid ∷ nai ∷ structure ∷ []) line 3 (m .1) in
+    let b = fit-word twoOctets (sid ∷ nai ∷ structure ∷ []) line 4 (t .1) in
     let s = fit-word sid (nai ∷ structure ∷ []) line 5 (b .1) in
     let n = fit-word nai (structure ∷ []) line 6 (s .1) in
     record { nt = at-most 255 _ (t .0); behaviour = at-most 65535 _ (b .0); sid = sid-short _ (s .0); nai = nai-short _ (n .0) }

@@ -1,55 +1,55 @@
--- A turn, from what its command's call promises.
+-- A turn, from what its command's call promises: one law for all rows of the table.
 use Prim.Native.Nat.{ℕ}
 use mathlib.Core.Path.{_≡_, sym, _∙_, ap, subst}
 use mathlib.Core.List.{List}
-use lib.ListN.{take}
 use Rattle.session.specs.declared.Opened.{Opened}
 use Rattle.session.specs.declared.Session.{Session}
 use Rattle.board_record.specs.declared.record.Board.{Board}
 use Rattle.writer.specs.declared.state.Writer.{Writer}
 use Rattle.printing.specs.Text.{Behind}
-use Rattle.console_fields.specs.Shown.{openedLine}
 use Rattle.command_forms.specs.declared.verb.Verb.{Verb}
 use Rattle.command.specs.declared.Command.{Command}
 use Rattle.command.specs.Commands.{commandOf}
 use Rattle.console_state.specs.declared.state.State.{State}
-use Rattle.console_state.specs.Standing.{Console, consoleOf, withBoard, withPcc, withPce, withWriter}
-use Rattle.console_routes.specs.Routing.{openIn}
-use Rattle.console_writer.specs.Composing.{Composing}
-use Rattle.console_board.specs.Boarding.{Boarding}
-use Rattle.console_turn.specs.Turns.{Turned, stays, pccTurn, pceTurn, composes, boards, turnBy, turnOf, Does}
+use Rattle.console_state.specs.Standing.{Console, consoleOf}
+use Rattle.console_turn.specs.Turns.{Turned, turnBy, turnOf, Does}
 
 -- The turn of a line is that of its command.
-pub by-verb : (k : Console) (c : Command) (line : List ℕ) (n : ℕ) (v : Verb) {after : Console} {before out : List ℕ} {end : ℕ}
-    → c ≡ commandOf line
-    → c .verb ≡ v
-    → Does (turnBy v k c line n) after before out end
-    → Does (turnOf k line n) after before out end
+turn-by : (w : Verb) (k : Console) (c : Command) (line : List ℕ) (n : ℕ) → c ≡ commandOf line → c .verb ≡ w → turnBy w k c line n ≡ turnOf k line n
 unfolding turnOf
-by-verb k c line n v {after} {before} {out} {end} p q d = rw (← p) (subst (λ (x : Verb). Does (turnBy x k c line n) after before out end) (sym q) d)
+turn-by w k c line n p q = rw (← p) (ap (λ (x : Verb). turnBy x k c line n) (sym q))
 
-module _ (s : State) (store memory : List ℕ) {before out : List ℕ} {end e : ℕ} {r : State} (q : e ≡ end) where
-  pub stays-does : {answer : List ℕ} → r ≡ s → Behind before out 0 end answer → Does (stays (consoleOf s store memory) answer) (consoleOf r store memory) before out e
-  stays-does p b = record { console = ap (λ (x : State). consoleOf x store memory) p; told = rw q b }
+-- The line was read as a command of verb w; the arm ended in the state a with the answer's end; the answer x was laid there; and both are what
+-- the row of w says.
+pub does : (w : Verb) {s a r : State} {c : Command} {store memory line store′ memory′ before after x : List ℕ} {n e end : ℕ}
+    → c ≡ commandOf line
+    → c .verb ≡ w
+    → (r ≡ a) × (e ≡ end)
+    → Behind before after 0 end x
+    → x ≡ turnBy w (consoleOf s store memory) c line n .answer
+    → consoleOf a store′ memory′ ≡ turnBy w (consoleOf s store memory) c line n .console
+    → Does s store memory line n r store′ memory′ before after e
+does w {s} {c = c} {store} {memory} {line} {store′} {memory′} {before} {after} {n = n} {end = end} p q (f, g) b t k =
+    let u = turn-by w (consoleOf s store memory) c line n p q in
+    record {
+      console = ap (λ (y : State). consoleOf y store′ memory′) f ∙ k ∙ ap (λ (y : Turned). y .console) u;
+      told = rw g (subst (λ (y : List ℕ). Behind before after 0 end y) (t ∙ ap (λ (y : Turned). y .answer) u) b);
+    }
 
-  pub pcc-does : (line : List ℕ) {o : Opened} → o ≡ openIn line → r ≡ withPcc s o → Behind before out 0 end (openedLine o)
-      → Does (pccTurn (consoleOf s store memory) line) (consoleOf r store memory) before out e
-  pcc-does line f p b = record { console = ap (λ (x : State). consoleOf x store memory) p ∙ ap (λ (x : Opened). consoleOf (withPcc s x) store memory) f; told = rw (q, ← f) b }
+-- ## What `refl` does not compute
 
-  pub pce-does : (line : List ℕ) {o : Opened} → o ≡ openIn line → r ≡ withPce s o → Behind before out 0 end (openedLine o)
-      → Does (pceTurn (consoleOf s store memory) line) (consoleOf r store memory) before out e
-  pce-does line f p b = record { console = ap (λ (x : State). consoleOf x store memory) p ∙ ap (λ (x : Opened). consoleOf (withPce s x) store memory) f; told = rw (q, ← f) b }
+-- The session that was agreed is the console's.
+pub under : (f : Session → Command → List ℕ → List ℕ) {s t : Session} {c : Command} {line : List ℕ} → s ≡ t → f s c line ≡ f t c line
+under f {c = c} {line = line} e = ap (λ (x : Session). f x c line) e
 
-  pub composes-does : (t : Composing) (m : List ℕ) {w : Writer} {size : ℕ} → r ≡ withWriter s w size → w ≡ t .writer → take size m ≡ t .lent
-      → Behind before out 0 end (t .answer)
-      → Does (composes (consoleOf s store memory) t) (consoleOf r store m) before out e
-  composes-does t m p f g b = record { console = ap (λ (x : State). consoleOf x store m) p ∙ cc; told = rw q b }
-
-  pub boards-does : (t : Boarding) {after : List ℕ} {b : Board} → r ≡ withBoard s b → b ≡ t .board → after ≡ t .store
-      → Behind before out 0 end (t .answer)
-      → Does (boards (consoleOf s store memory) t) (consoleOf r after memory) before out e
-  boards-does t {after} p f g h = record { console = ap (λ (x : State). consoleOf x after memory) p ∙ cc; told = rw q h }
-
--- A turn under the session that both halves agree on.
-pub under : (f : Session → Turned) {s t : Session} {k : Console} {before out : List ℕ} {end : ℕ} → s ≡ t → Does (f s) k before out end → Does (f t) k before out end
-under f {k = k} {before = before} {out = out} {end = end} e d = subst (λ (x : Session). Does (f x) k before out end) e d
+-- The console part by part, after a command that changes it.
+pub parts : {board b : Board} {store s : List ℕ} {pcc o pce p : Opened} {writer w : Writer} {lent l : List ℕ}
+    → board ≡ b
+    → store ≡ s
+    → pcc ≡ o
+    → pce ≡ p
+    → writer ≡ w
+    → lent ≡ l
+    → _≡_ {A = Console} (record { board = board; store = store; pcc = pcc; pce = pce; writer = writer; lent = lent })
+    (record { board = b; store = s; pcc = o; pce = p; writer = w; lent = l })
+parts a b c d e f = λ i. record { board = a i; store = b i; pcc = c i; pce = d i; writer = e i; lent = f i }

@@ -12,7 +12,8 @@ use Rattle.command_forms.specs.declared.verb.Verb.{Verb}
 use Rattle.command_forms.specs.declared.verb.Verb.the-variants as v
 use Rattle.command.specs.declared.Command.{Command}
 use Rattle.command.specs.Commands.{commandOf}
-use Rattle.console_state.specs.Standing.{Console}
+use Rattle.console_state.specs.declared.state.State.{State}
+use Rattle.console_state.specs.Standing.{Console, consoleOf}
 use Rattle.console_routes.specs.Routing.{openIn, routeLine, segmentAnswer}
 use Rattle.console_writer.specs.Composing.{Composing, beginTurn, addTurn, finishTurn, lentLine}
 use Rattle.console_board.specs.Boarding.{Boarding, reportTurn, removeTurn, compactTurn, bodyLine, nextLine, markLine, boardLine}
@@ -41,8 +42,8 @@ pceTurn k line = record {
 }
 
 -- "the session" of both halves
-abbrev pub sessionIn : Console → Session
-sessionIn k = sessionOf (k .pcc) (k .pce)
+abbrev pub agreedIn : Console → Session
+agreedIn k = sessionOf (k .pcc) (k .pce)
 
 -- What a command about the writer leaves, and its line.
 abbrev pub composes : Console → Composing → Turned
@@ -69,13 +70,13 @@ turnBy v.Pcc k c line n = pccTurn k line
 -- `pce OCTETS`
 turnBy v.Pce k c line n = pceTurn k line
 -- `ero PST OCTETS`: "judges a route under the session"
-turnBy v.Ero k c line n = stays k (routeLine true (sessionIn k) c line)
+turnBy v.Ero k c line n = stays k (routeLine true (agreedIn k) c line)
 -- `rro PST OCTETS`
-turnBy v.Rro k c line n = stays k (routeLine false (sessionIn k) c line)
+turnBy v.Rro k c line n = stays k (routeLine false (agreedIn k) c line)
 -- `ero-segment PST I OCTETS`: "asks for segment I of a route"
-turnBy v.EroSegment k c line n = stays k (segmentAnswer true (sessionIn k) c line)
+turnBy v.EroSegment k c line n = stays k (segmentAnswer true (agreedIn k) c line)
 -- `rro-segment PST I OCTETS`
-turnBy v.RroSegment k c line n = stays k (segmentAnswer false (sessionIn k) c line)
+turnBy v.RroSegment k c line n = stays k (segmentAnswer false (agreedIn k) c line)
 -- `begin ero SIZE` · `begin rro SIZE`
 turnBy v.Begin k c line n = composes k (beginTurn (k .writer) (k .lent) c)
 -- `add L V NT BEHAVIOUR SID NAI STRUCTURE`: "adds a segment"
@@ -85,7 +86,7 @@ turnBy v.Finish k c line n = composes k (finishTurn (k .writer) (k .lent))
 -- `lent`: "shows the writer's whole buffer"
 turnBy v.Lent k c line n = stays k (lentLine (k .lent))
 -- `report KEY PST OCTETS`: "reports a path to the board"
-turnBy v.Report k c line n = boards k (reportTurn (k .board) (k .store) (sessionIn k) c line)
+turnBy v.Report k c line n = boards k (reportTurn (k .board) (k .store) (agreedIn k) c line)
 -- `remove KEY`
 turnBy v.Remove k c line n = boards k (removeTurn (k .board) (k .store) c)
 -- `compact C`
@@ -103,7 +104,7 @@ turnBy v.Board k c line n = stays k (boardLine (k .board))
 unfoldable pub turnOf : Console → List ℕ → ℕ → Turned
 turnOf k line n = turnBy (commandOf line .verb) k (commandOf line) line n
 
--- The console stands as the turn says, and the octets of its answer, and no others, are laid at the start of a buffer, up to `end`.
-pub record Does (t : Turned) (k : Console) (before after : List ℕ) (end : ℕ) : Type 0 where
-  pub console : k ≡ t .console
-  pub told : Behind before after 0 end (t .answer)
+-- The console stands as the n-th line leaves it, and the octets of its answer, and no others, are laid at the start of a buffer, up to `end`.
+pub record Does (s : State) (store memory line : List ℕ) (n : ℕ) (r : State) (store′ memory′ before after : List ℕ) (end : ℕ) : Type 0 where
+  pub console : consoleOf r store′ memory′ ≡ turnOf (consoleOf s store memory) line n .console
+  pub told : Behind before after 0 end (turnOf (consoleOf s store memory) line n .answer)

@@ -1,8 +1,6 @@
 // The answer to any line, the n-th.
-ghost use Prim.Native.Nat.{_+_, _*_, _≤_};
-ghost use lib.ListN.{length};
-ghost use Rattle.console_state.specs.Standing.{consoleOf};
-ghost use Rattle.console_turn.specs.Turns.{turnOf, Does};
+ghost use Rattle.console_state.specs.Rooms.{Rooms};
+ghost use Rattle.console_turn.specs.Turns.{Does};
 use crate::turn::Turn;
 use crate::turn::boarded;
 use crate::turn::composed;
@@ -21,8 +19,8 @@ pub fn answered(
     room: &mut [u8],
     out: &mut [u8],
 ) -> Turn
-    requires { ⌜ (length (now line) ≤ 2 * length (now room)) × (65536 ≤ length (now memory)) × (2 * length (now store) + 512 ≤ length (now out)) × (2 * length (now memory) + 512 ≤ length (now out)) ⌝ }
-    ensures done { λ r. ⌜ Does (turnOf (consoleOf state (now (store .entry)) (now (memory .entry))) (now (line .entry)) n) (consoleOf (r .state) (now (store .exit)) (now (memory .exit))) (now (out .entry)) (now (out .exit)) (r .end) ⌝ }
+    requires { ⌜ Rooms (now line) (now store) (now memory) (now room) (now out) ⌝ }
+    ensures done { λ r. ⌜ Does state (now (store .entry)) (now (memory .entry)) (now (line .entry)) n (r .state) (now (store .exit)) (now (memory .exit)) (now (out .entry)) (now (out .exit)) (r .end) ⌝ }
 {
     let c = command::parse(line);
     let pcc = state.pcc;

@@ -12,11 +12,10 @@ use Rattle.answers.specs.Verdicts.{kept}
 use Rattle.octets.proofs.Laws.{copied, copied-more}
 use Rattle.writer.specs.declared.state.Writer.{Writer}
 use Rattle.writer.specs.Writing.{beginNumber, beginAnswer, answered}
-use Rattle.words.specs.Words.{wordOf}
+use Rattle.words.specs.Words.{space, wordOf}
 use Rattle.decimal.specs.Decimal.{isNone, structureOf}
-use Rattle.command_forms.specs.Forms.{space}
 use Rattle.command.specs.declared.Command.{Command}
-use Rattle.console_writer.specs.Composing.{freshBuffer, sidIn, naiIn, segmentIn}
+use Rattle.console_writer.specs.Composing.{freshOctet, freshBuffer, sidIn, naiIn, segmentIn}
 
 -- ## The part of a memory that is lent
 
@@ -33,13 +32,13 @@ lent-back size m y {n} e q = go (leb size (length m)) refl where
 
 pub length-fresh : (size : ℕ) → length (freshBuffer size) ≡ size
 unfolding freshBuffer
-length-fresh size = length-replicate size 238
+length-fresh size = length-replicate size freshOctet
 
-pub filled-more : (b : List ℕ) (i : ℕ) → i < length b → set (copied b (freshBuffer (length b)) i) i 238 ≡ copied b (freshBuffer (length b)) (i + 1)
+pub filled-more : (b : List ℕ) (i : ℕ) → i < length b → set (copied b (freshBuffer (length b)) i) i freshOctet ≡ copied b (freshBuffer (length b)) (i + 1)
 unfolding freshBuffer
 filled-more b i h =
-    let l = length-replicate {A = ℕ} (length b) 238 in
-    rw (getD-replicate {A = ℕ} (length b) i 238 0 h) at (copied-more b (replicate (length b) 238) i h (omega arith))
+    let l = length-replicate {A = ℕ} (length b) freshOctet in
+    rw (getD-replicate {A = ℕ} (length b) i freshOctet 0 h) at (copied-more b (replicate (length b) freshOctet) i h (omega arith))
 
 pub filled-all : (b : List ℕ) → copied b (freshBuffer (length b)) (length b) ≡ freshBuffer (length b)
 filled-all b =

@@ -10,9 +10,8 @@ use Rattle.subobject.specs.declared.segment.Segment.{Segment}
 use Rattle.writer.specs.declared.state.Writer.{Writer}
 use Rattle.writer.specs.declared.state.Written.{Written}
 use Rattle.writer.specs.Writing.{beginAnswer, beginBuffer, addAnswer, addBuffer, finishAnswer, finishBuffer}
-use Rattle.words.specs.Words.{wordOf}
+use Rattle.words.specs.Words.{space, wordOf}
 use Rattle.decimal.specs.Decimal.{isNone, structureOf}
-use Rattle.command_forms.specs.Forms.{space}
 use Rattle.command.specs.declared.Command.{Command}
 use Rattle.console_lines.specs.Lines.{oneLine, octetsLine}
 use Rattle.console_state.specs.Answers.{answerLine}
@@ -30,9 +29,13 @@ placeLine w = answerLine (w .verdict) (oneLine (w .writer .at))
 
 -- ## Begin
 
+-- `EE`
+abbrev pub freshOctet : ℕ
+freshOctet = 0xEE
+
 -- "a new buffer of SIZE octets, each `EE`"
 unfoldable pub freshBuffer : ℕ → List ℕ
-freshBuffer size = replicate size 238
+freshBuffer size = replicate size freshOctet
 
 -- `begin ero SIZE` · `begin rro SIZE`: "lends the writer a new buffer of SIZE octets (0 to 65,536), each `EE`, and begins a route in it. Where that is
 -- refused the writer keeps the buffer, the kind and the place that it had"; `0 0 4`

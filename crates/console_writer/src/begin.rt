@@ -4,6 +4,7 @@ ghost use mathlib.Core.Path.{_≡_};
 ghost use lib.ListN.{length, take};
 ghost use Rattle.writer.specs.Writing.{beginAnswer, beginBuffer};
 ghost use Rattle.printing.specs.Text.{Behind};
+ghost use Rattle.console_lines.specs.Lines.{short};
 ghost use Rattle.console_writer.specs.Composing.{freshBuffer, beginTurn};
 use crate::wrote::Composed;
 use crate::wrote::placed;
@@ -13,14 +14,14 @@ use writer::Writer;
 use writer::Written;
 
 // what a new buffer holds
-const LENT: u8 = 238;
+const FRESH: u8 = 0xEE;
 
 fn fill(buffer: &mut [u8])
     ensures filled { λ _. ⌜ now (buffer .exit) ≡ freshBuffer (length (now (buffer .entry))) ⌝ }
 {
     let mut i: usize = 0;
     while i < buffer.len() {
-        buffer[i] = LENT;
+        buffer[i] = FRESH;
         i = i + 1;
     }
 }
@@ -43,7 +44,7 @@ fn narrow(n: u64) -> usize
 
 // Whether a begin is refused is asked with a buffer of its own, so that the writer keeps what it had.
 pub fn begun(old: Writer, size: usize, c: Command, memory: &mut [u8], out: &mut [u8]) -> Composed
-    requires { ⌜ (c .two ≤ length (now memory)) × (128 ≤ length (now out)) ⌝ }
+    requires { ⌜ (c .two ≤ length (now memory)) × (short ≤ length (now out)) ⌝ }
     ensures writer { λ r. ⌜ r .writer ≡ beginTurn old (take size (now (memory .entry))) c .writer ⌝ }
     ensures lent { λ r. ⌜ take (r .size) (now (memory .exit)) ≡ beginTurn old (take size (now (memory .entry))) c .lent ⌝ }
     ensures told { λ r. ⌜ Behind (now (out .entry)) (now (out .exit)) 0 (r .end) (beginTurn old (take size (now (memory .entry))) c .answer) ⌝ }

@@ -4,6 +4,7 @@ ghost use mathlib.Core.Path.{_≡_};
 ghost use lib.ListN.{length, take};
 ghost use Rattle.writer.specs.Writing.{finishAnswer, finishBuffer};
 ghost use Rattle.printing.specs.Text.{Behind};
+ghost use Rattle.console_lines.specs.Lines.{short};
 ghost use Rattle.console_writer.specs.Composing.{finishTurn, finishLine, lentLine};
 use crate::wrote::Composed;
 use console_state::fit;
@@ -17,7 +18,7 @@ struct Closed {
 
 // Finishes the route in the part that is lent.
 fn close(part: &mut [u8], old: Writer, out: &mut [u8]) -> Closed
-    requires { ⌜ 2 * length (now part) + 128 ≤ length (now out) ⌝ }
+    requires { ⌜ 2 * length (now part) + short ≤ length (now out) ⌝ }
     ensures writer { λ r. ⌜ r .writer ≡ finishAnswer (now (part .entry)) old .writer ⌝ }
     ensures buffer { λ _. ⌜ now (part .exit) ≡ finishBuffer (now (part .entry)) old ⌝ }
     ensures told { λ r. ⌜ Behind (now (out .entry)) (now (out .exit)) 0 (r .end) (finishLine old (now (part .entry))) ⌝ }
@@ -39,7 +40,7 @@ fn close(part: &mut [u8], old: Writer, out: &mut [u8]) -> Closed
 }
 
 pub fn finished(old: Writer, size: usize, memory: &mut [u8], out: &mut [u8]) -> Composed
-    requires { ⌜ 2 * length (now memory) + 128 ≤ length (now out) ⌝ }
+    requires { ⌜ 2 * length (now memory) + short ≤ length (now out) ⌝ }
     ensures writer { λ r. ⌜ r .writer ≡ finishTurn old (take size (now (memory .entry))) .writer ⌝ }
     ensures lent { λ r. ⌜ take (r .size) (now (memory .exit)) ≡ finishTurn old (take size (now (memory .entry))) .lent ⌝ }
     ensures told { λ r. ⌜ Behind (now (out .entry)) (now (out .exit)) 0 (r .end) (finishTurn old (take size (now (memory .entry))) .answer) ⌝ }
@@ -55,7 +56,7 @@ pub fn finished(old: Writer, size: usize, memory: &mut [u8], out: &mut [u8]) -> 
 }
 
 pub fn shown(size: usize, memory: &[u8], out: &mut [u8]) -> usize
-    requires { ⌜ 2 * length (now memory) + 128 ≤ length (now out) ⌝ }
+    requires { ⌜ 2 * length (now memory) + short ≤ length (now out) ⌝ }
     ensures told { λ r. ⌜ Behind (now (out .entry)) (now (out .exit)) 0 r (lentLine (take size (now (memory .entry)))) ⌝ }
 {
     let n = fit(size, memory);

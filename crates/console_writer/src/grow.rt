@@ -1,8 +1,10 @@
 // `add L V NT BEHAVIOUR SID NAI STRUCTURE`
-ghost use Prim.Native.Nat.{_*_, _≤_};
+ghost use Prim.Native.Nat.{_≤_};
 ghost use mathlib.Core.Path.{_≡_};
 ghost use lib.ListN.{length, take};
 ghost use Rattle.printing.specs.Text.{Behind};
+ghost use Rattle.console_lines.specs.Lines.{short};
+ghost use Rattle.console_state.specs.Rooms.{Spells};
 ghost use Rattle.console_writer.specs.Composing.{addTurn, AddForm};
 use crate::word::segment_in;
 use crate::wrote::Composed;
@@ -20,7 +22,7 @@ pub fn added(
     room: &mut [u8],
     out: &mut [u8],
 ) -> Composed
-    requires { ⌜ (length (now line) ≤ 2 * length (now room)) × AddForm c (now line) × (128 ≤ length (now out)) ⌝ }
+    requires { ⌜ Spells (now line) (now room) × AddForm c (now line) × (short ≤ length (now out)) ⌝ }
     ensures writer { λ r. ⌜ r .writer ≡ addTurn old (take size (now (memory .entry))) c (now (line .entry)) .writer ⌝ }
     ensures lent { λ r. ⌜ take (r .size) (now (memory .exit)) ≡ addTurn old (take size (now (memory .entry))) c (now (line .entry)) .lent ⌝ }
     ensures told { λ r. ⌜ Behind (now (out .entry)) (now (out .exit)) 0 (r .end) (addTurn old (take size (now (memory .entry))) c (now (line .entry)) .answer) ⌝ }

@@ -1,8 +1,9 @@
 // The segment of a line `add L V NT BEHAVIOUR SID NAI STRUCTURE`.
-ghost use Prim.Native.Nat.{_*_, _≤_};
+ghost use Prim.Native.Nat.{_≤_};
 ghost use mathlib.Core.Path.{_≡_};
 ghost use lib.ListN.{length};
 ghost use Rattle.console_state.specs.Spelled.{octetsIn};
+ghost use Rattle.console_state.specs.Rooms.{Spells};
 ghost use Rattle.console_writer.specs.Composing.{sidIn, naiIn, segmentIn, AddForm};
 use command::Command;
 use command::octets_at;
@@ -11,7 +12,7 @@ use words::SPACE;
 use words::word;
 
 fn sid_in(line: &[u8], room: &mut [u8]) -> [u8; 16]
-    requires { ⌜ (length (now line) ≤ 2 * length (now room)) × (length (octetsIn (now line) 5) ≤ 16) ⌝ }
+    requires { ⌜ Spells (now line) (now room) × (length (octetsIn (now line) 5) ≤ 16) ⌝ }
     ensures sid { λ r. ⌜ r ≡ sidIn (now (line .entry)) ⌝ }
     ensures room { λ _. ⌜ length (now (room .exit)) ≡ length (now (room .entry)) ⌝ }
 {
@@ -20,7 +21,7 @@ fn sid_in(line: &[u8], room: &mut [u8]) -> [u8; 16]
 }
 
 fn nai_in(line: &[u8], room: &mut [u8]) -> [u8; 40]
-    requires { ⌜ (length (now line) ≤ 2 * length (now room)) × (length (octetsIn (now line) 6) ≤ 40) ⌝ }
+    requires { ⌜ Spells (now line) (now room) × (length (octetsIn (now line) 6) ≤ 40) ⌝ }
     ensures nai { λ r. ⌜ r ≡ naiIn (now (line .entry)) ⌝ }
     ensures room { λ _. ⌜ length (now (room .exit)) ≡ length (now (room .entry)) ⌝ }
 {
@@ -29,7 +30,7 @@ fn nai_in(line: &[u8], room: &mut [u8]) -> [u8; 40]
 }
 
 pub fn segment_in(line: &[u8], c: Command, room: &mut [u8]) -> Segment
-    requires { ⌜ (length (now line) ≤ 2 * length (now room)) × AddForm c (now line) ⌝ }
+    requires { ⌜ Spells (now line) (now room) × AddForm c (now line) ⌝ }
     ensures segment { λ r. ⌜ r ≡ segmentIn c (now (line .entry)) ⌝ }
     ensures room { λ _. ⌜ length (now (room .exit)) ≡ length (now (room .entry)) ⌝ }
 {

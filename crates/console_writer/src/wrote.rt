@@ -2,6 +2,7 @@
 ghost use Prim.Native.Nat.{_≤_};
 ghost use lib.ListN.{length};
 ghost use Rattle.printing.specs.Text.{Behind};
+ghost use Rattle.console_lines.specs.Lines.{short};
 ghost use Rattle.console_writer.specs.Composing.{placeLine};
 use writer::Writer;
 use writer::Written;
@@ -15,7 +16,7 @@ pub struct Composed {
 
 // `0 0 AT`, or the refusal.
 pub fn placed(out: &mut [u8], w: Written) -> usize
-    requires { ⌜ 128 ≤ length (now out) ⌝ }
+    requires { ⌜ short ≤ length (now out) ⌝ }
     ensures told { λ r. ⌜ Behind (now (out .entry)) (now (out .exit)) 0 r (placeLine w) ⌝ }
 {
     let v = w.verdict;

@@ -10,7 +10,7 @@ use native.Mathlib.Omega.{arith}
 use native.Mathlib.Numerals.{add-one}
 use borrow.Author.Tests.{eq-eqb, ne-eqb, lt-ltb, le-ltb, le-leb, lt-leb}
 use Rattle.decimal.specs.declared.Number.{Number}
-use Rattle.decimal.specs.Decimal.{isDigit, allDigits, worth, isEmpty, isNumber, valueOf, numberOf}
+use Rattle.decimal.specs.Decimal.{isDigit, allDigits, worth, isEmpty, isNumber, decimalValue, numberOf}
 
 -- A reading under way: the digits before i are worth v.
 pub record Reading (w : List ℕ) (v i : ℕ) : Type 0 where
@@ -47,7 +47,7 @@ some-there [] h = absurd (h refl)
 some-there (c ∷ cs) h = refl
 
 refuse : (w : List ℕ) → isNumber w ≡ false → record { good = false; value = 0 } ≡ numberOf w
-unfolding numberOf valueOf
+unfolding numberOf decimalValue
 refuse w e = rw e
 
 pub empty-refused : (w : List ℕ) → length w ≡ 0 → record { good = false; value = 0 } ≡ numberOf w
@@ -85,7 +85,7 @@ module _ {w : List ℕ} {v i : ℕ} (r : Reading w v i) where
   }
 
   pub all-read : length w ≤ i → record { good = true; value = v } ≡ numberOf w
-  unfolding numberOf valueOf isNumber allDigits worth
+  unfolding numberOf decimalValue isNumber allDigits worth
   all-read h =
       let d : allDigits w ≡ true = sym (r .digits) ∙ rw (drop-of-length-le w h) in
       let s : worth 0 w ≡ v = sym (r .same) ∙ rw (drop-of-length-le w h) in

@@ -3,7 +3,7 @@ use Prim.Native.Nat.{ℕ, zero, suc, _+_, _-_, _*_, _%_}
 use mathlib.Core.Bool.{Bool, true, false, cond, not, _&&_, _||_}
 use mathlib.Core.List.{List, [], _∷_}
 use lib.Dec.{eqb, ltb, leb}
-use Rattle.words.specs.Words.{wordOf, wordsIn, sameOf}
+use Rattle.words.specs.Words.{comma, dash, wordOf, wordsIn, sameOf}
 use Rattle.decimal.specs.declared.Number.{Number}
 
 -- ## Numbers: "decimal digits and nothing else, 0 to 2^64-1, leading zeros allowed"
@@ -28,25 +28,21 @@ isEmpty (c ∷ cs) = false
 unfoldable pub isNumber : List ℕ → Bool
 isNumber w = not (isEmpty w) && (allDigits w && ltb (worth 0 w) 18446744073709551616)
 
-unfoldable pub valueOf : List ℕ → ℕ
-valueOf w = cond (isNumber w) (worth 0 w) 0
+unfoldable pub decimalValue : List ℕ → ℕ
+decimalValue w = cond (isNumber w) (worth 0 w) 0
 
 unfoldable pub numberOf : List ℕ → Number
-numberOf w = record { good = isNumber w; value = valueOf w }
+numberOf w = record { good = isNumber w; value = decimalValue w }
 
 unfoldable pub isAtMost : ℕ → List ℕ → Bool
-isAtMost most w = isNumber w && leb (valueOf w) most
+isAtMost most w = isNumber w && leb (decimalValue w) most
 
 -- ## None: `-`
 
 unfoldable pub isNone : List ℕ → Bool
-isNone w = sameOf w (45 ∷ [])
+isNone w = sameOf w (dash ∷ [])
 
 -- ## Structures: "four numbers of 0 to 255 joined by commas, or `-` for none"
-
--- `,`
-abbrev pub comma : ℕ
-comma = 44
 
 unfoldable pub isStructure : List ℕ → Bool
 isStructure w = isNone w || (eqb (wordsIn comma w) 4
@@ -54,4 +50,4 @@ isStructure w = isNone w || (eqb (wordsIn comma w) 4
 
 -- The four numbers; of a word that is no structure their lowest octets, which nobody asks for.
 unfoldable pub structureOf : List ℕ → List ℕ
-structureOf w = valueOf (wordOf comma w 0) % 256 ∷ valueOf (wordOf comma w 1) % 256 ∷ valueOf (wordOf comma w 2) % 256 ∷ valueOf (wordOf comma w 3) % 256 ∷ []
+structureOf w = decimalValue (wordOf comma w 0) % 256 ∷ decimalValue (wordOf comma w 1) % 256 ∷ decimalValue (wordOf comma w 2) % 256 ∷ decimalValue (wordOf comma w 3) % 256 ∷ []

@@ -1,19 +1,19 @@
 // What a word says as a number: decimal digits and nothing else, 0 to 2^64-1, leading zeros allowed.
 // A structure is four numbers of 0 to 255 joined by commas, or `-` for none (console.md).
 ghost use mathlib.Core.Path.{_≡_};
-ghost use Rattle.decimal.specs.Decimal.{isNone, numberOf, isNumber, valueOf, isAtMost, isStructure, structureOf};
+ghost use Rattle.decimal.specs.Decimal.{isNone, numberOf, isNumber, decimalValue, isAtMost, isStructure, structureOf};
 ghost use Prim.Native.Nat.{_%_, _-_, _≤_, _<_};
 use octets::both;
 use octets::either;
 use words::COMMA;
+use words::DASH;
 use words::word;
 
 const ZERO: u8 = 48;
 
 const NINE: u8 = 57;
 
-// `-`
-const NONE: [u8; 1] = [45];
+const NONE: [u8; 1] = [DASH];
 
 // the largest number that ten times itself and a digit more can be under 2^64
 const TENTH: u64 = 1844674407370955161;
@@ -84,7 +84,7 @@ pub fn is_number(word: &[u8]) -> bool
 
 // The number that a word says, 0 where it says none.
 pub fn value(word: &[u8]) -> u64
-    ensures value { λ r. ⌜ r ≡ valueOf (now (word .entry)) ⌝ }
+    ensures value { λ r. ⌜ r ≡ decimalValue (now (word .entry)) ⌝ }
 {
     let n = spelled(word);
     n.value

@@ -87,7 +87,8 @@ pub behind-placed : (b w : List ℕ) (at : ℕ) → at + length w ≤ length b �
 unfolding placed over
 behind-placed b w at h = record {
   ends = refl;
-  text = rw (← append-assoc (take at b) w (drop (length w) (drop at b))) (take-at (take at b ++ w) (drop (length w) (drop at b)) (at + length w) (simp (length-append, length-take-le at b (omega arith))));
+  text = rw (← append-assoc (take at b) w (drop (length w) (drop at b)))
+      (take-at (take at b ++ w) (drop (length w) (drop at b)) (at + length w) (simp (length-append, length-take-le at b (omega arith))));
   room = length-placed b at w h;
 }
 

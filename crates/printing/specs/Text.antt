@@ -5,6 +5,7 @@ use mathlib.Core.Bool.{Bool, true, false, cond}
 use mathlib.Core.List.{List, [], _∷_, _++_}
 use lib.Dec.{ltb}
 use lib.ListN.{length, take}
+use Rattle.words.specs.Words.{space, dash}
 
 -- ## Numbers
 
@@ -29,7 +30,7 @@ hexOf (x ∷ xs) = glyphOf (x / 16) ∷ glyphOf (x % 16) ∷ hexOf xs
 
 -- "`-` stands for no octets at all"
 unfoldable pub octetsText : List ℕ → List ℕ
-octetsText [] = 45 ∷ []
+octetsText [] = dash ∷ []
 octetsText (x ∷ xs) = hexOf (x ∷ xs)
 
 -- ## Lines
@@ -42,4 +43,4 @@ pub record Behind (before after : List ℕ) (at end : ℕ) (more : List ℕ) : T
 
 -- a word behind another
 abbrev pub spaced : List ℕ → List ℕ
-spaced word = 32 ∷ word
+spaced word = space ∷ word

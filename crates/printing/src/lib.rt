@@ -6,11 +6,12 @@ ghost use mathlib.Core.Path.{_≡_};
 ghost use mathlib.Core.List.{[], _∷_};
 ghost use lib.ListN.{length};
 ghost use Rattle.printing.specs.Text.{Behind, decimalOf, glyphOf, hexOf, octetsText, spaced};
+use words::DASH;
+use words::SPACE;
 
-const SPACE: [u8; 1] = [32];
+const GAP: [u8; 1] = [SPACE];
 
-// `-`
-const NONE: [u8; 1] = [45];
+const NONE: [u8; 1] = [DASH];
 
 // `src` behind the text.
 pub fn push(out: &mut [u8], at: usize, src: &[u8]) -> usize
@@ -73,7 +74,7 @@ pub fn field(out: &mut [u8], at: usize, n: u64) -> usize
     ensures behind { λ r. ⌜ Behind (now (out .entry)) (now (out .exit)) at r (spaced (decimalOf n)) ⌝ }
     ensures short { λ r. ⌜ r ≤ at + 21 ⌝ }
 {
-    let end = push(out, at, &SPACE);
+    let end = push(out, at, &GAP);
     number(out, end, n)
 }
 
@@ -83,6 +84,6 @@ pub fn octets_field(out: &mut [u8], at: usize, s: &[u8]) -> usize
     ensures behind { λ r. ⌜ Behind (now (out .entry)) (now (out .exit)) at r (spaced (octetsText (now (s .entry)))) ⌝ }
     ensures short { λ r. ⌜ r ≤ at + 2 * length (now (s .entry)) + 2 ⌝ }
 {
-    let end = push(out, at, &SPACE);
+    let end = push(out, at, &GAP);
     octets(out, end, s)
 }

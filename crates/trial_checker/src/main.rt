@@ -2,9 +2,8 @@
 // lengths that are too small or too large, refused OPENs before and behind, octets behind the ERO.
 ghost use Prim.Native.Nat.{_≤_, _<_};
 ghost use lib.ListN.{length};
+use words::NEWLINE;
 use words::word;
-
-const NEWLINE: u8 = 10;
 
 // Answers one input.
 fn answer(line: &[u8]) {
@@ -16,7 +15,7 @@ fn answer(line: &[u8]) {
     if octets.len() < n {
         return;
     }
-    let mut out = [0u8; 128];
+    let mut out = [0u8; console_lines::SHORT];
     let end = console_lines::whole(&mut out, checker_verdict::check(&octets[..n]));
     io::write_all(libc::STDOUT_FILENO, &out[..end]);
 }

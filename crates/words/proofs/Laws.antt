@@ -88,6 +88,40 @@ pub words-end : (m : ℕ) (l : List ℕ) (i : ℕ) → length l ≤ i → wordsI
 unfolding wordsIn
 words-end m l i h = rw (drop-of-length-le l h)
 
+-- ## All words
+
+-- the words behind the first, one behind each mark
+unfoldable pub laterWords : ℕ → List ℕ → List (List ℕ)
+laterWords m [] = []
+laterWords m (c ∷ cs) = cond (eqb c m) (untilMark m cs ∷ laterWords m cs) (laterWords m cs)
+
+abbrev pub allWords : ℕ → List ℕ → List (List ℕ)
+allWords m l = untilMark m l ∷ laterWords m l
+
+later-word : (m : ℕ) (l : List ℕ) (i : ℕ) → getD (laterWords m l) i [] ≡ wordOf m (behindMark m l) i
+unfolding laterWords behindMark wordOf
+later-word m [] i = sym (word-none m i)
+later-word m (c ∷ cs) i = go (eqb c m) i (λ k. later-word m cs k) where
+  go : (b : Bool) (i : ℕ) → ((k : ℕ) → getD (laterWords m cs) k [] ≡ wordOf m (behindMark m cs) k)
+      → getD (cond b (untilMark m cs ∷ laterWords m cs) (laterWords m cs)) i [] ≡ wordOf m (cond b cs (behindMark m cs)) i
+  go true zero h = refl
+  go true (suc i) h = h i
+  go false i h = h i
+
+pub all-word : (m : ℕ) (l : List ℕ) (i : ℕ) → getD (allWords m l) i [] ≡ wordOf m l i
+unfolding wordOf
+all-word m l zero = refl
+all-word m l (suc i) = later-word m l i
+
+pub all-count : (m : ℕ) (l : List ℕ) → length (allWords m l) ≡ wordsIn m l
+unfolding laterWords wordsIn
+all-count m [] = refl
+all-count m (c ∷ cs) = go (eqb c m) (all-count m cs) where
+  go : (b : Bool) → suc (length (laterWords m cs)) ≡ wordsIn m cs
+      → suc (length (cond b (untilMark m cs ∷ laterWords m cs) (laterWords m cs))) ≡ cond b (suc (wordsIn m cs)) (wordsIn m cs)
+  go true e = ap suc e
+  go false e = e
+
 -- ## The same octets
 
 pub same-length : (a b : List ℕ) → (length a ≡ length b → ⊥) → sameOf a b ≡ false

@@ -4,6 +4,33 @@ use Prim.Native.Nat.{ℕ, zero, suc}
 use mathlib.Core.Bool.{Bool, true, false, cond, _&&_}
 use mathlib.Core.List.{List, [], _∷_, _++_}
 use lib.Dec.{eqb}
+use Prim.Native.Char.{code}
+use Prim.Native.String.{String}
+use Prim.Native.String.{[] as end, _∷_ as _then_}
+
+-- ## Octets that have a name
+
+-- ` `
+abbrev pub space : ℕ
+space = 32
+
+-- `,`
+abbrev pub comma : ℕ
+comma = 44
+
+-- `-`
+abbrev pub dash : ℕ
+dash = 45
+
+abbrev pub newline : ℕ
+newline = 10
+
+-- The octets of a text.
+abbrev pub ascii : String → List ℕ
+ascii end = []
+ascii (c then cs) = code c ∷ ascii cs
+
+-- ## Words
 
 -- The octets before the first mark: all of them where there is none.
 unfoldable pub untilMark : ℕ → List ℕ → List ℕ

@@ -9,6 +9,11 @@ pub const SPACE: u8 = 32;
 
 pub const COMMA: u8 = 44;
 
+// `-`
+pub const DASH: u8 = 45;
+
+pub const NEWLINE: u8 = 10;
+
 // The place of the first `mark` from `from` on, or the line's end.
 fn mark_from(line: &[u8], from: usize, mark: u8) -> usize
     requires { ⌜ from ≤ length (now line) ⌝ }

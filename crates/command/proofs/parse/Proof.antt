@@ -1,9 +1,11 @@
+-- One law of `Laws` for each of the four ways in which a reading ends. The row's place gives the verb and the form (`verb-named`).
 use Rattle.command.proofs.Laws.{made}
 use Prim.Native.Nat.{ℕ}
 use mathlib.Core.List.{List}
-use Rattle.decimal.specs.Decimal.{valueOf}
 use Rattle.words.specs.Words.{sameOf}
-use Rattle.command_forms.specs.Forms.{verbOf, theEro}
+use Rattle.command_forms.specs.Forms.{rows, verbOf, theEro}
+use Rattle.command_forms.specs.Rows.{placeNamed, verbAt}
+use Rattle.command_forms.proofs.Laws.{verb-named}
 use Rattle.command.proofs.Laws.{read-skipped, read-long, read-out-of-form, read-in-form}
 use borrow.Author.Tests.{not-true, not-false}
 use mathlib.Core.Path.{_≡_, refl, sym, _∙_, ap}
@@ -29,8 +31,8 @@ returns-2 c = c .alone2 .ensures ∙ read-long _ (sym (c .before .before .before
 word-requires : tie.Need-word-requires
 word-requires c κs = search needs
 
-named-requires : tie.Need-named-requires
-named-requires c κs = search needs
+place-named-requires : tie.Need-place-named-requires
+place-named-requires c κs = search needs
 
 is-formed-requires : tie.Need-is-formed-requires
 is-formed-requires c κs = search needs
@@ -41,12 +43,15 @@ alone-requires-3 c κs = search needs
 returns-3 : tie.Need-returns-3
 returns-3 c =
     let before4 = c .before .before .before .before in
-    let e = c .before .before .before .named .ensures ∙ ap verbOf (before4 .word .ensures .0) in
+    let e = ap verbAt (c .before .before .before .place-named .ensures ∙ ap (placeNamed rows) (before4 .word .ensures .0)) ∙ verb-named _ in
     c .alone3 .ensures
     ∙ read-out-of-form _
     (sym (before4 .before .before .before .is-skipped .ensures) ∙ before4 .before .before .if1 .left)
     (before4 .before .if2 .left)
     (rw (← e) (sym (c .before .before .is-formed .ensures) ∙ not-true _ (c .before .if3 .taken)))
+
+verb-at-requires : tie.Need-verb-at-requires
+verb-at-requires c κs = search needs
 
 word-requires-2 : tie.Need-word-requires-2
 word-requires-2 c κs = search needs
@@ -57,46 +62,32 @@ slice-aggregate-same c = search needs
 same-requires : tie.Need-same-requires
 same-requires c κs = search needs
 
-word-requires-3 : tie.Need-word-requires-3
-word-requires-3 c κs = search needs
+number-at-requires : tie.Need-number-at-requires
+number-at-requires c κs = search needs
 
-value-requires : tie.Need-value-requires
-value-requires c κs = search needs
+number-at-requires-2 : tie.Need-number-at-requires-2
+number-at-requires-2 c κs = search needs
 
-word-requires-4 : tie.Need-word-requires-4
-word-requires-4 c κs = search needs
+number-at-requires-3 : tie.Need-number-at-requires-3
+number-at-requires-3 c κs = search needs
 
-value-requires-2 : tie.Need-value-requires-2
-value-requires-2 c κs = search needs
-
-word-requires-5 : tie.Need-word-requires-5
-word-requires-5 c κs = search needs
-
-value-requires-3 : tie.Need-value-requires-3
-value-requires-3 c κs = search needs
-
-word-requires-6 : tie.Need-word-requires-6
-word-requires-6 c κs = search needs
-
-value-requires-4 : tie.Need-value-requires-4
-value-requires-4 c κs = search needs
+number-at-requires-4 : tie.Need-number-at-requires-4
+number-at-requires-4 c κs = search needs
 
 returns-4 : tie.Need-returns-4
 returns-4 c =
-    let before5 = c .before .before .before .before .before in
-    let before10 = before5 .before .before .before .before .before in
-    let before14 = before10 .before .before .before .before in
-    let e = before10 .before .before .before .named .ensures ∙ ap verbOf (before14 .word .ensures .0) in
-    made _ e
-    (before5 .before .before .before .same .ensures
-    ∙ ap (λ (w : List ℕ). sameOf w theEro) (before10 .word2 .ensures .0))
-    (before5 .before .value .ensures ∙ ap valueOf (before5 .before .before .word3 .ensures .0))
-    (c .before .before .before .before .value2 .ensures ∙ ap valueOf (before5 .word4 .ensures .0))
-    (c .before .before .value3 .ensures ∙ ap valueOf (c .before .before .before .word5 .ensures .0))
-    (c .value4 .ensures ∙ ap valueOf (c .before .word6 .ensures .0))
-    ∙ read-in-form _ (sym (before14 .before .before .before .is-skipped .ensures) ∙ before14 .before .before .if1 .left)
-    (before14 .before .if2 .left)
-    (rw (← e) (sym (before10 .before .before .is-formed .ensures) ∙ not-false _ (before10 .before .if3 .left)))
+    let before6 = c .before .before .before .before .before .before in
+    let before11 = before6 .before .before .before .before .before in
+    let e = ap verbAt (before6 .before .before .before .before .place-named .ensures ∙ ap (placeNamed rows) (before11 .word .ensures .0))
+    ∙ verb-named _ in
+    made _ (before6 .before .verb-at .ensures ∙ e)
+    (c .before .before .before .before .same .ensures
+    ∙ ap (λ (w : List ℕ). sameOf w theEro) (before6 .word2 .ensures .0))
+    (c .before .before .before .number-at .ensures) (c .before .before .number-at2 .ensures)
+    (c .before .number-at3 .ensures) (c .number-at4 .ensures)
+    ∙ read-in-form _ (sym (before11 .before .before .before .is-skipped .ensures) ∙ before11 .before .before .if1 .left)
+    (before11 .before .if2 .left)
+    (rw (← e) (sym (before6 .before .before .before .is-formed .ensures) ∙ not-false _ (before6 .before .before .if3 .left)))
 
 pub parse-spec : {M : Type 1} → statement M
 parse-spec =
@@ -108,19 +99,16 @@ parse-spec =
     alone-requires-2
     returns-2
     word-requires
-    named-requires
+    place-named-requires
     is-formed-requires
     alone-requires-3
     returns-3
+    verb-at-requires
     word-requires-2
     slice-aggregate-same
     same-requires
-    word-requires-3
-    value-requires
-    word-requires-4
-    value-requires-2
-    word-requires-5
-    value-requires-3
-    word-requires-6
-    value-requires-4
+    number-at-requires
+    number-at-requires-2
+    number-at-requires-3
+    number-at-requires-4
     returns-4)

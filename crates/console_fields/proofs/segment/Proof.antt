@@ -1,3 +1,4 @@
+-- Nine pieces are laid one behind the other: `then` joins what each call ensures, and the end of each is bounded by that of the one before.
 use Rattle.printing.proofs.Laws.{then}
 use native.Mathlib.Omega.{arith}
 use borrow.Author.Needs.{needs}

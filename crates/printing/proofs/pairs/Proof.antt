@@ -10,7 +10,12 @@ use Rattle.printing.proofs.pairs.Statement.{statement}
 use Rattle.printing.proofs.pairs.Tie as tie
 
 abbrev Inv-loop : tie.InvT-loop
-Inv-loop out₀ at s end₀ i₀ out end i = (i ≤ length s) × (end ≡ at + 2 * i) × (at + 2 * length s ≤ length out₀) × (length out ≡ length out₀) × Behind out₀ out at end (hexOf (take i s))
+Inv-loop out₀ at s end₀ i₀ out end i =
+    (i ≤ length s)
+    × (end ≡ at + 2 * i)
+    × (at + 2 * length s ≤ length out₀)
+    × (length out ≡ length out₀)
+    × Behind out₀ out at end (hexOf (take i s))
 
 abbrev μ-loop : tie.MeasureT-loop
 μ-loop out₀ at s end₀ i₀ out end i = length s - i

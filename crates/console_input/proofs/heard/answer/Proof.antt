@@ -13,17 +13,18 @@ wrapping-add-u64-requires c κs = search needs
 slice-aggregate-answered : tie.Need-slice-aggregate-answered
 slice-aggregate-answered c =
     let before8 = c .before .before .before .before .before .before .before .before in
-    sym (length-take-le (before8 .args .h .kept) (before8 .args .line .now) (before8 .pre .0))
+    sym (length-take-le (before8 .args .h .kept) (before8 .args .line .now) (before8 .pre .within))
 
 answered-requires : tie.Need-answered-requires
 answered-requires c κs =
     let before12 = c .before .before .before .before .before .before .before .before .before .before .before .before in
-    let p = before12 .pre in (
-      omega (arith, length-take-le (before12 .args .h .kept) (before12 .args .line .now) (p .0), p .0, p .1),
-      p .2,
-      p .3,
-      p .4,
-    )
+    let p = before12 .pre in
+    record {
+      spells = omega (arith, length-take-le (before12 .args .h .kept) (before12 .args .line .now) (p .within), p .within, p .rooms .spells);
+      buffer = p .rooms .buffer;
+      stored = p .rooms .stored;
+      lent = p .rooms .lent;
+    }
 
 same-length : tie.Need-same-length
 same-length c = search needs

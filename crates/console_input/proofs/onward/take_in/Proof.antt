@@ -1,6 +1,8 @@
+-- What was read splits at its first newline. With one, the line before it is answered and the rest is heard next (`heard-line`, `said-line`); without
+-- one, all of it is more of the line (`heard-part`, `said-part`).
 use Rattle.console_input.proofs.Laws.{longer-made, heard-line, said-line, heard-part, said-part, text-within}
-use Rattle.console_input.specs.Hearing.{heardOf}
-use Rattle.words.specs.Words.{untilMark, wordOf}
+use Rattle.console_input.specs.Hearing.{mostKept, heardOf}
+use Rattle.words.specs.Words.{newline, untilMark, wordOf}
 use Rattle.octets.proofs.Laws.{rest-lent}
 use lib.ListN.{length, drop, take, length-take}
 use mathlib.Core.List.{List}
@@ -66,10 +68,10 @@ returns c =
     let p = before21 .before .before .before .before .before .before .before .before .pre in
     let r = a .read .now in
     let g = heardOf (a .h) (a .line .now) (a .store .now) (a .memory .now) in
-    let small : length (g .line) ≤ 131201 = omega (arith, length-take (a .h .kept) (a .line .now), p .1, p .2) in
-    let s = before21 .word .ensures .0 ∙ ap (λ (l : List ℕ). untilMark 10 l) (rest-lent r (a .at)) in
-    let m = longer-made g x (untilMark 10 (drop (a .at) r)) (take (before19 .keep .result) (before19 .keep .last .0))
-    (length (a .line .now)) s (p .2) (before19 .keep .ensures .0) in
+    let small : length (g .line) ≤ mostKept = omega (arith, length-take (a .h .kept) (a .line .now), p .1 .within, p .1 .whole) in
+    let s = before21 .word .ensures .0 ∙ ap (λ (l : List ℕ). untilMark newline l) (rest-lent r (a .at)) in
+    let m = longer-made g x (untilMark newline (drop (a .at) r)) (take (before19 .keep .result) (before19 .keep .last .0))
+    (length (a .line .now)) s (p .1 .whole) (before19 .keep .ensures .0) in
     let t = before7 .before .before .answer .ensures in (
       heard-line g small r (a .at) x s (omega arith) _ m (t .0) (before15 .if1 .taken),
       (
@@ -92,10 +94,10 @@ returns-2 c =
     let p = before14 .pre in
     let r = a .read .now in
     let g = heardOf (a .h) (a .line .now) (a .store .now) (a .memory .now) in
-    let small : length (g .line) ≤ 131201 = omega (arith, length-take (a .h .kept) (a .line .now), p .1, p .2) in
-    let s = word .ensures .0 ∙ ap (λ (l : List ℕ). untilMark 10 l) (rest-lent r (a .at)) in
-    let m = longer-made g x (untilMark 10 (drop (a .at) r)) (take (before4 .keep .result) (before4 .keep .last .0))
-    (length (a .line .now)) s (p .2) (before4 .keep .ensures .0) in (
+    let small : length (g .line) ≤ mostKept = omega (arith, length-take (a .h .kept) (a .line .now), p .1 .within, p .1 .whole) in
+    let s = word .ensures .0 ∙ ap (λ (l : List ℕ). untilMark newline l) (rest-lent r (a .at)) in
+    let m = longer-made g x (untilMark newline (drop (a .at) r)) (take (before4 .keep .result) (before4 .keep .last .0))
+    (length (a .line .now)) s (p .1 .whole) (before4 .keep .ensures .0) in (
       heard-part g small r (a .at) x s (omega arith) _ m (c .if1 .left),
       (
         said-part g small r (a .at) x s (omega arith) _ m (c .if1 .left),

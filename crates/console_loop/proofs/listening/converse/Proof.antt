@@ -25,11 +25,16 @@ go-on-requires : tie.Need-go-on-requires
 unfolding storeAtStart
 go-on-requires c κs = (
   refl,
-  simp length-replicate (omega arith),
-  simp length-replicate (omega arith),
-  simp length-replicate (omega arith),
-  simp length-replicate (omega arith),
-  simp length-replicate (omega arith),
+  record {
+    within = omega arith;
+    whole = simp length-replicate (omega arith);
+    rooms = record {
+      spells = simp length-replicate (omega arith);
+      buffer = simp length-replicate (omega arith);
+      stored = simp length-replicate (omega arith);
+      lent = simp length-replicate (omega arith);
+    };
+  },
 )
 
 returns : tie.Need-returns

@@ -1,3 +1,5 @@
+-- The invariant: the lent lengths stay, what is kept of a line lies within it, and some input leaves the console as it stands.
+use Rattle.console_input.proofs.Laws.{still-ready}
 use Rattle.console_loop.proofs.Laws.{start-made, reached-start}
 use Rattle.console_loop.specs.Reached.{Reached}
 use Rattle.console_input.specs.Hearing.{heardOf}
@@ -39,9 +41,11 @@ loop-holds c =
     )
 
 listen-requires : tie.Need-listen-requires Inv-loop μ-loop
-listen-requires c κs = let i = c .before .before .before .before .before .before .before .loop .inv in
-    let p = c .before .before .before .before .before .before .before .before .before .before .before .before .before .before .pre in
-    (omega (arith, i .5, i .0), i .0 ∙ p .1, omega (arith, p .2, i .0, i .3), omega (arith, p .3, i .2), omega (arith, p .4, i .1, i .4), omega (arith, p .5, i .2, i .4))
+listen-requires c κs =
+    let before7 = c .before .before .before .before .before .before .before in
+    let i = before7 .loop .inv in
+    let p = before7 .before .before .before .before .before .before .before .pre in
+    still-ready (p .1) (i .0) (i .1) (i .2) (i .3) (i .4) (i .5)
 
 sub-turns : tie.Need-sub-turns Inv-loop μ-loop
 sub-turns c = omega arith

@@ -1,3 +1,5 @@
+-- A walk over what was read: what is left of it, heard from here on, gives the whole. All lent lengths stay.
+use Rattle.console_input.proofs.Laws.{still-ready}
 use Rattle.console_loop.proofs.Laws.{heard-all}
 use Rattle.console_input.specs.Hearing.{heardOf, hearAll}
 use lib.Seq.{length-take-le}
@@ -23,20 +25,13 @@ abbrev μ-loop : tie.MeasureT-loop
 μ-loop read line₀ store₀ memory₀ room₀ out₀ heard₀ at₀ line store memory room out heard at = length read - at
 
 loop-holds : tie.Need-loop-holds Inv-loop μ-loop
-loop-holds c = (omega arith, refl, refl, refl, refl, refl, c .before .before .before .before .before .before .pre .0, refl)
+loop-holds c = (omega arith, refl, refl, refl, refl, refl, c .before .before .before .before .before .before .pre .within, refl)
 
 take-in-requires : tie.Need-take-in-requires Inv-loop μ-loop
 take-in-requires c κs =
-    let i = c .before .before .before .before .before .before .loop .inv in
-    let p = c .before .before .before .before .before .before .before .before .before .before .before .before .before .pre in (
-      c .before .before .before .before .before .loop-test .taken,
-      omega (arith, i .6, i .1),
-      i .1 ∙ p .1,
-      omega (arith, p .2, i .1, i .4),
-      omega (arith, p .3, i .3),
-      omega (arith, p .4, i .2, i .5),
-      omega (arith, p .5, i .3, i .5),
-    )
+    let before6 = c .before .before .before .before .before .before in
+    let i = before6 .loop .inv in
+    (c .before .before .before .before .before .loop-test .taken, still-ready (before6 .before .before .before .before .before .before .before .pre) (i .1) (i .2) (i .3) (i .4) (i .5) (i .6))
 
 slice-reshare-prefix-write-all : tie.Need-slice-reshare-prefix-write-all Inv-loop μ-loop
 slice-reshare-prefix-write-all c =

@@ -1,16 +1,15 @@
-use Rattle.console_turn.proofs.Laws.{by-verb, stays-does, pcc-does, pce-does, composes-does, boards-does, under}
+-- Each arm of the match answers as its row of the table says. `does` asks for what stands in the arm: how the line was read, the arm's verb, how the
+-- turn ended, what the call laid; then that the answer and the console are the row's, which `refl` computes where the call speaks of no session.
+use Rattle.console_turn.proofs.Laws.{does, under, parts}
 use Rattle.console_turn.proofs.Formed.{begin-size, add-form}
-use Rattle.console_turn.specs.Turns.{stays, boards}
-use Rattle.console_board.specs.Boarding.{reportTurn, removeTurn, compactTurn}
-use Rattle.console_writer.specs.Composing.{beginTurn, addTurn, finishTurn}
+use Rattle.console_board.specs.Boarding.{Boarding, reportTurn}
 use Rattle.console_routes.specs.Routing.{routeLine, segmentAnswer}
-use Rattle.console_state.specs.Standing.{consoleOf}
+use Rattle.console_fields.specs.Shown.{openedLine}
 use Rattle.printing.proofs.Laws.{behind-none}
 use Rattle.command_forms.specs.declared.verb.Verb.the-variants as v
 use Rattle.session.specs.declared.Session.{Session}
-use lib.ListN.{take}
 use mathlib.Core.Bool.{true, false}
-use mathlib.Core.Path.{refl, _∙_}
+use mathlib.Core.Path.{refl, _∙_, ap}
 use native.Mathlib.Omega.{arith}
 use borrow.Author.Needs.{needs}
 use Rattle.console_turn.proofs.answer.answered.Statement.{statement}
@@ -47,7 +46,9 @@ with-pcc-requires : tie.Need-with-pcc-requires
 with-pcc-requires c κs = tt
 
 opened-requires : tie.Need-opened-requires
-opened-requires c κs = omega (arith, c .before .before .before .before .before .before .before .before .before .before .before .before .before .before .before .before .before .before .before .pre .2)
+opened-requires c κs =
+    let before10 = c .before .before .before .before .before .before .before .before .before .before in
+    omega (arith, before10 .before .before .before .before .before .before .before .before .before .pre .stored)
 
 ended-requires-3 : tie.Need-ended-requires-3
 ended-requires-3 c κs = tt
@@ -64,7 +65,7 @@ with-pce-requires c κs = tt
 opened-requires-2 : tie.Need-opened-requires-2
 opened-requires-2 c κs =
     let before10 = c .before .before .before .before .before .before .before .before .before .before in
-    omega (arith, before10 .before .before .before .before .before .before .before .before .before .pre .2)
+    omega (arith, before10 .before .before .before .before .before .before .before .before .before .pre .stored)
 
 ended-requires-4 : tie.Need-ended-requires-4
 ended-requires-4 c κs = tt
@@ -114,7 +115,7 @@ begun-requires c κs =
     let before15 = before7 .before .before .before .before .before .before .before .before in
     let h = begin-size (before15 .args .line .now) (before7 .before .before .parse .ensures)
     (c .before .before .enum-told9 .given .1) in
-    (omega (arith, before15 .pre .1), omega (arith, before15 .pre .3))
+    (omega (arith, before15 .pre .buffer), omega (arith, before15 .pre .lent))
 
 composed-requires : tie.Need-composed-requires
 composed-requires c κs = tt
@@ -126,10 +127,10 @@ added-requires : tie.Need-added-requires
 added-requires c κs =
     let before10 = c .before .before .before .before .before .before .before .before .before .before in
     let before16 = before10 .before .before .before .before .before .before in (
-      omega (arith, before16 .pre .0),
+      omega (arith, before16 .pre .spells),
       add-form (before16 .args .line .now) (before10 .parse .ensures)
           (c .before .before .before .enum-told10 .given .1),
-      omega (arith, before16 .pre .3),
+      omega (arith, before16 .pre .lent),
     )
 
 composed-requires-2 : tie.Need-composed-requires-2
@@ -219,12 +220,8 @@ ended-requires-13 c κs = tt
 returns : tie.Need-returns
 returns c =
     let before8 = c .before .before .before .before .before .before .before .before in
-    let a = before8 .before .before .before .before .before .before .args in
-    let k = consoleOf (a .state) (a .store .now) (a .memory .now) in
-    by-verb k (before8 .parse .result) (a .line .now) (a .n) v.Skip (before8 .parse .ensures)
-    (c .before .enum-told .given .1)
-    (stays-does (a .state) (a .store .now) (a .memory .now) (c .ended .ensures .1) (c .ended .ensures .0)
-    (behind-none (a .out .now) 0))
+    does v.Skip (before8 .parse .ensures) (c .before .enum-told .given .1)
+    (c .ended .ensures) (behind-none _ 0) refl refl
 
 same-length : tie.Need-same-length
 same-length c = search needs
@@ -232,12 +229,8 @@ same-length c = search needs
 returns-2 : tie.Need-returns-2
 returns-2 c =
     let before12 = c .before .before .before .before .before .before .before .before .before .before .before .before in
-    let a = before12 .before .before .before .before .before .before .args in
-    let k = consoleOf (a .state) (a .store .now) (a .memory .now) in
-    by-verb k (before12 .parse .result) (a .line .now) (a .n) v.Bad (before12 .parse .ensures)
-    (c .before .before .before .before .before .enum-told2 .given .1)
-    (stays-does (a .state) (a .store .now) (a .memory .now) (c .ended2 .ensures .1) (c .ended2 .ensures .0)
-    (c .before .before .before .bad .ensures .0))
+    does v.Bad (before12 .parse .ensures) (c .before .before .before .before .before .enum-told2 .given .1)
+    (c .ended2 .ensures) (c .before .before .before .bad .ensures .0) refl refl
 
 same-length-2 : tie.Need-same-length-2
 same-length-2 c = search needs
@@ -249,13 +242,10 @@ returns-3 : tie.Need-returns-3
 returns-3 c =
     let before8 = c .before .before .before .before .before .before .before .before in
     let before17 = before8 .before .before .before .before .before .before .before .before .before in
-    let a = before17 .before .before .before .before .before .before .args in
-    let k = consoleOf (a .state) (a .store .now) (a .memory .now) in
-    by-verb k (before17 .parse .result) (a .line .now) (a .n) v.Pcc (before17 .parse .ensures)
-    (before8 .before .before .enum-told3 .given .1)
-    (pcc-does (a .state) (a .store .now) (a .memory .now) (c .ended3 .ensures .1) (a .line .now)
-    (before8 .heard .ensures) (c .ended3 .ensures .0 ∙ c .before .before .before .before .before .with-pcc .ensures)
-    (c .before .before .before .opened .ensures .0))
+    does v.Pcc (before17 .parse .ensures) (before8 .before .before .enum-told3 .given .1)
+    (c .ended3 .ensures .0 ∙ c .before .before .before .before .before .with-pcc .ensures, c .ended3 .ensures .1)
+    (c .before .before .before .opened .ensures .0) (ap openedLine (before8 .heard .ensures))
+    (parts refl refl (before8 .heard .ensures) refl refl refl)
 
 same-length-4 : tie.Need-same-length-4
 same-length-4 c = search needs
@@ -267,13 +257,10 @@ returns-4 : tie.Need-returns-4
 returns-4 c =
     let before8 = c .before .before .before .before .before .before .before .before in
     let before17 = before8 .before .before .before .before .before .before .before .before .before in
-    let a = before17 .before .before .before .before .before .before .args in
-    let k = consoleOf (a .state) (a .store .now) (a .memory .now) in
-    by-verb k (before17 .parse .result) (a .line .now) (a .n) v.Pce (before17 .parse .ensures)
-    (before8 .before .before .enum-told4 .given .1)
-    (pce-does (a .state) (a .store .now) (a .memory .now) (c .ended4 .ensures .1) (a .line .now)
-    (before8 .heard2 .ensures) (c .ended4 .ensures .0 ∙ c .before .before .before .before .before .with-pce .ensures)
-    (c .before .before .before .opened2 .ensures .0))
+    does v.Pce (before17 .parse .ensures) (before8 .before .before .enum-told4 .given .1)
+    (c .ended4 .ensures .0 ∙ c .before .before .before .before .before .with-pce .ensures, c .ended4 .ensures .1)
+    (c .before .before .before .opened2 .ensures .0) (ap openedLine (before8 .heard2 .ensures))
+    (parts refl refl refl (before8 .heard2 .ensures) refl refl)
 
 same-length-6 : tie.Need-same-length-6
 same-length-6 c = search needs
@@ -285,14 +272,8 @@ returns-5 : tie.Need-returns-5
 returns-5 c =
     let before12 = c .before .before .before .before .before .before .before .before .before .before .before .before in
     let before15 = before12 .before .before .before in
-    let a = before15 .before .before .before .before .before .before .args in
-    let k = consoleOf (a .state) (a .store .now) (a .memory .now) in
-    by-verb k (before15 .parse .result) (a .line .now) (a .n) v.Ero (before15 .parse .ensures)
-    (c .before .before .before .before .before .before .before .before .enum-told5 .given .1)
-    (under (λ (x : Session). stays k (routeLine true x (before15 .parse .result) (a .line .now)))
-    (before12 .agree .ensures)
-    (stays-does (a .state) (a .store .now) (a .memory .now) (c .ended5 .ensures .1) (c .ended5 .ensures .0)
-    (c .before .before .before .before .before .judged .ensures)))
+    does v.Ero (before15 .parse .ensures) (c .before .before .before .before .before .before .before .before .enum-told5 .given .1)
+    (c .ended5 .ensures) (c .before .before .before .before .before .judged .ensures) (under (routeLine true) (before12 .agree .ensures)) refl
 
 same-length-8 : tie.Need-same-length-8
 same-length-8 c = search needs
@@ -304,14 +285,8 @@ returns-6 : tie.Need-returns-6
 returns-6 c =
     let before12 = c .before .before .before .before .before .before .before .before .before .before .before .before in
     let before15 = before12 .before .before .before in
-    let a = before15 .before .before .before .before .before .before .args in
-    let k = consoleOf (a .state) (a .store .now) (a .memory .now) in
-    by-verb k (before15 .parse .result) (a .line .now) (a .n) v.Rro (before15 .parse .ensures)
-    (c .before .before .before .before .before .before .before .before .enum-told6 .given .1)
-    (under (λ (x : Session). stays k (routeLine false x (before15 .parse .result) (a .line .now)))
-    (before12 .agree .ensures)
-    (stays-does (a .state) (a .store .now) (a .memory .now) (c .ended6 .ensures .1) (c .ended6 .ensures .0)
-    (c .before .before .before .before .before .judged2 .ensures)))
+    does v.Rro (before15 .parse .ensures) (c .before .before .before .before .before .before .before .before .enum-told6 .given .1)
+    (c .ended6 .ensures) (c .before .before .before .before .before .judged2 .ensures) (under (routeLine false) (before12 .agree .ensures)) refl
 
 same-length-10 : tie.Need-same-length-10
 same-length-10 c = search needs
@@ -323,14 +298,8 @@ returns-7 : tie.Need-returns-7
 returns-7 c =
     let before12 = c .before .before .before .before .before .before .before .before .before .before .before .before in
     let before15 = before12 .before .before .before in
-    let a = before15 .before .before .before .before .before .before .args in
-    let k = consoleOf (a .state) (a .store .now) (a .memory .now) in
-    by-verb k (before15 .parse .result) (a .line .now) (a .n) v.EroSegment (before15 .parse .ensures)
-    (c .before .before .before .before .before .before .before .before .enum-told7 .given .1)
-    (under (λ (x : Session). stays k (segmentAnswer true x (before15 .parse .result) (a .line .now)))
-    (before12 .agree .ensures)
-    (stays-does (a .state) (a .store .now) (a .memory .now) (c .ended7 .ensures .1) (c .ended7 .ensures .0)
-    (c .before .before .before .before .before .picked .ensures)))
+    does v.EroSegment (before15 .parse .ensures) (c .before .before .before .before .before .before .before .before .enum-told7 .given .1)
+    (c .ended7 .ensures) (c .before .before .before .before .before .picked .ensures) (under (segmentAnswer true) (before12 .agree .ensures)) refl
 
 same-length-12 : tie.Need-same-length-12
 same-length-12 c = search needs
@@ -342,14 +311,8 @@ returns-8 : tie.Need-returns-8
 returns-8 c =
     let before12 = c .before .before .before .before .before .before .before .before .before .before .before .before in
     let before15 = before12 .before .before .before in
-    let a = before15 .before .before .before .before .before .before .args in
-    let k = consoleOf (a .state) (a .store .now) (a .memory .now) in
-    by-verb k (before15 .parse .result) (a .line .now) (a .n) v.RroSegment (before15 .parse .ensures)
-    (c .before .before .before .before .before .before .before .before .enum-told8 .given .1)
-    (under (λ (x : Session). stays k (segmentAnswer false x (before15 .parse .result) (a .line .now)))
-    (before12 .agree .ensures)
-    (stays-does (a .state) (a .store .now) (a .memory .now) (c .ended8 .ensures .1) (c .ended8 .ensures .0)
-    (c .before .before .before .before .before .picked2 .ensures)))
+    does v.RroSegment (before15 .parse .ensures) (c .before .before .before .before .before .before .before .before .enum-told8 .given .1)
+    (c .ended8 .ensures) (c .before .before .before .before .before .picked2 .ensures) (under (segmentAnswer false) (before12 .agree .ensures)) refl
 
 same-length-14 : tie.Need-same-length-14
 same-length-14 c = search needs
@@ -361,14 +324,9 @@ returns-9 : tie.Need-returns-9
 returns-9 c =
     let before5 = c .before .before .before .before .before in
     let before15 = before5 .before .before .before .before .before .before .before .before .before .before in
-    let a = before15 .before .before .before .before .before .before .args in
-    let k = consoleOf (a .state) (a .store .now) (a .memory .now) in
-    by-verb k (before15 .parse .result) (a .line .now) (a .n) v.Begin (before15 .parse .ensures)
-    (before5 .before .before .before .enum-told9 .given .1)
-    (composes-does (a .state) (a .store .now) (a .memory .now) (c .composed .ensures .1)
-    (beginTurn (a .state .writer) (take (a .state .size) (a .memory .now)) (before15 .parse .result))
-    (before5 .begun .last .1 .1 .1 .0) (c .composed .ensures .0) (before5 .begun .ensures .0)
-    (before5 .begun .ensures .1 .0) (before5 .begun .ensures .1 .1))
+    does v.Begin (before15 .parse .ensures) (before5 .before .before .before .enum-told9 .given .1)
+    (c .composed .ensures) (before5 .begun .ensures .1 .1) refl
+    (parts refl refl refl refl (before5 .begun .ensures .0) (before5 .begun .ensures .1 .0))
 
 same-length-16 : tie.Need-same-length-16
 same-length-16 c = search needs
@@ -383,14 +341,9 @@ returns-10 : tie.Need-returns-10
 returns-10 c =
     let before7 = c .before .before .before .before .before .before .before in
     let before18 = before7 .before .before .before .before .before .before .before .before .before .before .before in
-    let a = before18 .before .before .before .before .before .before .args in
-    let k = consoleOf (a .state) (a .store .now) (a .memory .now) in
-    by-verb k (before18 .parse .result) (a .line .now) (a .n) v.Add (before18 .parse .ensures)
-    (before7 .before .before .before .before .enum-told10 .given .1)
-    (composes-does (a .state) (a .store .now) (a .memory .now) (c .composed2 .ensures .1)
-    (addTurn (a .state .writer) (take (a .state .size) (a .memory .now)) (before18 .parse .result) (a .line .now))
-    (before7 .added .last .1 .1 .1 .1 .0) (c .composed2 .ensures .0) (before7 .added .ensures .0)
-    (before7 .added .ensures .1 .0) (before7 .added .ensures .1 .1))
+    does v.Add (before18 .parse .ensures) (before7 .before .before .before .before .enum-told10 .given .1)
+    (c .composed2 .ensures) (before7 .added .ensures .1 .1) refl
+    (parts refl refl refl refl (before7 .added .ensures .0) (before7 .added .ensures .1 .0))
 
 same-length-19 : tie.Need-same-length-19
 same-length-19 c = search needs
@@ -402,14 +355,9 @@ returns-11 : tie.Need-returns-11
 returns-11 c =
     let before5 = c .before .before .before .before .before in
     let before15 = before5 .before .before .before .before .before .before .before .before .before .before in
-    let a = before15 .before .before .before .before .before .before .args in
-    let k = consoleOf (a .state) (a .store .now) (a .memory .now) in
-    by-verb k (before15 .parse .result) (a .line .now) (a .n) v.Finish (before15 .parse .ensures)
-    (before5 .before .before .before .enum-told11 .given .1)
-    (composes-does (a .state) (a .store .now) (a .memory .now) (c .composed3 .ensures .1)
-    (finishTurn (a .state .writer) (take (a .state .size) (a .memory .now))) (before5 .finished .last .1 .1 .0)
-    (c .composed3 .ensures .0) (before5 .finished .ensures .0) (before5 .finished .ensures .1 .0)
-    (before5 .finished .ensures .1 .1))
+    does v.Finish (before15 .parse .ensures) (before5 .before .before .before .enum-told11 .given .1)
+    (c .composed3 .ensures) (before5 .finished .ensures .1 .1) refl
+    (parts refl refl refl refl (before5 .finished .ensures .0) (before5 .finished .ensures .1 .0))
 
 same-length-21 : tie.Need-same-length-21
 same-length-21 c = search needs
@@ -420,12 +368,8 @@ same-length-22 c = search needs
 returns-12 : tie.Need-returns-12
 returns-12 c =
     let before13 = c .before .before .before .before .before .before .before .before .before .before .before .before .before in
-    let a = before13 .before .before .before .before .before .before .args in
-    let k = consoleOf (a .state) (a .store .now) (a .memory .now) in
-    by-verb k (before13 .parse .result) (a .line .now) (a .n) v.Lent (before13 .parse .ensures)
-    (c .before .before .before .before .before .before .enum-told12 .given .1)
-    (stays-does (a .state) (a .store .now) (a .memory .now) (c .ended9 .ensures .1) (c .ended9 .ensures .0)
-    (c .before .before .before .shown .ensures))
+    does v.Lent (before13 .parse .ensures) (c .before .before .before .before .before .before .enum-told12 .given .1)
+    (c .ended9 .ensures) (c .before .before .before .shown .ensures) refl refl
 
 same-length-23 : tie.Need-same-length-23
 same-length-23 c = search needs
@@ -442,15 +386,11 @@ returns-13 c =
     let before15 = before7 .before .before .before .before .before .before .before .before in
     let parse = before15 .before .before .before .parse in
     let a = before15 .before .before .before .before .before .before .before .before .before .args in
-    let k = consoleOf (a .state) (a .store .now) (a .memory .now) in
-    by-verb k (parse .result) (a .line .now) (a .n) v.Report (parse .ensures)
-    (before7 .before .before .before .before .enum-told13 .given .1)
-    (under (λ (x : Session). boards k (reportTurn (a .state .board) (a .store .now) x (parse .result) (a .line .now)))
-    (before15 .agree .ensures)
-    (boards-does (a .state) (a .store .now) (a .memory .now) (c .boarded .ensures .1)
-    (reportTurn (a .state .board) (a .store .now) (before15 .agree .result) (parse .result) (a .line .now))
-    (c .boarded .ensures .0) (before7 .reported .ensures .0) (before7 .reported .ensures .1 .0)
-    (before7 .reported .ensures .1 .1)))
+    let e = ap (λ (x : Session). reportTurn (a .state .board) (a .store .now) x (parse .result) (a .line .now)) (before15 .agree .ensures) in
+    does v.Report (parse .ensures) (before7 .before .before .before .before .enum-told13 .given .1) (c .boarded .ensures)
+    (before7 .reported .ensures .1 .1) (ap (λ (t : Boarding). t .answer) e)
+    (parts (before7 .reported .ensures .0 ∙ ap (λ (t : Boarding). t .board) e)
+    (before7 .reported .ensures .1 .0 ∙ ap (λ (t : Boarding). t .store) e) refl refl refl refl)
 
 same-length-26 : tie.Need-same-length-26
 same-length-26 c = search needs
@@ -461,13 +401,9 @@ same-length-27 c = search needs
 returns-14 : tie.Need-returns-14
 returns-14 c =
     let before13 = c .before .before .before .before .before .before .before .before .before .before .before .before .before in
-    let a = before13 .before .before .before .before .before .before .args in
-    let k = consoleOf (a .state) (a .store .now) (a .memory .now) in
-    by-verb k (before13 .parse .result) (a .line .now) (a .n) v.Remove (before13 .parse .ensures)
-    (c .before .before .before .before .before .before .enum-told14 .given .1)
-    (boards-does (a .state) (a .store .now) (a .memory .now) (c .boarded2 .ensures .1)
-    (removeTurn (a .state .board) (a .store .now) (before13 .parse .result)) (c .boarded2 .ensures .0)
-    (c .before .before .before .removed .ensures .0) (refl) (c .before .before .before .removed .ensures .1))
+    does v.Remove (before13 .parse .ensures) (c .before .before .before .before .before .before .enum-told14 .given .1)
+    (c .boarded2 .ensures) (c .before .before .before .removed .ensures .1) refl
+    (parts (c .before .before .before .removed .ensures .0) refl refl refl refl refl)
 
 same-length-28 : tie.Need-same-length-28
 same-length-28 c = search needs
@@ -478,13 +414,9 @@ same-length-29 c = search needs
 returns-15 : tie.Need-returns-15
 returns-15 c =
     let before13 = c .before .before .before .before .before .before .before .before .before .before .before .before .before in
-    let a = before13 .before .before .before .before .before .before .args in
-    let k = consoleOf (a .state) (a .store .now) (a .memory .now) in
-    by-verb k (before13 .parse .result) (a .line .now) (a .n) v.Compact (before13 .parse .ensures)
-    (c .before .before .before .before .before .before .enum-told15 .given .1)
-    (boards-does (a .state) (a .store .now) (a .memory .now) (c .boarded3 .ensures .1)
-    (compactTurn (a .state .board) (a .store .now) (before13 .parse .result)) (c .boarded3 .ensures .0)
-    (c .before .before .before .compacted .ensures .0) (refl) (c .before .before .before .compacted .ensures .1))
+    does v.Compact (before13 .parse .ensures) (c .before .before .before .before .before .before .enum-told15 .given .1)
+    (c .boarded3 .ensures) (c .before .before .before .compacted .ensures .1) refl
+    (parts (c .before .before .before .compacted .ensures .0) refl refl refl refl refl)
 
 same-length-30 : tie.Need-same-length-30
 same-length-30 c = search needs
@@ -495,12 +427,8 @@ same-length-31 c = search needs
 returns-16 : tie.Need-returns-16
 returns-16 c =
     let before13 = c .before .before .before .before .before .before .before .before .before .before .before .before .before in
-    let a = before13 .before .before .before .before .before .before .args in
-    let k = consoleOf (a .state) (a .store .now) (a .memory .now) in
-    by-verb k (before13 .parse .result) (a .line .now) (a .n) v.Body (before13 .parse .ensures)
-    (c .before .before .before .before .before .before .enum-told16 .given .1)
-    (stays-does (a .state) (a .store .now) (a .memory .now) (c .ended10 .ensures .1) (c .ended10 .ensures .0)
-    (c .before .before .before .body .ensures))
+    does v.Body (before13 .parse .ensures) (c .before .before .before .before .before .before .enum-told16 .given .1)
+    (c .ended10 .ensures) (c .before .before .before .body .ensures) refl refl
 
 same-length-32 : tie.Need-same-length-32
 same-length-32 c = search needs
@@ -511,12 +439,8 @@ same-length-33 c = search needs
 returns-17 : tie.Need-returns-17
 returns-17 c =
     let before13 = c .before .before .before .before .before .before .before .before .before .before .before .before .before in
-    let a = before13 .before .before .before .before .before .before .args in
-    let k = consoleOf (a .state) (a .store .now) (a .memory .now) in
-    by-verb k (before13 .parse .result) (a .line .now) (a .n) v.Next (before13 .parse .ensures)
-    (c .before .before .before .before .before .before .enum-told17 .given .1)
-    (stays-does (a .state) (a .store .now) (a .memory .now) (c .ended11 .ensures .1) (c .ended11 .ensures .0)
-    (c .before .before .before .next .ensures))
+    does v.Next (before13 .parse .ensures) (c .before .before .before .before .before .before .enum-told17 .given .1)
+    (c .ended11 .ensures) (c .before .before .before .next .ensures) refl refl
 
 same-length-34 : tie.Need-same-length-34
 same-length-34 c = search needs
@@ -524,12 +448,8 @@ same-length-34 c = search needs
 returns-18 : tie.Need-returns-18
 returns-18 c =
     let before12 = c .before .before .before .before .before .before .before .before .before .before .before .before in
-    let a = before12 .before .before .before .before .before .before .args in
-    let k = consoleOf (a .state) (a .store .now) (a .memory .now) in
-    by-verb k (before12 .parse .result) (a .line .now) (a .n) v.Mark (before12 .parse .ensures)
-    (c .before .before .before .before .before .enum-told18 .given .1)
-    (stays-does (a .state) (a .store .now) (a .memory .now) (c .ended12 .ensures .1) (c .ended12 .ensures .0)
-    (c .before .before .before .mark .ensures))
+    does v.Mark (before12 .parse .ensures) (c .before .before .before .before .before .enum-told18 .given .1)
+    (c .ended12 .ensures) (c .before .before .before .mark .ensures) refl refl
 
 same-length-35 : tie.Need-same-length-35
 same-length-35 c = search needs
@@ -537,12 +457,8 @@ same-length-35 c = search needs
 returns-19 : tie.Need-returns-19
 returns-19 c =
     let before12 = c .before .before .before .before .before .before .before .before .before .before .before .before in
-    let a = before12 .before .before .before .before .before .before .args in
-    let k = consoleOf (a .state) (a .store .now) (a .memory .now) in
-    by-verb k (before12 .parse .result) (a .line .now) (a .n) v.Board (before12 .parse .ensures)
-    (c .before .before .before .before .before .enum-told19 .given .1)
-    (stays-does (a .state) (a .store .now) (a .memory .now) (c .ended13 .ensures .1) (c .ended13 .ensures .0)
-    (c .before .before .before .numbers .ensures))
+    does v.Board (before12 .parse .ensures) (c .before .before .before .before .before .enum-told19 .given .1)
+    (c .ended13 .ensures) (c .before .before .before .numbers .ensures) refl refl
 
 pub answered-spec : {M : Type 1} → statement M
 answered-spec =

@@ -1,3 +1,5 @@
+-- Whether a begin is refused depends on whether its buffer has four octets (`Laws`), so that the trial's answer is the new buffer's; a refused one leaves
+-- all as it was, and an accepted one fills the first octets of the memory.
 use Rattle.console_writer.proofs.Laws.{begin-trial, begin-keeps, kept-old, kept-new}
 use Rattle.console_writer.specs.Composing.{freshBuffer}
 use Rattle.writer.specs.Writing.{beginAnswer, beginBuffer}

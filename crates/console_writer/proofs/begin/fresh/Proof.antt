@@ -17,8 +17,10 @@ same-length c = search needs
 
 returns : tie.Need-returns
 returns c = let a = c .before .before .before .before .before .before .before .before .before .args in
-    let f = c .before .before .before .before .before .before .fill .ensures in
-    (c .before .before .begin .ensures .0 ∙ ap (λ (x : List ℕ). beginAnswer x (a .old) (a .ero)) f, c .before .before .begin .ensures .1 ∙ ap (λ (x : List ℕ). beginBuffer x (a .old) (a .ero)) f)
+    let f = c .before .before .before .before .before .before .fill .ensures in (
+      c .before .before .begin .ensures .0 ∙ ap (λ (x : List ℕ). beginAnswer x (a .old) (a .ero)) f,
+      c .before .before .begin .ensures .1 ∙ ap (λ (x : List ℕ). beginBuffer x (a .old) (a .ero)) f,
+    )
 
 pub fresh-spec : {M : Type 1} → statement M
 fresh-spec = tie.close (tie.spec fill-requires begin-requires same-length returns)
