@@ -11,7 +11,7 @@ use borrow.Author.Tests.{lt-ltb, leb-true, leb-false}
 use Rattle.words.specs.Words.{newline}
 use Rattle.command_forms.specs.declared.verb.Verb.the-variants as v
 use Rattle.command.specs.declared.Command.{Command}
-use Rattle.command.specs.Commands.{skipped, longest, bare, commandOf}
+use Rattle.command.specs.Commands.{skipped, longest, bareCommand, commandOf}
 use Rattle.console_state.specs.Standing.{Console}
 use Rattle.console_turn.specs.Turns.{turnBy, turnOf}
 use Rattle.console_input.specs.Hearing.{Dialogue, turnNow, lineEnded, mostKept, longer, sayAll}
@@ -26,7 +26,7 @@ skipped-cut (suc m) [] h = refl
 skipped-cut (suc m) (x ∷ xs) h = refl
 
 abbrev unread : Bool → Command
-unread skip = cond skip (bare v.Skip) (bare v.Bad)
+unread skip = cond skip (bareCommand v.Skip) (bareCommand v.Bad)
 
 too-long : (line : List ℕ) → longest < length line → commandOf line ≡ unread (skipped line)
 unfolding commandOf
