@@ -4,7 +4,7 @@ use crate::behaviour;
 use crate::check::{Checked, Object};
 use crate::numbers::{self, Pcerr, Row};
 use std::net::Ipv6Addr;
-use strundevi::{Refusal, Segment};
+use strundevi::{Nai, Refusal, Segment};
 
 /// One line: accepted with so many segments, or the rule, the place and the PCErr.
 pub fn verdict(checked: &Checked) -> String {
@@ -52,8 +52,8 @@ pub fn segment(segment: &Segment) -> String {
         None => parts.push("no SID".to_string()),
     }
     parts.push(format!("behaviour {} ({})", segment.behaviour(), behaviour::name(segment.behaviour())));
-    if let Some(nai) = nai(segment.nai()) {
-        parts.push(nai);
+    if let Some(nai) = segment.nai() {
+        parts.push(self::nai(&nai));
     }
     if let Some([block, node, function, argument]) = segment.structure() {
         parts.push(format!("structure of {block} bits of block, {node} of node, {function} of function, {argument} of argument"));
@@ -67,15 +67,14 @@ pub fn segment(segment: &Segment) -> String {
     parts.join("; ")
 }
 
-/// The NAI by its length: a node, an adjacency, or a link-local adjacency with its interfaces.
-fn nai(octets: &[u8]) -> Option<String> {
-    let address = |at: usize| octets.get(at..)?.first_chunk::<16>().map(|a| Ipv6Addr::from(*a));
-    let interface = |at: usize| octets.get(at..)?.first_chunk::<4>().map(|i| u32::from_be_bytes(*i));
-    match octets.len() {
-        16 => Some(format!("node {}", address(0)?)),
-        32 => Some(format!("adjacency from {} to {}", address(0)?, address(16)?)),
-        40 => Some(format!("adjacency from {} on interface {} to {} on interface {}", address(0)?, interface(16)?, address(20)?, interface(36)?)),
-        _ => None,
+/// An NAI: a node, an adjacency, or a link-local adjacency with its interfaces.
+fn nai(nai: &Nai) -> String {
+    match nai {
+        Nai::Node(node) => format!("node {node}"),
+        Nai::Adjacency { local, remote } => format!("adjacency from {local} to {remote}"),
+        Nai::LinkLocal { local, local_interface, remote, remote_interface } => {
+            format!("adjacency from {local} on interface {local_interface} to {remote} on interface {remote_interface}")
+        }
     }
 }
 

@@ -347,8 +347,11 @@ fn life(tally: &mut Tally, r: &mut Random, most: usize) -> Result<usize, String>
         match r.below(24) {
             0..=9 => {
                 let key = some_key(r, keys);
-                let most = if r.one_in(40) { 800 } else { PLACE_OCTETS };
-                let mut ero = objects::good_ero(r, most);
+                let mut ero = objects::good_ero(r, PLACE_OCTETS);
+                if r.one_in(40) {
+                    let n = 8 + r.below(8);
+                    ero = objects::route(r, true, n, usize::MAX);
+                }
                 let (mut session, mut pst) = (agreed, 3);
                 if r.one_in(8) {
                     damage(r, &mut ero);

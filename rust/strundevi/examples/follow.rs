@@ -3,9 +3,8 @@
 //!     cargo run --release --offline --example follow
 
 use std::collections::BTreeMap;
-use strundevi::{read_open, Board, Change, Mark, Number, Refusal, Session, STORE_OCTETS};
+use strundevi::{read_open, Board, Change, Mark, Number, Refusal, Session, PST_SRV6, STORE_OCTETS};
 
-const PST_SRV6: u64 = 3;
 const OPEN: [u8; 32] = [
     0x01, 0x10, 0x00, 0x20, 0x20, 0x1E, 0x78, 0x07, 0x00, 0x22, 0x00, 0x12, 0x00, 0x00, 0x00, 0x01, 0x03, 0x00, 0x00, 0x00, 0x00, 0x1B, 0x00, 0x06, 0x00, 0x00,
     0x00, 0x00, 0x2C, 0x04, 0x00, 0x00,
@@ -13,29 +12,28 @@ const OPEN: [u8; 32] = [
 
 /// The box that keeps the board.
 struct Keeper {
-    board: Board,
-    store: Vec<u8>,
+    board: Board<Vec<u8>>,
     session: Session,
 }
 
 impl Keeper {
     /// Reports a path of one segment, whose SID ends in the octet given.
-    fn report(&mut self, key: u64, last: u8) -> Result<(), Refusal> {
+    fn report(&mut self, key: u32, last: u8) -> Result<(), Refusal> {
         let mut ero = [7, 0x10, 0, 28, 40, 24, 0, 2, 0, 0, 0, 1, 0x20, 0x01, 0x0D, 0xB8, 0, 0, 0, 1, 0, 0, 0, 0, 0, 0, 0, 0];
         ero[27] = last;
-        self.board.report(&mut self.store, key, &ero, &self.session, PST_SRV6)?;
+        self.board.report(key, &ero, &self.session, PST_SRV6)?;
         println!("board: report {key} answers 0, version {}", self.board.version());
         Ok(())
     }
 
-    fn withdraw(&mut self, key: u64) -> Result<(), Refusal> {
-        self.board.remove(&self.store, key)?;
+    fn withdraw(&mut self, key: u32) -> Result<(), Refusal> {
+        self.board.remove(key)?;
         println!("board: remove {key} answers 0, version {}", self.board.version());
         Ok(())
     }
 
     fn compact(&mut self, c: u64) -> Result<(), Refusal> {
-        self.board.compact(&self.store, c)?;
+        self.board.compact(c)?;
         println!("board: compact {c} answers 0, floor {}", self.board.floor());
         Ok(())
     }
@@ -43,7 +41,7 @@ impl Keeper {
     /// The paths on the board.
     fn paths(&self) -> BTreeMap<u32, Vec<u8>> {
         let keys = self.board.record().keys.iter();
-        keys.filter_map(|&key| Some((key, self.board.body(&self.store, key.into()).ok()?.to_vec()))).collect()
+        keys.filter_map(|&key| Some((key, self.board.body(key).ok()?.to_vec()))).collect()
     }
 }
 
@@ -63,7 +61,7 @@ impl Follower {
     /// Asks until it is level. A mark that is too old, or ahead of the board, is no mark to go on from; whoever holds one starts afresh.
     fn follow(&mut self, keeper: &Keeper) -> Result<(), Refusal> {
         loop {
-            let change = match keeper.board.next(&keeper.store, self.mark) {
+            let change = match keeper.board.next(self.mark) {
                 Ok(change) => change,
                 Err(refusal) if matches!(refusal.number, Number::MarkTooOld | Number::MarkAhead) => {
                     println!("follower: refused by {}", refusal.number as u8);
@@ -99,7 +97,7 @@ impl Follower {
 
 fn main() -> Result<(), Refusal> {
     let opened = read_open(&OPEN);
-    let mut keeper = Keeper { board: Board::new(), store: vec![0; STORE_OCTETS], session: Session::agree(&opened, &opened) };
+    let mut keeper = Keeper { board: Board::new(vec![0; STORE_OCTETS]), session: Session::agree(&opened, &opened) };
 
     let mut follower = Follower::afresh(&keeper);
     keeper.report(7, 1)?;
