@@ -1,7 +1,7 @@
 // The parts of a subobject, and the length that is expected of it.
 ghost use mathlib.Core.Path.{_≡_};
 ghost use Prim.Native.Nat.{_+_, _≤_};
-ghost use Rattle.subobject.specs.Layout.{fixedLength, sidSize, structureSize, naiSize, naiLength, structureThere, expectedLength, longest};
+ghost use Rattle.subobject.specs.Layout.{naiSize, naiLength, structureThere, expectedLength, longest};
 
 // the type of an SRv6 subobject
 pub const SRV6: usize = 40;
@@ -72,63 +72,24 @@ pub fn structure_there(s: usize, t: usize) -> bool
     octets::both(s == 0, t == 1)
 }
 
-// The expected lengths, case by case (document 000, 5.2.1): S is 1;
-fn without_sid(nt: usize) -> usize
-    ensures length { λ r. ⌜ (r ≡ fixedLength + naiLength nt) × (r ≤ longest) ⌝ }
+// The sum: what is always there, and the octets of SID, NAI and structure, 0 for a part that is absent.
+fn sum_of(fixed: usize, sid: usize, nai: usize, structure: usize) -> usize
+    requires { ⌜ fixed + sid + nai + structure ≤ longest ⌝ }
+    ensures sum { λ r. ⌜ r ≡ fixed + sid + nai + structure ⌝ }
 {
-    if nt == NODE {
-        return 24;
-    }
-    if nt == ADJACENCY {
-        return 40;
-    }
-    if nt == LINK_LOCAL {
-        return 48;
-    }
-    8
+    fixed + sid + nai + structure
 }
 
-// S is 0 without a structure;
-fn with_sid(nt: usize) -> usize
-    ensures length { λ r. ⌜ (r ≡ fixedLength + sidSize + naiLength nt) × (r ≤ longest) ⌝ }
-{
-    if nt == NODE {
-        return 40;
-    }
-    if nt == ADJACENCY {
-        return 56;
-    }
-    if nt == LINK_LOCAL {
-        return 64;
-    }
-    24
-}
-
-// S is 0 with a structure.
-fn with_structure(nt: usize) -> usize
-    ensures length { λ r. ⌜ (r ≡ fixedLength + sidSize + naiLength nt + structureSize) × (r ≤ longest) ⌝ }
-{
-    if nt == NODE {
-        return 48;
-    }
-    if nt == ADJACENCY {
-        return 64;
-    }
-    if nt == LINK_LOCAL {
-        return 72;
-    }
-    32
-}
-
-// The expected length for NT, S and T.
+// The expected length for NT, S and T: 8 plus the parts present, the SID's 16 if S is 0, the NAI's, the structure's 8 if T is 1
+// and S is 0. The tests stand outside the sum, since the compiler then looks it up by NT.
 pub fn expected(nt: usize, s: usize, t: usize) -> usize
     ensures length { λ r. ⌜ (r ≡ expectedLength nt s t) × (r ≤ longest) ⌝ }
 {
     if structure_there(s, t) {
-        return with_structure(nt);
+        return sum_of(FIXED_LENGTH, SID_LENGTH, nai_length(nt), STRUCTURE_LENGTH);
     }
     if s == 0 {
-        return with_sid(nt);
+        return sum_of(FIXED_LENGTH, SID_LENGTH, nai_length(nt), 0);
     }
-    without_sid(nt)
+    sum_of(FIXED_LENGTH, 0, nai_length(nt), 0)
 }
