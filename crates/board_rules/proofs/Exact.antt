@@ -11,9 +11,8 @@ use Rattle.answers.specs.declared.verdict.Verdict.{Verdict}
 use Rattle.answers.specs.Numbers.{notABoard}
 use Rattle.answers.specs.Verdicts.{refusedBy, acceptedWith}
 use Rattle.session.specs.declared.Session.{Session}
-use Rattle.frame.specs.Checks.{Check, firstBroken}
-use Rattle.frame.specs.Frames.{placesOf, frameChecks}
-use Rattle.route.specs.Routes.{brokenAt, subobjectChecks, lastChecks, checksOf, countOf, judgeOf}
+use Rattle.route.specs.Routes.{judgeOf}
+use Rattle.route.proofs.Numbers.{judge-low}
 use Rattle.board_record.specs.declared.record.Board.{Board}
 use Rattle.board_record.specs.Sizes.{places, room, versionMost}
 use Rattle.board_record.specs.Search.{targetOf}
@@ -44,36 +43,6 @@ other : (t : Bool) (n : ℕ) (x : Verdict) → (n ≡ notABoard → ⊥) → (x 
 other true n x f g e = f e
 other false n x f g e = g e
 
--- ---- the numbers of the route checks are below 15
-abbrev Low : List Check → Type 0
-Low [] = Unit {0}
-Low (c ∷ cs) = (c .number < 15) × Low cs
-
-low-append : (xs ys : List Check) → Low xs → Low ys → Low (xs ++ ys)
-low-append [] ys p q = q
-low-append (x ∷ xs) ys p q = (p .0, low-append xs ys (p .1) q)
-
-low-first : (cs : List Check) (after : Verdict) → Low cs → after .number < 15 → firstBroken cs after .number < 15
-low-first [] after p h = h
-low-first (c ∷ cs) after p h = go (c .broken) (low-first cs after (p .1) h)
-  where
-    go : (x : Bool) → firstBroken cs after .number < 15 → cond x (refusedBy (c .number) (c .place)) (firstBroken cs after) .number < 15
-    go true q = p .0
-    go false q = q
-
-low-subobjects : (broken : ℕ → ℕ → Bool) (ps : List ℕ) → Low (subobjectChecks broken ps)
-low-subobjects broken [] = tt
-low-subobjects broken (p ∷ ps) = (omega arith, (omega arith, (omega arith, (omega arith, (omega arith, low-subobjects broken ps)))))
-
-low-all : (s : List ℕ) (ero : Bool) (session : Session) (pst : ℕ) → Low (checksOf s ero session pst)
-low-all s ero session pst =
-    let rest = low-append (subobjectChecks (brokenAt ero (session .n) s) (placesOf s)) (lastChecks ero (session .limit) (countOf s) (placesOf s)) (low-subobjects (brokenAt ero (session .n) s) (placesOf s)) (omega arith, tt) in
-    (omega arith, (omega arith, (omega arith, (omega arith, (omega arith, rest)))))
-
-pub route-low : (s : List ℕ) (ero : Bool) (session : Session) (pst : ℕ) → judgeOf s ero session pst .number < 15
-unfolding judgeOf
-route-low s ero session pst = low-first (checksOf s ero session pst) (acceptedWith (countOf s)) (low-all s ero session pst) (omega arith)
-
 -- ---- report
 module _ (b : Board) (store : List ℕ) (k : ℕ) (ero : List ℕ) (session : Session) (pst : ℕ) where
   pub report-17-then : NoBoard b (length store) → reportAnswer b store k ero session pst .verdict ≡ refusedBy notABoard 0
@@ -82,7 +51,7 @@ module _ (b : Board) (store : List ℕ) (k : ℕ) (ero : List ℕ) (session : Se
 
   pub report-17-only : reportAnswer b store k ero session pst .verdict .number ≡ notABoard → NoBoard b (length store)
   unfolding reportAnswer reportWith reportVerdict reportRules
-  report-17-only e w = rest (judgeOf ero true session pst) (route-low ero true session pst) (rw (whole-board b (length store) w) at e)
+  report-17-only e w = rest (judgeOf ero true session pst) (judge-low ero true session pst) (rw (whole-board b (length store) w) at e)
     where
       rest : (route : Verdict) → route .number < 15
           → cond (not (inRange k)) (refusedBy 18 0)

@@ -5,12 +5,8 @@ ghost use mathlib.Core.Path.{_≡_};
 ghost use Prim.Native.Nat.{_≤_};
 ghost use lib.ListN.{length, take, drop};
 ghost use Rattle.cut_objects.specs.Cutting.{cutOf};
-
-// octets of an object's header
-const HEADER: usize = 4;
-
-// where the length field stands in it
-const LENGTH_AT: usize = 2;
+use objects::HEADER;
+use objects::LENGTH_PLACE;
 
 // How many octets the first object has.
 pub fn cut(s: &[u8]) -> usize
@@ -19,7 +15,7 @@ pub fn cut(s: &[u8]) -> usize
     if s.len() < HEADER {
         return s.len();
     }
-    let n = octets::read16(s, LENGTH_AT);
+    let n = octets::read16(s, LENGTH_PLACE);
     if n < HEADER {
         return s.len();
     }

@@ -11,11 +11,11 @@ use Rattle.open.specs.Open.{setupOf, srv6Of, listed, framed, fitting, holding, 
 use Rattle.subobject.specs.Layout.{naiLength, expectedLength, kindOf, headOf, headAt}
 use Rattle.subobject.specs.Rules.{rule7, rule8, rule9, rule10, rule11, hasStructure, sumAt}
 use Rattle.frame.specs.Frames.{headed, fitsIn, apart, apartOf, rule4, rule5, rule6, rule6Place, rule14}
-use Rattle.route.specs.Routes.{rule12, rule13, brokenBy, brokenAt, judgeOf}
+use Rattle.route.specs.Routes.{rule12, rule13, judgeOf}
 use Rattle.examples.specs.Table.{run, examples, answers}
 
 pub table : map run examples ≡ answers
 unfolding octetOf be16 part sessionOf tlvsIn tlvsOf listSize listsSrv6 knownMsd sizedOf nOf xOf wrongOf limitOf setupOf srv6Of listed framed fitting holding sized
     breaks1 breaks2 breaks3 carriesOf openOf naiLength expectedLength kindOf headOf headAt rule7 rule8 rule9 rule10 rule11 hasStructure sumAt headed fitsIn apart
-    apartOf rule4 rule5 rule6 rule6Place rule14 rule12 rule13 brokenBy brokenAt judgeOf
+    apartOf rule4 rule5 rule6 rule6Place rule14 rule12 rule13 judgeOf
 table = refl

@@ -12,7 +12,7 @@ use Rattle.octets.specs.Octets.{octetOf, be16, part, placed, over}
 use Rattle.subobject.specs.Layout.{naiLength, expectedLength, kindOf, headOf, headAt}
 use Rattle.subobject.specs.Rules.{rule7, rule8, rule9, rule10, rule11, hasStructure, sumAt}
 use Rattle.frame.specs.Frames.{headed, fitsIn, apart, apartOf, rule4, rule5, rule6Place, rule6, rule14}
-use Rattle.route.specs.Routes.{rule13, brokenBy, brokenAt, rule12, judgeOf}
+use Rattle.route.specs.Routes.{rule13, rule12, judgeOf}
 use Rattle.board_record.specs.declared.record.Board.{Board}
 use Rattle.board_record.specs.Table.{boardOf, emptyBoard, removalB}
 use Rattle.board_record.specs.Search.{firstWhere, leastWhere, placeIn, oldestOf, targetOf, floorAfter, wantedB, nextOf}
@@ -53,7 +53,7 @@ store2 = path 1 ++ (replicate 360 0 ++ (path 2 ++ replicate 48744 0))
 -- ---- what each call answers
 
 judged : (n : ℕ) → judgeOf (object n) true agreed 3 ≡ acceptedWith 1
-unfolding judgeOf rule4 headed fitsIn apart apartOf rule5 rule6Place rule6 rule14 rule13 brokenBy brokenAt rule12 rule7 rule8 rule9 rule10 rule11 hasStructure sumAt
+unfolding judgeOf rule4 headed fitsIn apart apartOf rule5 rule6Place rule6 rule14 rule13 rule12 rule7 rule8 rule9 rule10 rule11 hasStructure sumAt
     naiLength expectedLength kindOf headOf headAt octetOf be16
 judged n = refl
 

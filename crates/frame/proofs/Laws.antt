@@ -10,77 +10,69 @@ use native.Mathlib.Omega.{arith}
 use borrow.Author.Tests.{eq-eqb, ne-eqb, le-ltb, le-leb, lt-leb, ltb-true, ltb-false, leb-true, eqb-true, eqb-false, not-true, not-false}
 use Rattle.octets.specs.Octets.{octetOf, be16}
 use Rattle.subobject.specs.Layout.{kindOf}
-use Rattle.subobject.proofs.Laws.{both-true}
-use Rattle.answers.specs.declared.verdict.Verdict.{Verdict}
-use Rattle.answers.specs.Numbers.{frameBroken, routeEmpty, kindsMixed, noSrv6}
-use Rattle.answers.specs.Verdicts.{refusedBy, acceptedWith}
-use Rattle.frame.specs.declared.look.Facts.{Facts}
-use Rattle.frame.specs.Frames.{classOf, headed, fitsIn, Apart, ended, cut, from, step, apart, apartOf, kindAt, anyIs, otherThan, mixedAt, noFacts, seenOf, factsIn, factsOf, rule4, rule5, rule6, rule6Place, rule14, frameOf}
+use Rattle.octets.proofs.Said.{both-true}
+use Rattle.objects.specs.Objects.{header, unit, classPlace, typePlace, lengthPlace, typeWorth, objectType}
+use Rattle.frame.specs.declared.gathering.Facts.{Facts}
+use Rattle.frame.specs.Frames.{classOf, headed, fitsIn, Apart, ended, unfilled, from, apart, apartOf, kindAt, anyIs, otherThan, mixedAt}
+use Rattle.frame.specs.Gathered.{noFacts, seenOf, factsIn, factsOf}
 
 -- the header ---------------------------------------------------------------------------------------------------
 
 -- What a sound header says of the octets' number.
 pub record Sized (s : List ℕ) : Type 0 where
-  pub low : 4 ≤ length s
-  pub four : length s % 4 ≡ 0
-  pub read : be16 s 2 ≡ length s
+  pub low : header ≤ length s
+  pub four : length s % unit ≡ 0
+  pub read : be16 s lengthPlace ≡ length s
 
-pub headed-sized : (ero : Bool) (s : List ℕ) → headed ero s ≡ true → Sized s
+pub headed-sized : (ero : Bool) (s : List ℕ) → headed s ero ≡ true → Sized s
 unfolding headed
 headed-sized ero s e =
-    let a = both-true (not (ltb (length s) 4)) _ e in
-    let b = both-true (eqb (octetOf s 0) (classOf ero)) _ (a .1) in
-    let c = both-true (eqb (octetOf s 1 / 16) 1) _ (b .1) in
-    let d = both-true (eqb (be16 s 2) (length s)) _ (c .1) in
-    record { low = ltb-false (length s) 4 (not-true _ (a .0)); four = eqb-true _ _ (d .1); read = eqb-true _ _ (d .0) }
-
--- The last test of a header.
-pub headed-last : (ero : Bool) (s : List ℕ) → 4 ≤ length s → getD s 0 0 ≡ classOf ero → getD s 1 0 / 16 ≡ 1 → be16 s 2 ≡ length s
-    → eqb (length s % 4) 0 ≡ headed ero s
-unfolding headed octetOf
-headed-last ero s l c k n =
-    rw (le-ltb (length s) 4 l, eq-eqb (getD s 0 0) (classOf ero) c, eq-eqb (getD s 1 0 / 16) 1 k, eq-eqb (be16 s 2) (length s) n)
+    let a = both-true (not (ltb (length s) header)) _ e in
+    let b = both-true (eqb (octetOf s classPlace) (classOf ero)) _ (a .1) in
+    let c = both-true (eqb (octetOf s typePlace / typeWorth) objectType) _ (b .1) in
+    let d = both-true (eqb (be16 s lengthPlace) (length s)) _ (c .1) in
+    record { low = ltb-false (length s) header (not-true _ (a .0)); four = eqb-true _ _ (d .1); read = eqb-true _ _ (d .0) }
 
 -- one subobject ------------------------------------------------------------------------------------------------
 
 -- A subobject that doesn't fit: too long for what is left, no multiple of 4.
 pub over-room : (len room : ℕ) → room < len → false ≡ fitsIn len room
 unfolding fitsIn
-over-room len room h = go (not (ltb len 4)) (eqb (len % 4) 0)
+over-room len room h = go (not (ltb len unit)) (eqb (len % unit) 0)
   where
     go : (a b : Bool) → false ≡ (a && (b && leb len room))
     go true true = sym (lt-leb len room h)
     go true false = refl
     go false b = refl
 
-pub no-multiple : (len room : ℕ) → (len % 4 ≡ 0 → ⊥) → false ≡ fitsIn len room
+pub no-multiple : (len room : ℕ) → (len % unit ≡ 0 → ⊥) → false ≡ fitsIn len room
 unfolding fitsIn
-no-multiple len room n = rw (ne-eqb (len % 4) 0 n) (go (not (ltb len 4)))
+no-multiple len room n = rw (ne-eqb (len % unit) 0 n) (go (not (ltb len unit)))
   where
     go : (a : Bool) → false ≡ (a && false)
     go true = refl
     go false = refl
 
 -- and one that fits if it is long enough.
-pub long-enough : (len room : ℕ) → len ≤ room → len % 4 ≡ 0 → leb 4 len ≡ fitsIn len room
+pub long-enough : (len room : ℕ) → len ≤ room → len % unit ≡ 0 → leb unit len ≡ fitsIn len room
 unfolding fitsIn
-long-enough len room h e = rw (le-leb len room h, eq-eqb (len % 4) 0 e) (go (ltb len 4) refl)
+long-enough len room h e = rw (le-leb len room h, eq-eqb (len % unit) 0 e) (go (ltb len unit) refl)
   where
-    go : (b : Bool) → ltb len 4 ≡ b → leb 4 len ≡ (not b && true)
-    go true q = lt-leb 4 len (ltb-true len 4 q)
-    go false q = le-leb 4 len (ltb-false len 4 q)
+    go : (b : Bool) → ltb len unit ≡ b → leb unit len ≡ (not b && true)
+    go true q = lt-leb unit len (ltb-true len unit q)
+    go false q = le-leb unit len (ltb-false len unit q)
 
-pub fits-true : (len room : ℕ) → fitsIn len room ≡ true → (4 ≤ len) × (len % 4 ≡ 0) × (len ≤ room)
+pub fits-true : (len room : ℕ) → fitsIn len room ≡ true → (unit ≤ len) × (len % unit ≡ 0) × (len ≤ room)
 unfolding fitsIn
 fits-true len room e =
-    let h = both-true (not (ltb len 4)) (eqb (len % 4) 0 && leb len room) e in
-    let g = both-true (eqb (len % 4) 0) (leb len room) (h .1) in
-    (ltb-false len 4 (not-true _ (h .0)), eqb-true (len % 4) 0 (g .0), leb-true len room (g .1))
+    let h = both-true (not (ltb len unit)) (eqb (len % unit) 0 && leb len room) e in
+    let g = both-true (eqb (len % unit) 0) (leb len room) (h .1) in
+    (ltb-false len unit (not-true _ (h .0)), eqb-true (len % unit) 0 (g .0), leb-true len room (g .1))
 
 -- the frame from a place on ------------------------------------------------------------------------------------
 
 pub parted : (f : ℕ) (s : List ℕ) (at : ℕ) → 0 < f
-    → apart f s at ≡ step (eqb at (length s)) (fitsIn (octetOf s (at + 1)) (length s - at)) (λ u. from at (apart (pred f) s (at + octetOf s (at + 1))))
+    → apart s at f ≡ cond (eqb at (length s)) ended (cond (fitsIn (octetOf s (at + 1)) (length s - at)) (from at (apart s (at + octetOf s (at + 1)) (pred f))) unfilled)
 unfolding apart
 parted zero s at h = absurd (omega arith)
 parted (suc f) s at h = refl
@@ -89,9 +81,9 @@ parted (suc f) s at h = refl
 pub record Over {A : Type 0} (F : Apart → A) (s : List ℕ) (at : ℕ) (whole : A) : Type 0 where
   pub fuel : ℕ
   pub enough : length s - at < fuel
-  pub same : F (apart fuel s at) ≡ whole
+  pub same : F (apart s at fuel) ≡ whole
 
-pub over-starts : {A : Type 0} (F : Apart → A) (s : List ℕ) → Over F s 4 (F (apartOf s))
+pub over-starts : {A : Type 0} (F : Apart → A) (s : List ℕ) → Over F s header (F (apartOf s))
 unfolding apartOf
 over-starts F s = record { fuel = suc (length s); enough = omega arith; same = refl }
 
@@ -99,7 +91,7 @@ module _ {A : Type 0} {F : Apart → A} {s : List ℕ} {at : ℕ} {whole : A} wh
   pub over-ends : Over F s at whole → at ≡ length s → F ended ≡ whole
   over-ends l e = sym (rw (parted (l .fuel) s at (omega arith), eq-eqb at (length s) e)) ∙ l .same
 
-  pub over-cut : Over F s at whole → (at ≡ length s → ⊥) → fitsIn (octetOf s (at + 1)) (length s - at) ≡ false → F cut ≡ whole
+  pub over-cut : Over F s at whole → (at ≡ length s → ⊥) → fitsIn (octetOf s (at + 1)) (length s - at) ≡ false → F unfilled ≡ whole
   over-cut l n h = sym (rw (parted (l .fuel) s at (omega arith), ne-eqb at (length s) n, h)) ∙ l .same
 
   pub over-next : Over F s at whole → at < length s → fitsIn (octetOf s (at + 1)) (length s - at) ≡ true
@@ -111,10 +103,10 @@ module _ {A : Type 0} {F : Apart → A} {s : List ℕ} {at : ℕ} {whole : A} wh
   }
 
   pub over-as : Over F s at whole → (G : Apart → A) → ((a : Apart) → F a ≡ G a) → Over G s at whole
-  over-as l G e = record { fuel = l .fuel; enough = l .enough; same = sym (e (apart (l .fuel) s at)) ∙ l .same }
+  over-as l G e = record { fuel = l .fuel; enough = l .enough; same = sym (e (apart s at (l .fuel))) ∙ l .same }
 
 -- A whole frame,
-pub sound-starts : (s : List ℕ) → apartOf s .whole ≡ true → Over (λ a. a .whole) s 4 true
+pub sound-starts : (s : List ℕ) → apartOf s .whole ≡ true → Over (λ a. a .whole) s header true
 sound-starts s e = let l = over-starts (λ a. a .whole) s in record { fuel = l .fuel; enough = l .enough; same = l .same ∙ e }
 
 -- in which each subobject fits.
@@ -126,7 +118,7 @@ sound-fits {s} {at} l n = go (fitsIn (octetOf s (at + 1)) (length s - at)) refl
     go false e = e ∙ over-cut l n e
 
 pub sound-room : {s : List ℕ} {at : ℕ} → Over (λ a. a .whole) s at true → (at ≡ length s → ⊥)
-    → (4 ≤ getD s (at + 1) 0) × (getD s (at + 1) 0 % 4 ≡ 0) × (getD s (at + 1) 0 ≤ length s - at)
+    → (unit ≤ getD s (at + 1) 0) × (getD s (at + 1) 0 % unit ≡ 0) × (getD s (at + 1) 0 ≤ length s - at)
 unfolding octetOf
 sound-room {s} {at} l n = fits-true (octetOf s (at + 1)) (length s - at) (sound-fits l n)
 
@@ -161,13 +153,13 @@ joined kinds kind first g ps =
 abbrev pub lookRest : (ℕ → ℕ) → ℕ → ℕ → Facts → Apart → Facts
 lookRest kinds kind first g a = cond (a .whole) (joined kinds kind first g (a .places)) (noFacts false)
 
-first-mixed : (kinds : ℕ → ℕ) (f : ℕ) (s : List ℕ) (at : ℕ) → otherThan kinds (kinds at) (apart f s at .places) ≡ mixedAt kinds (apart f s at .places)
+first-mixed : (kinds : ℕ → ℕ) (f : ℕ) (s : List ℕ) (at : ℕ) → otherThan kinds (kinds at) (apart s at f .places) ≡ mixedAt kinds (apart s at f .places)
 unfolding apart
 first-mixed kinds zero s at = refl
 first-mixed kinds (suc f) s at = go (eqb at (length s)) (fitsIn (octetOf s (at + 1)) (length s - at))
   where
-    go : (x y : Bool) → otherThan kinds (kinds at) (step x y (λ u. from at (apart f s (at + octetOf s (at + 1)))) .places)
-        ≡ mixedAt kinds (step x y (λ u. from at (apart f s (at + octetOf s (at + 1)))) .places)
+    go : (x y : Bool) → otherThan kinds (kinds at) (cond x ended (cond y (from at (apart s (at + octetOf s (at + 1)) f)) unfilled) .places)
+        ≡ mixedAt kinds (cond x ended (cond y (from at (apart s (at + octetOf s (at + 1)) f)) unfilled) .places)
     go true y = refl
     go false false = refl
     go false true = rw (eq-eqb (kinds at) (kinds at) refl)
@@ -191,36 +183,38 @@ first-once kinds kind first ps = go (eqb first kind) refl
 
 -- The facts before the first subobject.
 abbrev pub startFacts : List ℕ → ℕ → ℕ → Facts
-startFacts s kind first = record { whole = true; count = 0; any = not (eqb (length s) 4) && eqb first kind; other = 0 }
+startFacts s kind first = record { whole = true; count = 0; any = not (eqb (length s) header) && eqb first kind; other = 0 }
 
-first-any : (kinds : ℕ → ℕ) (kind f : ℕ) (s : List ℕ) → apart f s 4 .whole ≡ true
-    → ((not (eqb (length s) 4) && eqb (kinds 4) kind) || anyOther kinds kind (kinds 4) (apart f s 4 .places)) ≡ anyIs kinds kind (apart f s 4 .places)
+first-any : (kinds : ℕ → ℕ) (kind f : ℕ) (s : List ℕ) → apart s header f .whole ≡ true
+    → ((not (eqb (length s) header) && eqb (kinds header) kind) || anyOther kinds kind (kinds header) (apart s header f .places))
+    ≡ anyIs kinds kind (apart s header f .places)
 unfolding apart
 first-any kinds kind zero s w = absurd (let z : _≡_ {A = ℕ} 0 1 = cc in omega arith)
-first-any kinds kind (suc f) s w = go (eqb 4 (length s)) refl (fitsIn (octetOf s (4 + 1)) (length s - 4)) w
+first-any kinds kind (suc f) s w = go (eqb header (length s)) refl (fitsIn (octetOf s (header + 1)) (length s - header)) w
   where
-    go : (x : Bool) → eqb 4 (length s) ≡ x → (y : Bool) → step x y (λ u. from 4 (apart f s (4 + octetOf s (4 + 1)))) .whole ≡ true
-        → ((not (eqb (length s) 4) && eqb (kinds 4) kind) || anyOther kinds kind (kinds 4) (step x y (λ u. from 4 (apart f s (4 + octetOf s (4 + 1)))) .places))
-        ≡ anyIs kinds kind (step x y (λ u. from 4 (apart f s (4 + octetOf s (4 + 1)))) .places)
-    go true e y v = rw (eq-eqb (length s) 4 (sym (eqb-true 4 (length s) e)))
+    go : (x : Bool) → eqb header (length s) ≡ x → (y : Bool) → cond x ended (cond y (from header (apart s (header + octetOf s (header + 1)) f)) unfilled) .whole ≡ true
+        → ((not (eqb (length s) header) && eqb (kinds header) kind)
+        || anyOther kinds kind (kinds header) (cond x ended (cond y (from header (apart s (header + octetOf s (header + 1)) f)) unfilled) .places))
+        ≡ anyIs kinds kind (cond x ended (cond y (from header (apart s (header + octetOf s (header + 1)) f)) unfilled) .places)
+    go true e y v = rw (eq-eqb (length s) header (sym (eqb-true header (length s) e)))
     go false e false v = absurd (let z : _≡_ {A = ℕ} 0 1 = cc in omega arith)
     go false e true v =
-        rw (ne-eqb (length s) 4 (λ q. eqb-false 4 (length s) e (sym q)), eq-eqb (kinds 4) (kinds 4) refl)
-        (first-once kinds kind (kinds 4) (apart f s (4 + octetOf s (4 + 1)) .places))
+        rw (ne-eqb (length s) header (λ q. eqb-false header (length s) e (sym q)), eq-eqb (kinds header) (kinds header) refl)
+        (first-once kinds kind (kinds header) (apart s (header + octetOf s (header + 1)) f .places))
 
-rest-starts : (s : List ℕ) (ero : Bool) (kind first : ℕ) → first ≡ kindAt ero s 4
-    → Over (lookRest (kindAt ero s) kind first (startFacts s kind first)) s 4 (factsOf ero kind s)
+rest-starts : (s : List ℕ) (ero : Bool) (kind first : ℕ) → first ≡ kindAt s ero header
+    → Over (lookRest (kindAt s ero) kind first (startFacts s kind first)) s header (factsOf s ero kind)
 unfolding factsOf apartOf
-rest-starts s ero kind first e = record { fuel = suc (length s); enough = omega arith; same = go (apart (suc (length s)) s 4 .whole) refl }
+rest-starts s ero kind first e = record { fuel = suc (length s); enough = omega arith; same = go (apart s header (suc (length s)) .whole) refl }
   where
-    go : (b : Bool) → apart (suc (length s)) s 4 .whole ≡ b
-        → lookRest (kindAt ero s) kind first (startFacts s kind first) (apart (suc (length s)) s 4) ≡ factsIn (kindAt ero s) kind (apart (suc (length s)) s 4)
+    go : (b : Bool) → apart s header (suc (length s)) .whole ≡ b
+        → lookRest (kindAt s ero) kind first (startFacts s kind first) (apart s header (suc (length s))) ≡ factsIn (kindAt s ero) kind (apart s header (suc (length s)))
     go false w = rw w
     go true w =
-        let ps : List ℕ = apart (suc (length s)) s 4 .places in
-        let o : otherThan (kindAt ero s) first ps ≡ mixedAt (kindAt ero s) ps = rw e (first-mixed (kindAt ero s) (suc (length s)) s 4) in
-        let a : ((not (eqb (length s) 4) && eqb first kind) || anyOther (kindAt ero s) kind first ps) ≡ anyIs (kindAt ero s) kind ps =
-        rw e (first-any (kindAt ero s) kind (suc (length s)) s w) in
+        let ps : List ℕ = apart s header (suc (length s)) .places in
+        let o : otherThan (kindAt s ero) first ps ≡ mixedAt (kindAt s ero) ps = rw e (first-mixed (kindAt s ero) (suc (length s)) s header) in
+        let a : ((not (eqb (length s) header) && eqb first kind) || anyOther (kindAt s ero) kind first ps) ≡ anyIs (kindAt s ero) kind ps =
+        rw e (first-any (kindAt s ero) kind (suc (length s)) s w) in
         rw w (λ i. record { whole = true; count = zero-add (length ps) i; any = a i; other = o i })
 
 or-assoc : (a b c : Bool) → (a || (b || c)) ≡ ((a || b) || c)
@@ -289,15 +283,15 @@ joined-all kinds kind first g =
 
 -- The pass has come to `at` with the facts g.
 pub record Looking (s : List ℕ) (ero : Bool) (kind first at : ℕ) (g whole : Facts) : Type 0 where
-  pub rest : Over (lookRest (kindAt ero s) kind first g) s at whole
+  pub rest : Over (lookRest (kindAt s ero) kind first g) s at whole
 
-pub look-starts : (s : List ℕ) (ero : Bool) (kind first : ℕ) (any : Bool) → any ≡ (not (eqb (length s) 4) && eqb first kind) → first ≡ kindAt ero s 4
-    → Looking s ero kind first 4 (record { whole = true; count = 0; any = any; other = 0 }) (factsOf ero kind s)
+pub look-starts : (s : List ℕ) (ero : Bool) (kind first : ℕ) (any : Bool) → any ≡ (not (eqb (length s) header) && eqb first kind) → first ≡ kindAt s ero header
+    → Looking s ero kind first header (record { whole = true; count = 0; any = any; other = 0 }) (factsOf s ero kind)
 look-starts s ero kind first any q e = rw q (record { rest = rest-starts s ero kind first e })
 
 module _ {s : List ℕ} {ero : Bool} {kind first at : ℕ} {g whole : Facts} (l : Looking s ero kind first at g whole) where
   pub look-ends : at ≡ length s → g ≡ whole
-  look-ends e = sym (joined-all (kindAt ero s) kind first g) ∙ over-ends (l .rest) e
+  look-ends e = sym (joined-all (kindAt s ero) kind first g) ∙ over-ends (l .rest) e
 
   pub look-cut : {len : ℕ} {r : Bool} → (at ≡ length s → ⊥) → len ≡ getD s (at + 1) 0 → r ≡ fitsIn len (length s - at) → not r ≡ true
       → noFacts false ≡ whole
@@ -305,17 +299,17 @@ module _ {s : List ℕ} {ero : Bool} {kind first at : ℕ} {g whole : Facts} (l 
   look-cut {r = r} n e f t = over-cut (l .rest) n (rw e at (sym f ∙ not-true r t))
 
   pub look-next : {len x k : ℕ} {r : Bool} {g′ : Facts} → 0 < at → at < length s → len ≡ getD s (at + 1) 0 → r ≡ fitsIn len (length s - at) → not r ≡ false
-      → x ≡ getD s at 0 → k ≡ kindOf ero x → g′ ≡ seenOf g at k kind first → Looking s ero kind first (at + len) g′ whole
+      → x ≡ getD s at 0 → k ≡ kindOf x ero → g′ ≡ seenOf g at k kind first → Looking s ero kind first (at + len) g′ whole
   unfolding octetOf
   look-next {r = r} h n e f t ex ek eg =
       rw (eg, ek, ex, e)
       (record {
         rest =
-            over-as (over-next (l .rest) n (rw e at (sym f ∙ not-false r t))) (lookRest (kindAt ero s) kind first (seenOf g at (kindAt ero s at) kind first))
-            (λ a. rw (joined-next (kindAt ero s) kind first at g (a .places) h));
+            over-as (over-next (l .rest) n (rw e at (sym f ∙ not-false r t))) (lookRest (kindAt s ero) kind first (seenOf g at (kindAt s ero at) kind first))
+            (λ a. rw (joined-next (kindAt s ero) kind first at g (a .places) h));
       })
 
-pub now-fits : (len room : ℕ) (r : Bool) → r ≡ fitsIn len room → not r ≡ false → (4 ≤ len) × (len % 4 ≡ 0) × (len ≤ room)
+pub now-fits : (len room : ℕ) (r : Bool) → r ≡ fitsIn len room → not r ≡ false → (unit ≤ len) × (len % unit ≡ 0) × (len ≤ room)
 now-fits len room r e n = fits-true len room (sym e ∙ not-false r n)
 
 pub seen-count : (g g′ : Facts) (at k kind first : ℕ) → g′ ≡ seenOf g at k kind first → g′ .count ≡ g .count + 1
@@ -334,14 +328,14 @@ pub record Going (s : List ℕ) (at left whole : ℕ) : Type 0 where
   pub good : Over (λ a. a .whole) s at true
   pub rest : Over (λ a. getD (a .places) left 0) s at whole
 
-pub going-starts : (s : List ℕ) (i : ℕ) → apartOf s .whole ≡ true → Going s 4 i (getD (apartOf s .places) i 0)
+pub going-starts : (s : List ℕ) (i : ℕ) → apartOf s .whole ≡ true → Going s header i (getD (apartOf s .places) i 0)
 going-starts s i e = record { good = sound-starts s e; rest = over-starts (λ a. getD (a .places) i 0) s }
 
 module _ {s : List ℕ} {at left whole : ℕ} (l : Going s at left whole) where
   pub going-ends : at ≡ length s → 0 ≡ whole
   going-ends e = over-ends (l .rest) e
 
-  pub going-room : (at ≡ length s → ⊥) → (4 ≤ getD s (at + 1) 0) × (getD s (at + 1) 0 % 4 ≡ 0) × (getD s (at + 1) 0 ≤ length s - at)
+  pub going-room : (at ≡ length s → ⊥) → (unit ≤ getD s (at + 1) 0) × (getD s (at + 1) 0 % unit ≡ 0) × (getD s (at + 1) 0 ≤ length s - at)
   going-room n = sound-room (l .good) n
 
   pub going-here : at < length s → left ≡ 0 → at ≡ whole
@@ -354,25 +348,3 @@ module _ {s : List ℕ} {at left whole : ℕ} (l : Going s at left whole) where
         good = sound-next (l .good) n e;
         rest = over-as (next-by (l .good) (l .rest) n e) (λ a. getD (a .places) (left - 1) 0) (λ a. ap (λ (y : ℕ). getD (at ∷ a .places) y 0) q);
       }
-
--- the frame's answer -------------------------------------------------------------------------------------------
-
--- The answer by the facts that the pass has gathered.
-abbrev pub byFacts : Facts → Verdict
-byFacts g =
-    cond (not (g .whole)) (refusedBy frameBroken 0)
-    (cond (eqb (g .count) 0) (refusedBy routeEmpty 0)
-    (cond (g .any && not (eqb (g .other) 0)) (refusedBy kindsMixed (g .other)) (cond (not (g .any)) (refusedBy noSrv6 0) (acceptedWith (g .count)))))
-
-pub header-broken : (ero : Bool) (kind : ℕ) (s : List ℕ) (h : Bool) → h ≡ headed ero s → not h ≡ true → refusedBy frameBroken 0 ≡ frameOf ero kind s
-unfolding frameOf rule4
-header-broken ero kind s h e n = rw (sym e ∙ not-true h n)
-
-pub frame-by : (ero : Bool) (kind : ℕ) (s : List ℕ) (h : Bool) (g : Facts) → h ≡ headed ero s → not h ≡ false → g ≡ factsOf ero kind s
-    → byFacts g ≡ frameOf ero kind s
-unfolding frameOf factsOf rule4 rule5 rule6 rule6Place rule14
-frame-by ero kind s h g e n q = rw q (go (apartOf s .whole) refl)
-  where
-    go : (b : Bool) → apartOf s .whole ≡ b → byFacts (factsOf ero kind s) ≡ frameOf ero kind s
-    go true w = rw (w, sym e ∙ not-false h n)
-    go false w = rw (w, sym e ∙ not-false h n)

@@ -3,15 +3,19 @@ ghost use mathlib.Core.Path.{_≡_};
 ghost use mathlib.Core.Bool.{true};
 ghost use Prim.Native.Nat.{_≤_, _<_};
 ghost use lib.ListN.{length, getD};
+ghost use Rattle.objects.specs.Objects.{header};
 ghost use Rattle.frame.specs.Frames.{apartOf};
+
+// no octet of a subobject: the object begins with its header
+const NO_PLACE: usize = 0;
 
 // The place of subobject i, from 0; 0 where there is none.
 pub fn nth(s: &[u8], i: usize) -> usize
-    requires { ⌜ (4 ≤ length (now s)) × (length (now s) < 65536) × (apartOf (now s) .whole ≡ true) ⌝ }
+    requires { ⌜ (header ≤ length (now s)) × (length (now s) < 65536) × (apartOf (now s) .whole ≡ true) ⌝ }
     ensures place { λ r. ⌜ r ≡ getD (apartOf (now (s .entry)) .places) i 0 ⌝ }
 {
     let end = s.len();
-    let mut at: usize = 4;
+    let mut at: usize = objects::HEADER;
     let mut left = i;
     while at != end {
         if left == 0 {
@@ -20,5 +24,5 @@ pub fn nth(s: &[u8], i: usize) -> usize
         left = left - 1;
         at = at + octets::wide(s[at + 1]);
     }
-    0
+    NO_PLACE
 }

@@ -1,2 +1,3 @@
 pub mod Laws
+pub mod Said
 pub mod Tests

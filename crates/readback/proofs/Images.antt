@@ -14,8 +14,9 @@ use Rattle.subobject.specs.Rules.{rule8, rule9, rule11}
 use Rattle.subobject.specs.Segments.{headOfSegment, subobjectOf, bitsOf}
 use Rattle.writer.specs.declared.state.Writer.{Writer}
 use Rattle.writer.specs.declared.state.Written.{Written}
-use Rattle.writer.specs.Writing.{headerOf, unfit, beginNumber, beginAnswer, beginBuffer, addNumber, addAnswer, addBuffer, finishNumber, finishAnswer, finishBuffer, answered, refusedAs, acceptedAs}
-use Rattle.writer.proofs.Laws.{Proper, Taken, taken, Done, done}
+use Rattle.writer_rules.specs.Refusals.{unfit, addNumber, finishNumber}
+use Rattle.writer_rules.proofs.Laws.{Proper, Taken, taken, Done, done}
+use Rattle.writer.specs.Writing.{headerOf, beginNumber, beginAnswer, beginBuffer, addAnswer, addBuffer, finishAnswer, finishBuffer, answered, refusedAs, acceptedAs}
 use Rattle.readback.specs.Runs.{Run, onward, beginRun, addRun, finishRun, addsRun, writeRun, Accepted, objectIn, bodyOf, objectOf}
 
 -- A segment that adding takes, but for the room.
@@ -69,10 +70,10 @@ moved body g gs f u =
     }
 
 finished : {ero : Bool} (body rest b : List ℕ) (w : Writer) → w .at ≡ 4 + length body → b ≡ headerOf ero 4 ++ (body ++ rest)
-    → finishNumber (length b) w ≡ 0 → Under ero body [] (finishRun b w)
+    → finishNumber (length b) (w .at) ≡ 0 → Under ero body [] (finishRun b w)
 unfolding finishAnswer finishBuffer headerOf placed over
 finished {ero} body rest b w ea eb e =
-    let d = done (length b) w e in
+    let d = done (length b) (w .at) e in
     let n = append-nil body in
     record {
       at = rw (e, n) ea;
@@ -84,20 +85,20 @@ finished {ero} body rest b w ea eb e =
       filled = rw n (λ z. d .filled (omega arith));
     }
 
-pub finish-number : (b : List ℕ) (w : Writer) → finishAnswer b w .verdict .number ≡ finishNumber (length b) w
+pub finish-number : (b : List ℕ) (w : Writer) → finishAnswer b w .verdict .number ≡ finishNumber (length b) (w .at)
 unfolding finishAnswer
-finish-number b w = number-answered (finishNumber (length b) w) w w
+finish-number b w = number-answered (finishNumber (length b) (w .at)) w w
 
-pub add-number : (b : List ℕ) (w : Writer) (g : Segment) → addAnswer b w g .verdict .number ≡ addNumber (length b) w g
+pub add-number : (b : List ℕ) (w : Writer) (g : Segment) → addAnswer b w g .verdict .number ≡ addNumber (length b) (w .ero) (w .at) g
 unfolding addAnswer
-add-number b w g = number-answered (addNumber (length b) w g) w _
+add-number b w g = number-answered (addNumber (length b) (w .ero) (w .at) g) w _
 
 pub begin-number : (b : List ℕ) (w : Writer) (ero : Bool) → beginAnswer b w ero .verdict .number ≡ beginNumber (length b)
 unfolding beginAnswer
 begin-number b w ero = number-answered (beginNumber (length b)) w _
 
 -- A call that accepts hands on its state and its buffer.
-pub add-onward : (b : List ℕ) (w : Writer) (g : Segment) (next : List ℕ → Writer → Run) → addNumber (length b) w g ≡ 0
+pub add-onward : (b : List ℕ) (w : Writer) (g : Segment) (next : List ℕ → Writer → Run) → addNumber (length b) (w .ero) (w .at) g ≡ 0
     → onward (addRun b w g) next ≡ next (placed b (w .at) (subobjectOf g)) (record { ero = w .ero; at = w .at + length (subobjectOf g) })
 unfolding addAnswer addBuffer
 add-onward b w g next e = rw e
@@ -107,23 +108,23 @@ pub begin-onward : (b : List ℕ) (w : Writer) (ero : Bool) (next : List ℕ →
 unfolding beginAnswer beginBuffer
 begin-onward b w ero next e = rw e
 
-fit-of : (ero : Bool) (room : ℕ) (w : Writer) (g : Segment) → w .ero ≡ ero → Taken room w g → Fit ero g
+fit-of : (ero : Bool) (room : ℕ) (w : Writer) (g : Segment) → w .ero ≡ ero → Taken room (w .ero) (w .at) g → Fit ero g
 fit-of ero room w g e t = record { r8 = t .r8; r9 = t .r9; fit = rw e at (t .fit); r11 = t .r11 }
 
 adds : {ero : Bool} (gs : List Segment) (body rest b : List ℕ) (w : Writer) → w .ero ≡ ero → w .at ≡ 4 + length body → b ≡ headerOf ero 4 ++ (body ++ rest)
-    → Accepted (addsRun gs b w) → Under ero body gs (addsRun gs b w)
+    → Accepted (addsRun b w gs) → Under ero body gs (addsRun b w gs)
 unfolding addsRun headerOf
 adds [] body rest b w ee ea eb a = finished body rest b w ea eb (sym (finish-number b w) ∙ a)
 adds {ero} (g ∷ gs) body rest b w ee ea eb a =
-    let n = went-on (addRun b w g) (addsRun gs) a (addNumber (length b) w g) (add-number b w g) in
+    let n = went-on (addRun b w g) (λ b′ w′. addsRun b′ w′ gs) a (addNumber (length b) (w .ero) (w .at) g) (add-number b w g) in
     let x = subobjectOf g in
-    let q = add-onward b w g (addsRun gs) n in
+    let q = add-onward b w g (λ b′ w′. addsRun b′ w′ gs) n in
     let e1 : placed b (w .at) x ≡ (headerOf ero 4 ++ body) ++ (x ++ drop (length x) rest)
     = rw eb (placed-behind (headerOf ero 4 ++ body) rest x (w .at) (omega arith)) in
     let e2 : (headerOf ero 4 ++ body) ++ (x ++ drop (length x) rest) ≡ headerOf ero 4 ++ ((body ++ x) ++ drop (length x) rest) = simp append-assoc in
     let eb' : placed b (w .at) x ≡ headerOf ero 4 ++ ((body ++ x) ++ drop (length x) rest) = e1 ∙ e2 in
     rw q
-    (moved body g gs (fit-of ero (length b) w g ee (taken (length b) w g n))
+    (moved body g gs (fit-of ero (length b) w g ee (taken (length b) (w .ero) (w .at) g n))
     (adds gs (body ++ x) (drop (length x) rest) (placed b (w .at) x) (record { ero = w .ero; at = w .at + length x }) ee
     (omega (arith, length-append body x)) eb' (rw q at a)))
 
@@ -150,11 +151,11 @@ begun : (b : List ℕ) (ero : Bool) → over (headerOf ero 4) b ≡ headerOf ero
 unfolding headerOf over
 begun b ero = refl
 
-pub image : (ero : Bool) (gs : List Segment) (b : List ℕ) (w : Writer) → Accepted (writeRun ero gs b w) → Image ero gs (writeRun ero gs b w)
+pub image : (ero : Bool) (gs : List Segment) (b : List ℕ) (w : Writer) → Accepted (writeRun b w ero gs) → Image ero gs (writeRun b w ero gs)
 unfolding writeRun
 image ero gs b w a =
-    let n = went-on (beginRun b w ero) (addsRun gs) a (beginNumber (length b)) (begin-number b w ero) in
-    let q = begin-onward b w ero (addsRun gs) n in
+    let n = went-on (beginRun b w ero) (λ b′ w′. addsRun b′ w′ gs) a (beginNumber (length b)) (begin-number b w ero) in
+    let q = begin-onward b w ero (λ b′ w′. addsRun b′ w′ gs) n in
     let u = adds gs [] (drop 4 b) (over (headerOf ero 4) b) (record { ero = ero; at = 4 }) refl refl (begun b ero) (rw q at a) in
     rw q
     (record {
@@ -169,6 +170,6 @@ image ero gs b w a =
 -- the second theorem: one object -------------------------------------------------------------------------------
 
 -- Any two finished objects of the same kind and segments are equal octet for octet, whatever the buffers and the states were.
-pub one-object : (ero : Bool) (gs : List Segment) (b c : List ℕ) (v w : Writer) → Accepted (writeRun ero gs b v) → Accepted (writeRun ero gs c w)
-    → objectIn (writeRun ero gs b v) ≡ objectIn (writeRun ero gs c w)
+pub one-object : (ero : Bool) (gs : List Segment) (b c : List ℕ) (v w : Writer) → Accepted (writeRun b v ero gs) → Accepted (writeRun c w ero gs)
+    → objectIn (writeRun b v ero gs) ≡ objectIn (writeRun c w ero gs)
 one-object ero gs b c v w p q = image ero gs b v p .object ∙ sym (image ero gs c w q .object)

@@ -10,9 +10,10 @@ use native.Mathlib.Omega.{arith}
 use borrow.Author.Tests.{eqb-true, eq-eqb}
 use Rattle.octets.specs.Octets.{octetOf, part, over, partOf}
 use Rattle.octets.proofs.Laws.{length-part, length-over, getD-part}
-use Rattle.writer_layout.specs.Spare.{zeros}
+use Rattle.writer_spare.specs.Spare.{zeros}
 use Rattle.readback.specs.Ignored.{Octets}
-use Rattle.readback.proofs.Stands.{and-true, drop-zeros}
+use Rattle.octets.proofs.Said.{both-true}
+use Rattle.readback.proofs.Stands.{drop-zeros}
 
 -- parts --------------------------------------------------------------------------------------------------------
 
@@ -79,12 +80,12 @@ zeros-replicate (ℕ.suc n) = zeros-replicate n
 
 pub zeros-append : (x y : List ℕ) → zeros x ≡ true → zeros y ≡ true → zeros (x ++ y) ≡ true
 zeros-append [] y e f = f
-zeros-append (a ∷ x) y e f = let p = and-true (eqb a 0) (zeros x) e in rw (p .0) (zeros-append x y (p .1) f)
+zeros-append (a ∷ x) y e f = let p = both-true (eqb a 0) (zeros x) e in rw (p .0) (zeros-append x y (p .1) f)
 
 pub zeros-split : (x y : List ℕ) → zeros (x ++ y) ≡ true → (zeros x ≡ true) × (zeros y ≡ true)
 zeros-split [] y e = (refl, e)
 zeros-split (a ∷ x) y e =
-    let p = and-true (eqb a 0) (zeros (x ++ y)) e in
+    let p = both-true (eqb a 0) (zeros (x ++ y)) e in
     let q = zeros-split x y (p .1) in
     (rw (p .0) (q .0), q .1)
 
@@ -92,7 +93,7 @@ pub zeros-cons : (a : ℕ) (x : List ℕ) → a ≡ 0 → zeros x ≡ true → z
 zeros-cons a x e f = rw (eq-eqb a 0 e) f
 
 pub zeros-uncons : (a : ℕ) (x : List ℕ) → zeros (a ∷ x) ≡ true → (a ≡ 0) × (zeros x ≡ true)
-zeros-uncons a x e = let p = and-true (eqb a 0) (zeros x) e in (eqb-true a 0 (p .0), p .1)
+zeros-uncons a x e = let p = both-true (eqb a 0) (zeros x) e in (eqb-true a 0 (p .0), p .1)
 
 -- Six numbers and what is behind them.
 module _ (a b c d e f : ℕ) (x : List ℕ) where

@@ -13,21 +13,24 @@ use Rattle.session.specs.declared.Session.{Session}
 use Rattle.session.specs.declared.Limit.the-variants.{Free}
 use Rattle.subobject.specs.declared.head.Head.{Head}
 use Rattle.subobject.specs.declared.segment.Segment.{Segment}
-use Rattle.subobject.specs.Layout.{srv6, naiLength, sidLength, structureThere, structureLength, expectedLength, kindOf, headOf, headAt}
+use Rattle.subobject.specs.Layout.{srv6Kind, naiLength, sidLength, structureThere, structureLength, expectedLength, kindOf, headOf, headAt}
 use Rattle.subobject.specs.Rules.{rule7, rule8, rule9, rule10, rule11, flagF, hasStructure, sumAt, bitsAt}
 use Rattle.subobject.specs.Segments.{segmentAt, noSegment, headOfSegment, fixedOctets, structureOctets, subobjectOf, bitsOf, bit}
 use Rattle.frame.specs.Checks.{Check, check, firstBroken}
 use Rattle.frame.specs.Frames.{classOf, headed, fitsIn, Apart, apart, apartOf, placesOf, kindAt, anyIs, otherThan, mixedAt, rule4, rule5, rule6, rule6Place, rule14, frameChecks}
 use Rattle.frame.proofs.Checks.{None, none-first, none-append}
-use Rattle.frame.proofs.Laws.{headed-last}
+use Rattle.frame_rules.proofs.Laws.{headed-last}
 use Rattle.route.specs.declared.picking.Picked.{Picked}
-use Rattle.route.specs.Routes.{rule12, rule13, rule15, wholeChecks, order, brokenBy, brokenAt, checksAt, subobjectChecks, lastChecks, checksOf, countOf, judgeOf, pickOf, segmentOf}
-use Rattle.writer_layout.specs.Held.{Held}
+use Rattle.route_walk.specs.Walk.{checksAt, subobjectChecks}
+use Rattle.route.specs.Routes.{rule12, rule13, rule15, wholeChecks, lastChecks, checksOf, countOf, judgeOf, pickOf, segmentOf}
+use Rattle.writer_spare.specs.Held.{Held}
 use Rattle.writer_layout.proofs.Laws.{nai-most, length-subobject}
 use Rattle.writer.specs.declared.state.Writer.{Writer}
-use Rattle.writer.specs.Writing.{headerOf, unfit}
-use Rattle.writer.proofs.Laws.{size-subobject}
-use Rattle.readback.specs.Runs.{Run, writeRun, Accepted, objectIn, bodyOf, objectOf, AllHeld, openSession, srv6Setup}
+use Rattle.writer_rules.specs.Refusals.{unfit}
+use Rattle.writer_rules.proofs.Laws.{size-subobject}
+use Rattle.writer.specs.Writing.{headerOf}
+use Rattle.readback.specs.Runs.{Run, writeRun, Accepted, objectIn, bodyOf, objectOf, AllHeld, openSession}
+use Rattle.objects.specs.Objects.{srv6Setup}
 use Rattle.readback.specs.Runs.AllHeld.{more}
 use Rattle.readback.proofs.Images.AllFit.{also}
 use Rattle.readback.proofs.Images.{Fit, AllFit, Image, image, length-object}
@@ -81,7 +84,7 @@ unfolding fitsIn
 fits len room l f r = rw (le-ltb len 4 (omega arith), eq-eqb (len % 4) 0 f, le-leb len room r)
 
 apart-body : (gs : List Segment) (p : List ℕ) (f : ℕ) → AllHeld gs → length gs < f
-    → apart f (p ++ bodyOf gs) (length p) ≡ record { whole = true; places = placesFrom (length p) gs }
+    → apart (p ++ bodyOf gs) (length p) f ≡ record { whole = true; places = placesFrom (length p) gs }
 unfolding apart
 apart-body gs p zero h k = absurd (omega arith)
 apart-body [] p (suc f) h k = rw (append-nil p, eq-eqb (length p) (length p) refl)
@@ -94,15 +97,15 @@ apart-body (g ∷ gs) p (suc f) (more hg h) k =
     let e = size-at p g gs hg in
     let o : fitsIn (length x) (length s - length p) ≡ true = fits (length x) (length s - length p) (z .0) (z .1) (omega arith) in
     let ih = apart-body gs (p ++ x) f h (omega arith) in
-    let ih' : apart f s (length p + length x) ≡ record { whole = true; places = placesFrom (length p + length x) gs }
+    let ih' : apart s (length p + length x) f ≡ record { whole = true; places = placesFrom (length p + length x) gs }
     = simp (append-assoc, length-append) at ih in
     rw (n, e, o, ih')
 
 -- what stands at a place is what was written -------------------------------------------------------------------
 
 pub record Reads (ero : Bool) (s : List ℕ) (at : ℕ) (g : Segment) : Type 0 where
-  pub head : headAt ero s at ≡ headOfSegment g
-  pub segment : segmentAt ero s at ≡ g
+  pub head : headAt s ero at ≡ headOfSegment g
+  pub segment : segmentAt s ero at ≡ g
   pub r8 : rule8 (headOfSegment g) ≡ false
   pub r9 : rule9 (headOfSegment g) ≡ false
   pub r11 : rule11 (headOfSegment g) (bitsAt s at (headOfSegment g)) ≡ false
@@ -150,7 +153,7 @@ rule7-off : (g : Segment) → rule7 (headOfSegment g) ≡ false
 unfolding rule7 headOfSegment
 rule7-off g = rw (eq-eqb (flagF (g .nt)) (flagF (g .nt)) refl, eq-eqb (expectedLength (g .nt) (bit (not (g .hassid))) (bit (g .structured))) _ refl)
 
-rule10-off : (ero : Bool) (h : Head) → rule10 ero true h ≡ false
+rule10-off : (ero : Bool) (h : Head) → rule10 h ero true ≡ false
 unfolding rule10
 rule10-off ero h = go ero (eqb (h .s) 1)
   where
@@ -160,37 +163,36 @@ rule10-off ero h = go ero (eqb (h .s) 1)
     go false b = refl
 
 module _ {ero : Bool} {s : List ℕ} where
-  kind-read : {p : ℕ} {g : Segment} → Reads ero s p g → kindAt ero s p ≡ 40
+  kind-read : {p : ℕ} {g : Segment} → Reads ero s p g → kindAt s ero p ≡ 40
   unfolding headAt headOf headOfSegment
   kind-read r = ap (λ (h : Head). h .kind) (r .head)
 
-  others-none : {ps : List ℕ} {gs : List Segment} → AllRead ero s ps gs → otherThan (kindAt ero s) 40 ps ≡ 0
+  others-none : {ps : List ℕ} {gs : List Segment} → AllRead ero s ps gs → otherThan (kindAt s ero) 40 ps ≡ 0
   others-none none = refl
   others-none (next r a) = rw (eq-eqb _ 40 (kind-read r)) (others-none a)
 
-  checks-none : {p : ℕ} {g : Segment} → Reads ero s p g → None (checksAt (brokenAt ero true s p) p order)
-  unfolding brokenAt brokenBy
+  checks-none : {p : ℕ} {g : Segment} → Reads ero s p g → None (checksAt s ero true p)
   checks-none {p} {g} r =
       rw (r .head) (r .r8, (r .r9, (rule7-off g, (rule10-off ero (headOfSegment g), (r .r11, tt)))))
 
-  subobjects-none : {ps : List ℕ} {gs : List Segment} → AllRead ero s ps gs → None (subobjectChecks (brokenAt ero true s) ps)
+  subobjects-none : {ps : List ℕ} {gs : List Segment} → AllRead ero s ps gs → None (subobjectChecks s ero true ps)
   subobjects-none none = tt
   subobjects-none (next {p} {ps} r a) =
-      none-append (checksAt (brokenAt ero true s p) p order) (subobjectChecks (brokenAt ero true s) ps) (checks-none r) (subobjects-none a)
+      none-append (checksAt s ero true p) (subobjectChecks s ero true ps) (checks-none r) (subobjects-none a)
 
-  mixed-none : {ps : List ℕ} {gs : List Segment} → AllRead ero s ps gs → mixedAt (kindAt ero s) ps ≡ 0
+  mixed-none : {ps : List ℕ} {gs : List Segment} → AllRead ero s ps gs → mixedAt (kindAt s ero) ps ≡ 0
   mixed-none none = refl
   mixed-none (next r a) = rw (kind-read r) (others-none a)
 
-  any-there : {ps : List ℕ} {gs : List Segment} → AllRead ero s ps gs → (length gs ≡ 0 → ⊥) → anyIs (kindAt ero s) 40 ps ≡ true
+  any-there : {ps : List ℕ} {gs : List Segment} → AllRead ero s ps gs → (length gs ≡ 0 → ⊥) → anyIs (kindAt s ero) 40 ps ≡ true
   any-there none h = absurd (h refl)
-  any-there (next {p} r a) h = rw (eq-eqb (kindAt ero s p) 40 (kind-read r))
+  any-there (next {p} r a) h = rw (eq-eqb (kindAt s ero p) 40 (kind-read r))
 
   read-length : {ps : List ℕ} {gs : List Segment} → AllRead ero s ps gs → length ps ≡ length gs
   read-length none = refl
   read-length (next r a) = ap suc (read-length a)
 
-  read-there : {ps : List ℕ} {gs : List Segment} → AllRead ero s ps gs → (i : ℕ) → i < length gs → segmentAt ero s (getD ps i 0) ≡ getD gs i noSegment
+  read-there : {ps : List ℕ} {gs : List Segment} → AllRead ero s ps gs → (i : ℕ) → i < length gs → segmentAt s ero (getD ps i 0) ≡ getD gs i noSegment
   read-there none i h = absurd (omega arith)
   read-there (next r a) ℕ.zero h = r .segment
   read-there (next r a) (ℕ.suc i) h = read-there a i (omega arith)
@@ -201,7 +203,7 @@ rule12-off true count = refl
 rule12-off false count = refl
 
 -- An object whose frame is whole and whose subobjects read as segments.
-module _ (s : List ℕ) (ero : Bool) (ps : List ℕ) (gs : List Segment) (hd : headed ero s ≡ true) (q : apartOf s ≡ record { whole = true; places = ps })
+module _ (s : List ℕ) (ero : Bool) (ps : List ℕ) (gs : List Segment) (hd : headed s ero ≡ true) (q : apartOf s ≡ record { whole = true; places = ps })
     (a : AllRead ero s ps gs) (some : length gs ≡ 0 → ⊥) where
   filled : apartOf s .whole ≡ true
   filled = λ i. q i .whole
@@ -209,26 +211,26 @@ module _ (s : List ℕ) (ero : Bool) (ps : List ℕ) (gs : List Segment) (hd : h
   stand : placesOf s ≡ ps
   stand = λ i. q i .places
 
-  whole-none : None (wholeChecks ero openSession srv6Setup s)
+  whole-none : None (wholeChecks s ero openSession srv6Setup)
   unfolding rule4 rule5 rule6 rule6Place rule14 rule13
   whole-none =
-      let r4 : rule4 ero s ≡ false = rw (hd, filled) in
+      let r4 : rule4 s ero ≡ false = rw (hd, filled) in
       let r5 : rule5 s ≡ false = rw stand (ne-eqb (length ps) 0 (λ z. some (sym (read-length a) ∙ z))) in
-      let r6 : rule6 ero srv6 s ≡ false = rw stand (rw (any-there a some, mixed-none a)) in
-      let r14 : rule14 ero srv6 s ≡ false = rw stand (rw (any-there a some)) in
+      let r6 : rule6 s ero srv6Kind ≡ false = rw stand (rw (any-there a some, mixed-none a)) in
+      let r14 : rule14 s ero srv6Kind ≡ false = rw stand (rw (any-there a some)) in
       (r4, (r5, (r6, (r14, (refl, tt)))))
 
-  last-none : None (lastChecks ero Free (length (placesOf s)) (placesOf s))
+  last-none : None (lastChecks (placesOf s) ero Free (length (placesOf s)))
   last-none = (rule12-off ero (length (placesOf s)), tt)
 
-  inside-none : None (subobjectChecks (brokenAt ero true s) (placesOf s))
+  inside-none : None (subobjectChecks s ero true (placesOf s))
   inside-none = rw stand (subobjects-none a)
 
   checks-all : None (checksOf s ero openSession srv6Setup)
   checks-all =
-      none-append (wholeChecks ero openSession srv6Setup s) (subobjectChecks (brokenAt ero true s) (placesOf s) ++ lastChecks ero Free (length (placesOf s)) (placesOf s))
+      none-append (wholeChecks s ero openSession srv6Setup) (subobjectChecks s ero true (placesOf s) ++ lastChecks (placesOf s) ero Free (length (placesOf s)))
       whole-none
-      (none-append (subobjectChecks (brokenAt ero true s) (placesOf s)) (lastChecks ero Free (length (placesOf s)) (placesOf s)) inside-none last-none)
+      (none-append (subobjectChecks s ero true (placesOf s)) (lastChecks (placesOf s) ero Free (length (placesOf s))) inside-none last-none)
 
   count-read : countOf s ≡ length gs
   count-read = rw stand (read-length a)
@@ -252,7 +254,7 @@ module _ (s : List ℕ) (ero : Bool) (ps : List ℕ) (gs : List Segment) (hd : h
 -- the whole object ---------------------------------------------------------------------------------------------
 
 -- The object's octets, as a header in front of a body.
-object-headed : (ero : Bool) (gs : List Segment) → 4 + length (bodyOf gs) ≤ 65532 → (4 + length (bodyOf gs)) % 4 ≡ 0 → headed ero (objectOf ero gs) ≡ true
+object-headed : (ero : Bool) (gs : List Segment) → 4 + length (bodyOf gs) ≤ 65532 → (4 + length (bodyOf gs)) % 4 ≡ 0 → headed (objectOf ero gs) ero ≡ true
 unfolding objectOf headerOf be16
 object-headed ero gs m f =
     let l = length-object ero gs in
@@ -280,15 +282,15 @@ some-there (g ∷ gs) h e = absurd (omega arith)
 
 -- Whatever list of segments begin, adds and finish accept, the finished object is accepted, with that number of segments,
 -- in a session with SRv6 agreed, N set and no limit, under setup type 3; and segment i read is segment i given.
-module _ (ero : Bool) (gs : List Segment) (b : List ℕ) (w : Writer) (held : AllHeld gs) (accepted : Accepted (writeRun ero gs b w)) where
-  pub read-back : judgeOf (objectIn (writeRun ero gs b w)) ero openSession srv6Setup ≡ acceptedWith (length gs)
+module _ (ero : Bool) (gs : List Segment) (b : List ℕ) (w : Writer) (held : AllHeld gs) (accepted : Accepted (writeRun b w ero gs)) where
+  pub read-back : judgeOf (objectIn (writeRun b w ero gs)) ero openSession srv6Setup ≡ acceptedWith (length gs)
   read-back =
       let m = image ero gs b w accepted in
       rw (m .object)
       (judged (objectOf ero gs) ero (placesFrom 4 gs) gs (object-headed ero gs (m .most) (m .fours)) (object-apart ero gs held)
       (object-read ero gs held (m .fits)) (some-there gs (m .filled)))
 
-  pub segments-back : (i : ℕ) → i < length gs → segmentOf (objectIn (writeRun ero gs b w)) ero openSession srv6Setup i
+  pub segments-back : (i : ℕ) → i < length gs → segmentOf (objectIn (writeRun b w ero gs)) ero openSession srv6Setup i
       ≡ record { verdict = acceptedWith (length gs); segment = getD gs i noSegment }
   segments-back i h =
       let m = image ero gs b w accepted in

@@ -7,33 +7,34 @@ use lib.Dec.{eqb, ltb, leb}
 use lib.ListN.{length, getD, take, drop, length-append, length-drop, take-append-drop, drop-of-length-le}
 use lib.Seq.{drop-cons, drop-drop, take-at, drop-at, length-take-le}
 use native.Mathlib.Omega.{arith}
-use borrow.Author.Tests.{eqb-true, eqb-false, eq-eqb, ne-eqb, le-ltb, lt-ltb, not-true}
+use borrow.Author.Tests.{eqb-true, eqb-false, eq-eqb, ne-eqb, le-ltb, lt-ltb, not-true, not-false}
 use Rattle.octets.specs.Octets.{octetOf, be16, part, hi, lo, over, placed}
 use Rattle.octets.proofs.Laws.{length-part, getD-part, length-over, length-placed}
 use Rattle.answers.specs.Verdicts.{acceptedWith}
 use Rattle.session.specs.declared.Session.{Session}
 use Rattle.subobject.specs.declared.head.Head.{Head}
 use Rattle.subobject.specs.declared.segment.Segment.{Segment}
-use Rattle.subobject.specs.Layout.{srv6, headAt}
+use Rattle.subobject.specs.Layout.{srv6Kind, headAt}
 use Rattle.subobject.specs.Rules.{rule7, rule8, rule9, rule11, bitsAt}
 use Rattle.subobject.specs.Segments.{segmentAt, noSegment, subobjectOf}
 use Rattle.frame.specs.Checks.{check, firstBroken}
-use Rattle.frame.specs.Frames.{classOf, headed, fitsIn, Apart, apart, apartOf, placesOf, step, from, kindAt, anyIs, otherThan, mixedAt, rule4, rule5, rule6, rule6Place, rule14}
+use Rattle.frame.specs.Frames.{classOf, headed, fitsIn, Apart, apart, apartOf, placesOf, ended, unfilled, from, kindAt, anyIs, otherThan, mixedAt, rule4, rule5, rule6, rule6Place, rule14}
 use Rattle.frame.proofs.Checks.{None, none-first, none-append, none-split}
 use Rattle.frame.proofs.Laws.{fits-true, headed-sized}
-use Rattle.route.specs.Routes.{order, brokenBy, brokenAt, checksAt, subobjectChecks, lastChecks, checksOf, countOf, judgeOf, pickOf, segmentOf, rule15}
+use Rattle.route_walk.specs.Walk.{checksAt, subobjectChecks}
+use Rattle.route.specs.Routes.{lastChecks, checksOf, countOf, judgeOf, pickOf, segmentOf, rule15}
 use Rattle.route.proofs.Answer.{accepted-none, accepted-count, accepted-frame}
-use Rattle.writer_layout.specs.Held.{Held}
-use Rattle.writer_layout.specs.Spare.{zeros}
-use Rattle.writer.proofs.Laws.{not-not}
+use Rattle.writer_spare.specs.Held.{Held}
+use Rattle.writer_spare.specs.Spare.{zeros}
 use Rattle.writer.specs.declared.state.Writer.{Writer}
-use Rattle.writer.specs.Writing.{headerOf, beginNumber, addNumber, finishNumber, unfit, noRoom, badPlace, passes}
+use Rattle.writer_rules.specs.Refusals.{mostOctets, addNumber, finishNumber, unfit, noRoom, badPlace, passes}
+use Rattle.writer.specs.Writing.{headerOf, beginNumber}
 use Rattle.readback.specs.Runs.{Run, onward, beginRun, addRun, finishRun, addsRun, writeRun, Accepted, objectIn, bodyOf, objectOf, AllHeld}
 use Rattle.readback.specs.Runs.AllHeld.{none as held-none, more}
 use Rattle.readback.specs.Ignored.{Octets, ignoredAt, ignoredIn, ignoredOf, askedFrom, segmentsRead}
 use Rattle.readback.proofs.Images.{Fit, AllFit, Image, image, length-object, finish-number, add-number, begin-number, add-onward, begin-onward}
 use Rattle.readback.proofs.Images.AllFit.{none as fit-none, also}
-use Rattle.readback.proofs.Stands.{and-true}
+use Rattle.octets.proofs.Said.{both-true}
 use Rattle.readback.proofs.Reading.{sub-fours}
 use Rattle.readback.proofs.Parts.{append-same, zeros-append, zeros-split, zeros-cons, zeros-uncons, octet-small}
 use Rattle.readback.proofs.Subobjects.{Sound, held, fit, length-written, same-octets, ignored-zero}
@@ -45,16 +46,16 @@ data Chain (s : List ℕ) : ℕ → List ℕ → Type 0 where
   ends : {at : ℕ} → at ≡ length s → Chain s at []
   links : {at : ℕ} {ps : List ℕ} → 4 ≤ octetOf s (at + 1) → at + octetOf s (at + 1) ≤ length s → Chain s (at + octetOf s (at + 1)) ps → Chain s at (at ∷ ps)
 
-chain-of : (f : ℕ) (s : List ℕ) (at : ℕ) → at ≤ length s → apart f s at .whole ≡ true → Chain s at (apart f s at .places)
+chain-of : (f : ℕ) (s : List ℕ) (at : ℕ) → at ≤ length s → apart s at f .whole ≡ true → Chain s at (apart s at f .places)
 unfolding apart
 chain-of zero s at h e = absurd (let z : _≡_ {A = ℕ} 0 1 = cc in omega arith)
 chain-of (suc f) s at h e =
     go (eqb at (length s)) (fitsIn (octetOf s (at + 1)) (length s - at)) refl refl e (λ k r. chain-of f s (at + octetOf s (at + 1)) k r)
   where
     go : (x y : Bool) → eqb at (length s) ≡ x → fitsIn (octetOf s (at + 1)) (length s - at) ≡ y
-        → step x y (λ u. from at (apart f s (at + octetOf s (at + 1)))) .whole ≡ true
-        → (at + octetOf s (at + 1) ≤ length s → apart f s (at + octetOf s (at + 1)) .whole ≡ true → Chain s (at + octetOf s (at + 1)) (apart f s (at + octetOf s (at + 1)) .places))
-        → Chain s at (step x y (λ u. from at (apart f s (at + octetOf s (at + 1)))) .places)
+        → cond x ended (cond y (from at (apart s (at + octetOf s (at + 1)) f)) unfilled) .whole ≡ true
+        → (at + octetOf s (at + 1) ≤ length s → apart s (at + octetOf s (at + 1)) f .whole ≡ true → Chain s (at + octetOf s (at + 1)) (apart s (at + octetOf s (at + 1)) f .places))
+        → Chain s at (cond x ended (cond y (from at (apart s (at + octetOf s (at + 1)) f)) unfilled) .places)
     go true y ex ey w rest = ends (eqb-true at (length s) ex)
     go false false ex ey w rest = absurd (let z : _≡_ {A = ℕ} 0 1 = cc in omega arith)
     go false true ex ey w rest =
@@ -119,23 +120,22 @@ data AllSound (ero : Bool) (s : List ℕ) : List ℕ → Type 0 where
   none : AllSound ero s []
   next : {p : ℕ} {ps : List ℕ} → Sound ero s p → AllSound ero s ps → AllSound ero s (p ∷ ps)
 
-sound-at : (ero n : Bool) (s : List ℕ) (p : ℕ) → Octets s → kindAt ero s p ≡ 40 → p + octetOf s (p + 1) ≤ length s
-    → None (checksAt (brokenAt ero n s p) p order) → Sound ero s p
-unfolding brokenAt brokenBy
+sound-at : (ero n : Bool) (s : List ℕ) (p : ℕ) → Octets s → kindAt s ero p ≡ 40 → p + octetOf s (p + 1) ≤ length s
+    → None (checksAt s ero n p) → Sound ero s p
 sound-at ero n s p o k i c = record { octets = o; kind = k; r8 = c .0; r9 = c .1 .0; r7 = c .1 .1 .0; r11 = c .1 .1 .1 .1 .0; inside = i }
 
-all-sound : (ero n : Bool) (s : List ℕ) {at : ℕ} {ps : List ℕ} → Octets s → Chain s at ps → AllKind (kindAt ero s) 40 ps
-    → None (subobjectChecks (brokenAt ero n s) ps) → AllSound ero s ps
+all-sound : (ero n : Bool) (s : List ℕ) {at : ℕ} {ps : List ℕ} → Octets s → Chain s at ps → AllKind (kindAt s ero) 40 ps
+    → None (subobjectChecks s ero n ps) → AllSound ero s ps
 all-sound ero n s o (ends e) k c = none
 all-sound ero n s {at} o (links {ps = ps} l i r) (next q k) c =
-    let t = none-split (checksAt (brokenAt ero n s at) at order) (subobjectChecks (brokenAt ero n s) ps) c in
+    let t = none-split (checksAt s ero n at) (subobjectChecks s ero n ps) c in
     next (sound-at ero n s at o q i (t .0)) (all-sound ero n s o r k (t .1))
 
 -- the segments read --------------------------------------------------------------------------------------------
 
 abbrev segmentsAt : Bool → List ℕ → List ℕ → List Segment
 segmentsAt ero s [] = []
-segmentsAt ero s (p ∷ ps) = segmentAt ero s p ∷ segmentsAt ero s ps
+segmentsAt ero s (p ∷ ps) = segmentAt s ero p ∷ segmentsAt ero s ps
 
 all-held : {ero : Bool} {s ps : List ℕ} → AllSound ero s ps → AllHeld (segmentsAt ero s ps)
 all-held none = held-none
@@ -151,22 +151,22 @@ body-length {at = at} (ends e) none = omega arith
 body-length {ero} {s} {at} (links {ps = ps} l i c) (next d a) =
     let ih = body-length c a in
     let n = length-written d in
-    let m = length-append (subobjectOf (segmentAt ero s at)) (bodyOf (segmentsAt ero s ps)) in
+    let m = length-append (subobjectOf (segmentAt s ero at)) (bodyOf (segmentsAt ero s ps)) in
     omega arith
 
 -- The same octets exactly if the ignored bits are 0, in all subobjects.
-body-same : {ero : Bool} {s ps : List ℕ} → AllSound ero s ps → zeros (ignoredIn ero s ps) ≡ true → bodyOf (segmentsAt ero s ps) ≡ partsOf s ps
+body-same : {ero : Bool} {s ps : List ℕ} → AllSound ero s ps → zeros (ignoredIn s ero ps) ≡ true → bodyOf (segmentsAt ero s ps) ≡ partsOf s ps
 body-same none e = refl
 body-same {ero} {s} (next {p} {ps} d a) e =
-    let z = zeros-split (ignoredAt ero s p) (ignoredIn ero s ps) e in
+    let z = zeros-split (ignoredAt s ero p) (ignoredIn s ero ps) e in
     rw (same-octets d (z .0), body-same a (z .1))
 
-body-back : {ero : Bool} {s ps : List ℕ} → AllSound ero s ps → bodyOf (segmentsAt ero s ps) ≡ partsOf s ps → zeros (ignoredIn ero s ps) ≡ true
+body-back : {ero : Bool} {s ps : List ℕ} → AllSound ero s ps → bodyOf (segmentsAt ero s ps) ≡ partsOf s ps → zeros (ignoredIn s ero ps) ≡ true
 body-back none e = refl
 body-back {ero} {s} (next {p} {ps} d a) e =
     let l = length-written d ∙ sym (length-part s p (octetOf s (p + 1)) (d .inside)) in
-    let q = append-same (subobjectOf (segmentAt ero s p)) (part s p (octetOf s (p + 1))) (bodyOf (segmentsAt ero s ps)) (partsOf s ps) l e in
-    zeros-append (ignoredAt ero s p) (ignoredIn ero s ps) (ignored-zero d (q .0)) (body-back a (q .1))
+    let q = append-same (subobjectOf (segmentAt s ero p)) (part s p (octetOf s (p + 1))) (bodyOf (segmentsAt ero s ps)) (partsOf s ps) l e in
+    zeros-append (ignoredAt s ero p) (ignoredIn s ero ps) (ignored-zero d (q .0)) (body-back a (q .1))
 
 -- a run that is accepted ---------------------------------------------------------------------------------------
 
@@ -179,17 +179,17 @@ unfolding badPlace
 proper at room l f h k = rw (le-ltb at 4 l, eq-eqb (at % 4) 0 f, within at room h k)
 
 add-taken : (ero : Bool) (room : ℕ) (w : Writer) (g : Segment) → w .ero ≡ ero → Fit ero g → 4 ≤ w .at → w .at % 4 ≡ 0
-    → w .at + length (subobjectOf g) ≤ room → w .at + length (subobjectOf g) ≤ 65532 → addNumber room w g ≡ 0
+    → w .at + length (subobjectOf g) ≤ room → w .at + length (subobjectOf g) ≤ 65532 → addNumber room (w .ero) (w .at) g ≡ 0
 unfolding addNumber noRoom
 add-taken ero room w g e t l f h k =
     rw (t .r8, t .r9, e, t .fit, t .r11, proper (w .at) room l f (omega arith) (omega arith), within (w .at + length (subobjectOf g)) room h k)
 
-finish-taken : (room : ℕ) (w : Writer) → 4 < w .at → w .at % 4 ≡ 0 → w .at ≤ room → w .at ≤ 65532 → finishNumber room w ≡ 0
+finish-taken : (room : ℕ) (w : Writer) → 4 < w .at → w .at % 4 ≡ 0 → w .at ≤ room → w .at ≤ 65532 → finishNumber room (w .at) ≡ 0
 unfolding finishNumber
 finish-taken room w l f h k = rw (proper (w .at) room (omega arith) f h k, ne-eqb (w .at) 4 (λ z. omega arith))
 
 adds-taken : (ero : Bool) (gs : List Segment) (b : List ℕ) (w : Writer) → w .ero ≡ ero → AllHeld gs → AllFit ero gs → 4 ≤ w .at → w .at % 4 ≡ 0
-    → 4 < w .at + length (bodyOf gs) → w .at + length (bodyOf gs) ≤ length b → w .at + length (bodyOf gs) ≤ 65532 → Accepted (addsRun gs b w)
+    → 4 < w .at + length (bodyOf gs) → w .at + length (bodyOf gs) ≤ length b → w .at + length (bodyOf gs) ≤ 65532 → Accepted (addsRun b w gs)
 unfolding addsRun
 adds-taken ero [] b w e h t l f m r k = finish-number b w ∙ finish-taken (length b) w (omega arith) f (omega arith) (omega arith)
 adds-taken ero (g ∷ gs) b w e (more hg h) (also tg t) l f m r k =
@@ -198,7 +198,7 @@ adds-taken ero (g ∷ gs) b w e (more hg h) (also tg t) l f m r k =
     let n = length-append x (bodyOf gs) in
     let a = add-taken ero (length b) w g e tg l f (omega arith) (omega arith) in
     let o = length-placed b (w .at) x (omega arith) in
-    rw (add-onward b w g (addsRun gs) a)
+    rw (add-onward b w g (λ b′ w′. addsRun b′ w′ gs) a)
     (adds-taken ero gs (placed b (w .at) x) (record { ero = w .ero; at = w .at + length x }) e h t (omega arith) (omega arith) (omega arith) (omega arith) (omega arith))
 
 begin-taken : (room : ℕ) → 4 ≤ room → beginNumber room ≡ 0
@@ -210,12 +210,12 @@ unfolding headerOf
 header-long ero n = refl
 
 write-taken : (ero : Bool) (gs : List Segment) (b : List ℕ) (w : Writer) → AllHeld gs → AllFit ero gs → 0 < length (bodyOf gs)
-    → 4 + length (bodyOf gs) ≤ length b → 4 + length (bodyOf gs) ≤ 65532 → Accepted (writeRun ero gs b w)
+    → 4 + length (bodyOf gs) ≤ length b → 4 + length (bodyOf gs) ≤ 65532 → Accepted (writeRun b w ero gs)
 unfolding writeRun
 write-taken ero gs b w h t m r k =
     let y = header-long ero 4 in
     let o = length-over (headerOf ero 4) b (omega arith) in
-    rw (begin-onward b w ero (addsRun gs) (begin-taken (length b) (omega arith)))
+    rw (begin-onward b w ero (λ b′ w′. addsRun b′ w′ gs) (begin-taken (length b) (omega arith)))
     (adds-taken ero gs (over (headerOf ero 4) b) (record { ero = ero; at = 4 }) refl h t (omega arith) refl (omega arith) (omega arith) k)
 
 -- the header ---------------------------------------------------------------------------------------------------
@@ -234,13 +234,13 @@ record Header (ero : Bool) (s : List ℕ) : Type 0 where
   kind : octetOf s 1 / 16 ≡ 1
   read : be16 s 2 ≡ length s
 
-header-of : (ero : Bool) (s : List ℕ) → headed ero s ≡ true → Header ero s
+header-of : (ero : Bool) (s : List ℕ) → headed s ero ≡ true → Header ero s
 unfolding headed
 header-of ero s e =
     let z = headed-sized ero s e in
-    let a = and-true (not (ltb (length s) 4)) _ e in
-    let b = and-true (eqb (octetOf s 0) (classOf ero)) _ (a .1) in
-    let c = and-true (eqb (octetOf s 1 / 16) 1) _ (b .1) in
+    let a = both-true (not (ltb (length s) 4)) _ e in
+    let b = both-true (eqb (octetOf s 0) (classOf ero)) _ (a .1) in
+    let c = both-true (eqb (octetOf s 1 / 16) 1) _ (b .1) in
     record { low = z .low; class = eqb-true (octetOf s 0) (classOf ero) (b .0); kind = eqb-true (octetOf s 1 / 16) 1 (c .0); read = z .read }
 
 module _ {ero : Bool} {s : List ℕ} (h : Header ero s) (o : Octets s) where
@@ -278,7 +278,7 @@ module _ (s : List ℕ) (ero : Bool) (session : Session) (pst : ℕ) (accepted :
       none-first (checksOf s ero session pst ++ (check 15 0 (rule15 i (countOf s)) ∷ [])) (acceptedWith (countOf s))
       (none-append (checksOf s ero session pst) (check 15 0 (rule15 i (countOf s)) ∷ []) (accepted-none s ero session pst accepted) (r, tt))
 
-  handed : (i : ℕ) → i < countOf s → segmentOf s ero session pst i .segment ≡ segmentAt ero s (getD (placesOf s) i 0)
+  handed : (i : ℕ) → i < countOf s → segmentOf s ero session pst i .segment ≡ segmentAt s ero (getD (placesOf s) i 0)
   unfolding segmentOf
   handed i h = rw (picked i h)
 
@@ -312,18 +312,18 @@ module _ (s : List ℕ) (ero : Bool) (session : Session) (pst : ℕ) (octets : O
   unfolding apartOf
   chain = chain-of (suc (length s)) s 4 (header .low) (accepted-frame s ero session pst accepted .1)
 
-  present : anyIs (kindAt ero s) 40 (placesOf s) ≡ true
+  present : anyIs (kindAt s ero) 40 (placesOf s) ≡ true
   unfolding rule14
-  present = not-not _ (accepted-none s ero session pst accepted .1 .1 .1 .0)
+  present = not-false _ (accepted-none s ero session pst accepted .1 .1 .1 .0)
 
-  unmixed : mixedAt (kindAt ero s) (placesOf s) ≡ 0
+  unmixed : mixedAt (kindAt s ero) (placesOf s) ≡ 0
   unfolding rule6 rule6Place
-  unmixed = eqb-true _ 0 (not-not _ (and-rest (anyIs (kindAt ero s) 40 (placesOf s)) _ present (accepted-none s ero session pst accepted .1 .1 .0)))
+  unmixed = eqb-true _ 0 (not-false _ (and-rest (anyIs (kindAt s ero) 40 (placesOf s)) _ present (accepted-none s ero session pst accepted .1 .1 .0)))
 
   sound : AllSound ero s (placesOf s)
   sound =
-      all-sound ero (session .n) s octets chain (all-kind (kindAt ero s) 40 (behind (omega arith) chain) present unmixed)
-      (none-split (subobjectChecks (brokenAt ero (session .n) s) (placesOf s)) (lastChecks ero (session .limit) (countOf s) (placesOf s))
+      all-sound ero (session .n) s octets chain (all-kind (kindAt s ero) 40 (behind (omega arith) chain) present unmixed)
+      (none-split (subobjectChecks s ero (session .n) (placesOf s)) (lastChecks (placesOf s) ero (session .limit) (countOf s))
       (accepted-none s ero session pst accepted .1 .1 .1 .1 .1) .0)
 
   -- the segments read
@@ -352,36 +352,36 @@ module _ (s : List ℕ) (ero : Bool) (session : Session) (pst : ℕ) (octets : O
   split : s ≡ take 4 s ++ partsOf s (placesOf s)
   split = sym (take-append-drop 4 s) ∙ rw (parts-all chain)
 
-  object-same : zeros (ignoredOf ero s) ≡ true → objectOf ero segments ≡ s
+  object-same : zeros (ignoredOf s ero) ≡ true → objectOf ero segments ≡ s
   unfolding objectOf
   object-same e =
-      let z = zeros-uncons (octetOf s 1 % 16) (ignoredIn ero s (placesOf s)) e in
+      let z = zeros-uncons (octetOf s 1 % 16) (ignoredIn s ero (placesOf s)) e in
       rw (length-same, header-same header octets (z .0), body-same sound (z .1)) (sym split)
 
-  object-back : objectOf ero segments ≡ s → zeros (ignoredOf ero s) ≡ true
+  object-back : objectOf ero segments ≡ s → zeros (ignoredOf s ero) ≡ true
   unfolding objectOf
   object-back e =
       let x : headerOf ero (length s) ++ bodyOf segments ≡ take 4 s ++ partsOf s (placesOf s) = (rw length-same at e) ∙ split in
       let q = append-same (headerOf ero (length s)) (take 4 s) (bodyOf segments) (partsOf s (placesOf s))
       (header-long ero (length s) ∙ sym (length-take-le 4 s (header .low))) x in
-      zeros-cons (octetOf s 1 % 16) (ignoredIn ero s (placesOf s)) (header-back header octets (q .0)) (body-back sound (q .1))
+      zeros-cons (octetOf s 1 % 16) (ignoredIn s ero (placesOf s)) (header-back header octets (q .0)) (body-back sound (q .1))
 
   -- Writing the segments read again: in any buffer with room for the object and with any state, every call accepts;
   module _ (b : List ℕ) (w : Writer) (room : length s ≤ length b) where
-    pub rewritten : Accepted (writeRun ero (segmentsRead s ero session pst) b w)
+    pub rewritten : Accepted (writeRun b w ero (segmentsRead s ero session pst))
     rewritten =
         let l = length-same in
         let k = short in
         rw (all-read s ero session pst accepted)
         (write-taken ero segments b w (all-held sound) (all-fit sound) some (omega arith) (omega arith))
 
-    object-is : objectIn (writeRun ero (segmentsRead s ero session pst) b w) ≡ objectOf ero segments
+    object-is : objectIn (writeRun b w ero (segmentsRead s ero session pst)) ≡ objectOf ero segments
     object-is = image ero (segmentsRead s ero session pst) b w rewritten .object ∙ rw (all-read s ero session pst accepted)
 
     -- the finished object is the object read, if all ignored bits were 0,
-    pub rewritten-same : zeros (ignoredOf ero s) ≡ true → objectIn (writeRun ero (segmentsRead s ero session pst) b w) ≡ s
+    pub rewritten-same : zeros (ignoredOf s ero) ≡ true → objectIn (writeRun b w ero (segmentsRead s ero session pst)) ≡ s
     rewritten-same e = object-is ∙ object-same e
 
     -- and only if they were.
-    pub rewritten-zero : objectIn (writeRun ero (segmentsRead s ero session pst) b w) ≡ s → zeros (ignoredOf ero s) ≡ true
+    pub rewritten-zero : objectIn (writeRun b w ero (segmentsRead s ero session pst)) ≡ s → zeros (ignoredOf s ero) ≡ true
     rewritten-zero e = object-back (sym object-is ∙ e)

@@ -8,20 +8,20 @@ use lib.ListN.{length, getD, take, drop, replicate, length-append}
 use lib.Seq.{length-take-le, take-at, take-all}
 use native.Mathlib.Nat.{add-assoc}
 use native.Mathlib.Omega.{arith}
-use borrow.Author.Tests.{eqb-true, eq-eqb, ne-eqb}
+use borrow.Author.Tests.{eqb-true, eq-eqb, ne-eqb, not-false}
 use Rattle.octets.specs.Octets.{octetOf, be16, part, over, partOf, hi, lo}
 use Rattle.subobject.specs.declared.head.Head.{Head}
 use Rattle.subobject.specs.declared.segment.Segment.{Segment}
-use Rattle.subobject.specs.Layout.{srv6, naiLength, sidLength, structureThere, structureLength, expectedLength, kindOf, headOf, headAt}
+use Rattle.subobject.specs.Layout.{srv6Kind, naiLength, sidLength, structureThere, structureLength, expectedLength, kindOf, headOf, headAt}
 use Rattle.subobject.specs.Rules.{rule8, rule9, rule11, flagF, hasStructure, sumAt, bitsAt}
 use Rattle.subobject.specs.Segments.{segmentBy, segmentAt, headOfSegment, fixedOctets, structureOctets, subobjectOf, bitsOf, bit}
-use Rattle.writer_layout.specs.Held.{Held}
-use Rattle.writer_layout.specs.Spare.{zeros, tidyOf}
+use Rattle.writer_spare.specs.Held.{Held}
+use Rattle.writer_spare.specs.Spare.{zeros, tidyOf}
 use Rattle.writer_layout.proofs.Laws.{nt-known, nai-most, length-subobject, part-there, length-there, length-structure, four}
-use Rattle.writer.specs.Writing.{unfit}
-use Rattle.writer.proofs.Laws.{or-false, not-not}
+use Rattle.octets.proofs.Said.{both-true, either-false, cond-most}
+use Rattle.writer_rules.specs.Refusals.{unfit}
 use Rattle.readback.proofs.Images.{Fit}
-use Rattle.readback.proofs.Stands.{Stands, stands-octet, stands-first, stands-left, stands-right, stands-part, and-true, padded-back}
+use Rattle.readback.proofs.Stands.{Stands, stands-octet, stands-first, stands-left, stands-right, stands-part, padded-back}
 
 -- what a fit segment keeps to ----------------------------------------------------------------------------------
 
@@ -33,9 +33,9 @@ pub record Plain (ero : Bool) (g : Segment) : Type 0 where
 pub plain : (ero : Bool) (g : Segment) → unfit ero g ≡ false → Plain ero g
 unfolding unfit
 plain ero g e =
-    let p = or-false (g .structured && not (g .hassid)) _ e in
-    let q = or-false (not ero && (g .loose || g .verify)) _ (p .1) in
-    record { sided = p .0; flags = q .0; tidy = not-not (tidyOf g) (q .1) }
+    let p = either-false (g .structured && not (g .hassid)) _ e in
+    let q = either-false (not ero && (g .loose || g .verify)) _ (p .1) in
+    record { sided = p .0; flags = q .0; tidy = not-false (tidyOf g) (q .1) }
 
 -- bits ---------------------------------------------------------------------------------------------------------
 
@@ -80,8 +80,8 @@ kind-kept false false v e = refl
 kind-kept false true v e = absurd (let z : _≡_ {A = ℕ} 0 1 = cc in omega arith)
 
 pub head-made : (ero : Bool) (g : Segment) → (not ero && (g .loose || g .verify)) ≡ false
-    → headOf ero (bit (g .loose) * 128 + 40) (headOfSegment g .size) (g .nt * 16)
-    (bit (g .verify) * 8 + bit (g .structured) * 4 + flagF (g .nt) * 2 + bit (not (g .hassid))) ≡ headOfSegment g
+    → headOf (bit (g .loose) * 128 + 40) (headOfSegment g .size) (g .nt * 16) (bit (g .verify) * 8 + bit (g .structured) * 4 + flagF (g .nt) * 2 + bit (not (g .hassid)))
+    ero ≡ headOfSegment g
 unfolding headOf kindOf headOfSegment
 head-made ero g e =
     let v = bit (g .verify) in
@@ -131,13 +131,9 @@ record Tidied (g : Segment) : Type 0 where
 tidied : (g : Segment) → tidyOf g ≡ true → Tidied g
 unfolding tidyOf
 tidied g e =
-    let z = and-true (zeros (drop (cond (g .hassid) 16 0) (g .sid))) _ e in
-    let y = and-true (zeros (drop (naiLength (g .nt)) (g .nai))) _ (z .1) in
+    let z = both-true (zeros (drop (cond (g .hassid) 16 0) (g .sid))) _ e in
+    let y = both-true (zeros (drop (naiLength (g .nt)) (g .nai))) _ (z .1) in
     record { sid = z .0; nai = y .0; structure = y .1 }
-
-cond-most : (b : Bool) (n : ℕ) → cond b n 0 ≤ n
-cond-most true n = omega arith
-cond-most false n = omega arith
 
 pub sid-there : (g : Segment) → sidLength (headOfSegment g .s) ≡ cond (g .hassid) 16 0
 unfolding headOfSegment
@@ -154,7 +150,7 @@ there g e = go (g .structured) (g .hassid) e
     go false false e = refl
 
 pub sided : (g : Segment) → g .structured ≡ true → (g .structured && not (g .hassid)) ≡ false → g .hassid ≡ true
-sided g q e = not-not (g .hassid) (rw q at e)
+sided g q e = not-false (g .hassid) (rw q at e)
 
 nothing : (s : List ℕ) (at : ℕ) → part s at 0 ≡ []
 unfolding part
@@ -183,7 +179,7 @@ module _ {s : List ℕ} {at : ℕ} (g : Segment) (t : Stands s at (subobjectOf g
 
   -- reading ------------------------------------------------------------------------------------------------------
 
-  pub head-back : (ero : Bool) → (not ero && (g .loose || g .verify)) ≡ false → headAt ero s at ≡ headOfSegment g
+  pub head-back : (ero : Bool) → (not ero && (g .loose || g .verify)) ≡ false → headAt s ero at ≡ headOfSegment g
   unfolding headAt fixedOctets headOfSegment
   head-back ero e =
       rw (
@@ -251,6 +247,6 @@ module _ {s : List ℕ} {at : ℕ} (g : Segment) (t : Stands s at (subobjectOf g
       λ i. record { loose = el i; verify = ev i; nt = g .nt; behaviour = eb i; hassid = es i; sid = ei i; nai = en i; structured = et i; structure = ec i }
 
   -- What the octets say is the segment.
-  pub segment-back : (ero : Bool) → Held g → Plain ero g → segmentAt ero s at ≡ g
+  pub segment-back : (ero : Bool) → Held g → Plain ero g → segmentAt s ero at ≡ g
   unfolding segmentAt
   segment-back ero h p = rw (head-back ero (p .flags)) (segment-by h (p .sided) (p .tidy))

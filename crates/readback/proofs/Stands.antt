@@ -10,7 +10,8 @@ use native.Mathlib.Nat.{add-assoc, add-zero}
 use native.Mathlib.Omega.{arith}
 use borrow.Author.Tests.{eqb-true}
 use Rattle.octets.specs.Octets.{octetOf, be16, part, over, partOf}
-use Rattle.writer_layout.specs.Spare.{zeros}
+use Rattle.octets.proofs.Said.{both-true}
+use Rattle.writer_spare.specs.Spare.{zeros}
 
 -- x stands in s at a place.
 pub record Stands (s : List ℕ) (at : ℕ) (x : List ℕ) : Type 0 where
@@ -43,14 +44,10 @@ module _ {s : List ℕ} {at : ℕ} where
 
 -- zeros --------------------------------------------------------------------------------------------------------
 
-pub and-true : (a b : Bool) → (a && b) ≡ true → (a ≡ true) × (b ≡ true)
-and-true true b e = (refl, e)
-and-true false b e = absurd (let z : _≡_ {A = ℕ} 0 1 = cc in omega arith)
-
 pub zeros-are : (x : List ℕ) → zeros x ≡ true → x ≡ replicate (length x) 0
 zeros-are [] e = refl
 zeros-are (a ∷ x) e =
-    let p = and-true (eqb a 0) (zeros x) e in
+    let p = both-true (eqb a 0) (zeros x) e in
     let q = eqb-true a 0 (p .0) in
     let r = zeros-are x (p .1) in
     λ i. q i ∷ r i

@@ -8,7 +8,7 @@ use lib.ListN.{length, getD, take, drop, replicate, length-append, length-drop, 
 use lib.Seq.{length-take-le, take-all}
 use native.Mathlib.Omega.{arith}
 use native.Mathlib.Nat.{add-zero, add-assoc}
-use borrow.Author.Tests.{eqb-true, eq-eqb, ne-eqb}
+use borrow.Author.Tests.{eqb-true, eq-eqb, ne-eqb, not-false}
 use Rattle.octets.specs.Octets.{octetOf, be16, part, over, partOf, hi, lo}
 use Rattle.octets.proofs.Laws.{length-part, getD-part}
 use Rattle.subobject.specs.declared.head.Head.{Head}
@@ -17,25 +17,26 @@ use Rattle.subobject.specs.Layout.{naiLength, sidLength, structureThere, struct
 use Rattle.subobject.specs.Rules.{rule7, rule8, rule9, rule11, flagF, hasStructure, sumAt, bitsAt}
 use Rattle.subobject.specs.Segments.{segmentBy, segmentAt, headOfSegment, fixedOctets, structureOctets, subobjectOf, bitsOf, bit}
 use Rattle.frame.specs.Frames.{kindAt}
-use Rattle.writer_layout.specs.Held.{Held}
-use Rattle.writer_layout.specs.Spare.{zeros, tidyOf}
+use Rattle.writer_spare.specs.Held.{Held}
+use Rattle.writer_spare.specs.Spare.{zeros, tidyOf}
 use Rattle.writer_layout.proofs.Laws.{nai-most}
-use Rattle.writer.specs.Writing.{unfit}
-use Rattle.writer.proofs.Laws.{or-false, not-not, size-subobject}
+use Rattle.octets.proofs.Said.{both-true, either-false, cond-most}
+use Rattle.writer_rules.specs.Refusals.{unfit}
+use Rattle.writer_rules.proofs.Laws.{size-subobject}
 use Rattle.readback.specs.Ignored.{Octets, ignoredAt}
 use Rattle.readback.proofs.Images.{Fit}
-use Rattle.readback.proofs.Stands.{Stands, and-true, zeros-are}
+use Rattle.readback.proofs.Stands.{Stands, zeros-are}
 use Rattle.readback.proofs.Reading.{bits-off, sum-back}
 use Rattle.readback.proofs.Parts.{part-add, part-none, length-partOf, take-partOf, drop-partOf, append-same, eight, octet-small, zeros-replicate, six-zeros, zeros-six}
 
 -- What an acceptance says of a subobject.
 pub record Sound (ero : Bool) (s : List ℕ) (at : ℕ) : Type 0 where
   pub octets : Octets s
-  pub kind : kindAt ero s at ≡ 40
-  pub r8 : rule8 (headAt ero s at) ≡ false
-  pub r9 : rule9 (headAt ero s at) ≡ false
-  pub r7 : rule7 (headAt ero s at) ≡ false
-  pub r11 : rule11 (headAt ero s at) (bitsAt s at (headAt ero s at)) ≡ false
+  pub kind : kindAt s ero at ≡ 40
+  pub r8 : rule8 (headAt s ero at) ≡ false
+  pub r9 : rule9 (headAt s ero at) ≡ false
+  pub r7 : rule7 (headAt s ero at) ≡ false
+  pub r11 : rule11 (headAt s ero at) (bitsAt s at (headAt s ero at)) ≡ false
   pub inside : at + octetOf s (at + 1) ≤ length s
 
 -- bits ---------------------------------------------------------------------------------------------------------
@@ -72,7 +73,7 @@ only-most : (ero : Bool) (n : ℕ) → n ≤ 1 → cond ero n 0 ≤ 1
 only-most true n h = h
 only-most false n h = omega arith
 
-bits-of : (ero : Bool) (s : List ℕ) (at : ℕ) → Octets s → Bits (headAt ero s at)
+bits-of : (ero : Bool) (s : List ℕ) (at : ℕ) → Octets s → Bits (headAt s ero at)
 unfolding headAt headOf
 bits-of ero s at o =
     let a = octet-small s o at in
@@ -91,8 +92,8 @@ record Lengths (h : Head) : Type 0 where
 lengths-of : (h : Head) → rule7 h ≡ false → Lengths h
 unfolding rule7
 lengths-of h e =
-    let p = or-false (not (eqb (h .f) (flagF (h .nt)))) _ e in
-    record { f = eqb-true (h .f) (flagF (h .nt)) (not-not _ (p .0)); size = eqb-true (h .size) _ (not-not _ (p .1)) }
+    let p = either-false (not (eqb (h .f) (flagF (h .nt)))) _ e in
+    record { f = eqb-true (h .f) (flagF (h .nt)) (not-false _ (p .0)); size = eqb-true (h .size) _ (not-false _ (p .1)) }
 
 -- The head that the segment read is written with: T is 1 only where a structure is there.
 abbrev again : Head → Head
@@ -110,10 +111,6 @@ head-again h s at b n =
     λ i. record { kind = 40; size = ez i; nt = h .nt; s = es i; f = ef i; t = bit (structureThere (h .s) (h .t)); v = ev i; l = el i }
 
 -- the parts ----------------------------------------------------------------------------------------------------
-
-cond-most : (b : Bool) (n : ℕ) → cond b n 0 ≤ n
-cond-most true n = omega arith
-cond-most false n = omega arith
 
 -- Where a structure is there, the SID is.
 sid-by : (b c : Bool) → (b && c) ≡ true → _≡_ {A = ℕ} (cond b 16 0) 16
@@ -175,7 +172,7 @@ bits-whole : (s : List ℕ) (at : ℕ) → at + 4 ≤ length s → partOf s at 4
 bits-whole s at h = sym (take-all 4 (partOf s at 4 4) (omega (arith, length-partOf s at 4 4 h (omega arith)))) ∙ take-partOf s at 4 4 h
 
 -- In an RRO both flags are read as 0.
-flags-off : (ero : Bool) (s : List ℕ) (at : ℕ) → (not ero && (eqb (headAt ero s at .l) 1 || eqb (headAt ero s at .v) 1)) ≡ false
+flags-off : (ero : Bool) (s : List ℕ) (at : ℕ) → (not ero && (eqb (headAt s ero at .l) 1 || eqb (headAt s ero at .v) 1)) ≡ false
 unfolding headAt headOf
 flags-off true s at = refl
 flags-off false s at = refl
@@ -191,14 +188,14 @@ bits-again h sum = rw (structure-again h)
 -- the segment is fit to be written -----------------------------------------------------------------------------
 
 module _ {ero : Bool} {s : List ℕ} {at : ℕ} (d : Sound ero s at) where
-  laid : Laid s at (headAt ero s at)
+  laid : Laid s at (headAt s ero at)
   unfolding headAt headOf
-  laid = laid-of s at (headAt ero s at) (lengths-of (headAt ero s at) (d .r7)) (d .inside)
+  laid = laid-of s at (headAt s ero at) (lengths-of (headAt s ero at) (d .r7)) (d .inside)
 
-  low : (structureThere (headAt ero s at .s) (headAt ero s at .t) ≡ true → at + 8 + 16 + naiLength (headAt ero s at .nt) + 8 ≤ length s)
-  low e = bits-inside s at (headAt ero s at) laid e
+  low : (structureThere (headAt s ero at .s) (headAt s ero at .t) ≡ true → at + 8 + 16 + naiLength (headAt s ero at .nt) + 8 ≤ length s)
+  low e = bits-inside s at (headAt s ero at) laid e
 
-  nt-small : headAt ero s at .nt < 256
+  nt-small : headAt s ero at .nt < 256
   unfolding headAt headOf
   nt-small = let o = octet-small s (d .octets) (at + 2) in omega arith
 
@@ -206,10 +203,10 @@ module _ {ero : Bool} {s : List ℕ} {at : ℕ} (d : Sound ero s at) where
   unfolding be16 octetOf
   behaviour-small = let a = octet-small s (d .octets) (at + 6) in let b = octet-small s (d .octets) (at + 6 + 1) in omega arith
 
-  pub held : Held (segmentAt ero s at)
+  pub held : Held (segmentAt s ero at)
   unfolding segmentAt hasStructure
   held =
-      let h = headAt ero s at in
+      let h = headAt s ero at in
       record {
         nt = nt-small;
         behaviour = behaviour-small;
@@ -218,14 +215,14 @@ module _ {ero : Bool} {s : List ℕ} {at : ℕ} (d : Sound ero s at) where
         structure = bits-long s (at + 8 + 16 + naiLength (h .nt)) (structureThere (h .s) (h .t)) low;
       }
 
-  head-written : headOfSegment (segmentAt ero s at) ≡ again (headAt ero s at)
+  head-written : headOfSegment (segmentAt s ero at) ≡ again (headAt s ero at)
   unfolding segmentAt
-  head-written = head-again (headAt ero s at) s at (bits-of ero s at (d .octets)) (lengths-of (headAt ero s at) (d .r7))
+  head-written = head-again (headAt s ero at) s at (bits-of ero s at (d .octets)) (lengths-of (headAt s ero at) (d .r7))
 
-  tidy : tidyOf (segmentAt ero s at) ≡ true
+  tidy : tidyOf (segmentAt s ero at) ≡ true
   unfolding tidyOf segmentAt hasStructure
   tidy =
-      let h = headAt ero s at in
+      let h = headAt s ero at in
       rw (
         drop-partOf s (at + 8) (sidLength (h .s)) 16 (laid .sid) (cond-most (eqb (h .s) 0) 16),
         zeros-replicate (16 - sidLength (h .s)),
@@ -234,33 +231,33 @@ module _ {ero : Bool} {s : List ℕ} {at : ℕ} (d : Sound ero s at) where
       )
       (bits-zero s (at + 8 + 16 + naiLength (h .nt)) (structureThere (h .s) (h .t)) low)
 
-  sums : (b : Bool) → hasStructure (headAt ero s at) ≡ b → rule11 (headAt ero s at) (bitsOf (segmentAt ero s at)) ≡ false
+  sums : (b : Bool) → hasStructure (headAt s ero at) ≡ b → rule11 (headAt s ero at) (bitsOf (segmentAt s ero at)) ≡ false
   unfolding bitsOf segmentAt hasStructure
   sums true e =
-      let h = headAt ero s at in
+      let h = headAt s ero at in
       let sp = at + 8 + 16 + naiLength (h .nt) in
       let i = low e in
       let l : sp + 4 ≤ length s = omega arith in
       rw e (rw (bits-whole s sp l, ← sum-back (part s sp 4) (part-stands s sp 4 l) (length-part s sp 4 l)) (d .r11))
-  sums false e = bits-off (headAt ero s at) (bitsOf (segmentAt ero s at)) e
+  sums false e = bits-off (headAt s ero at) (bitsOf (segmentAt s ero at)) e
 
-  known : rule8 (headOfSegment (segmentAt ero s at)) ≡ false
+  known : rule8 (headOfSegment (segmentAt s ero at)) ≡ false
   unfolding rule8
   known = rw head-written (d .r8)
 
-  something : rule9 (headOfSegment (segmentAt ero s at)) ≡ false
+  something : rule9 (headOfSegment (segmentAt s ero at)) ≡ false
   unfolding rule9
   something = rw head-written (d .r9)
 
-  fitting : unfit ero (segmentAt ero s at) ≡ false
+  fitting : unfit ero (segmentAt s ero at) ≡ false
   unfolding unfit segmentAt hasStructure
   fitting =
-      let h = headAt ero s at in
+      let h = headAt s ero at in
       rw (tidy, never-both (eqb (h .s) 0) (eqb (h .t) 1), flags-off ero s at)
 
   -- Adding takes the segment, but for the room.
-  pub fit : Fit ero (segmentAt ero s at)
-  fit = record { r8 = known; r9 = something; fit = fitting; r11 = rw head-written (bits-again (headAt ero s at) (bitsOf (segmentAt ero s at)) ∙ sums (hasStructure (headAt ero s at)) refl) }
+  pub fit : Fit ero (segmentAt s ero at)
+  fit = record { r8 = known; r9 = something; fit = fitting; r11 = rw head-written (bits-again (headAt s ero at) (bitsOf (segmentAt s ero at)) ∙ sums (hasStructure (headAt s ero at)) refl) }
 
 -- octet by octet -----------------------------------------------------------------------------------------------
 
@@ -341,27 +338,27 @@ place-same s at k n true h = rw (h refl)
 place-same s at k n false h = part-none s (at + 8 + k + n) ∙ sym (part-none s (at + 8 + 16 + n))
 
 module _ {ero : Bool} {s : List ℕ} {at : ℕ} (d : Sound ero s at) where
-  reach : hasStructure (headAt ero s at) ≡ true → at + 8 + 16 + naiLength (headAt ero s at .nt) + 8 ≤ length s
+  reach : hasStructure (headAt s ero at) ≡ true → at + 8 + 16 + naiLength (headAt s ero at .nt) + 8 ≤ length s
   unfolding hasStructure
   reach e = low d e
 
-  full : hasStructure (headAt ero s at) ≡ true → sidLength (headAt ero s at .s) ≡ 16
+  full : hasStructure (headAt s ero at) ≡ true → sidLength (headAt s ero at .s) ≡ 16
   unfolding hasStructure
-  full e = sid-by (eqb (headAt ero s at .s) 0) (eqb (headAt ero s at .t) 1) e
+  full e = sid-by (eqb (headAt s ero at .s) 0) (eqb (headAt s ero at .t) 1) e
 
   -- the structure, written and read
   abbrev lastWritten : List ℕ
-  lastWritten = cond (hasStructure (headAt ero s at)) (part s (at + 8 + 16 + naiLength (headAt ero s at .nt)) 4 ++ (0 ∷ 0 ∷ 0 ∷ 0 ∷ [])) []
+  lastWritten = cond (hasStructure (headAt s ero at)) (part s (at + 8 + 16 + naiLength (headAt s ero at .nt)) 4 ++ (0 ∷ 0 ∷ 0 ∷ 0 ∷ [])) []
 
   abbrev lastRead : List ℕ
-  lastRead = part s (at + 8 + 16 + naiLength (headAt ero s at .nt)) (cond (hasStructure (headAt ero s at)) 8 0)
+  lastRead = part s (at + 8 + 16 + naiLength (headAt s ero at .nt)) (cond (hasStructure (headAt s ero at)) 8 0)
 
-  written-octets : (let h = headAt ero s at in subobjectOf (segmentAt ero s at)
+  written-octets : (let h = headAt s ero at in subobjectOf (segmentAt s ero at)
       ≡ fixedOctets (again h) (be16 s (at + 6))
       ++ (part s (at + 8) (sidLength (h .s)) ++ (part s (at + 8 + sidLength (h .s)) (naiLength (h .nt)) ++ lastWritten)))
   unfolding subobjectOf segmentAt
   written-octets =
-      let h = headAt ero s at in
+      let h = headAt s ero at in
       rw (
         head-written d,
         structure-again h,
@@ -370,15 +367,15 @@ module _ {ero : Bool} {s : List ℕ} {at : ℕ} (d : Sound ero s at) where
         last-written s (at + 8 + 16 + naiLength (h .nt)) (hasStructure h) reach,
       )
 
-  pub size-read : headAt ero s at .size ≡ octetOf s (at + 1)
+  pub size-read : headAt s ero at .size ≡ octetOf s (at + 1)
   unfolding headAt headOf
   size-read = refl
 
-  read-octets : (let h = headAt ero s at in part s at (octetOf s (at + 1))
+  read-octets : (let h = headAt s ero at in part s at (octetOf s (at + 1))
       ≡ part s at 8 ++ (part s (at + 8) (sidLength (h .s)) ++ (part s (at + 8 + sidLength (h .s)) (naiLength (h .nt)) ++ lastRead)))
   unfolding hasStructure
   read-octets =
-      let h = headAt ero s at in
+      let h = headAt s ero at in
       let k = sidLength (h .s) in
       let n = naiLength (h .nt) in
       let m = structureLength (h .s) (h .t) in
@@ -388,22 +385,22 @@ module _ {ero : Bool} {s : List ℕ} {at : ℕ} (d : Sound ero s at) where
       let p = place-same s at k n (structureThere (h .s) (h .t)) full in
       rw (e, part-add s at 8 (k + (n + m)), part-add s (at + 8) k (n + m), part-add s (at + 8 + k) n m, p)
 
-  pub length-written : length (subobjectOf (segmentAt ero s at)) ≡ octetOf s (at + 1)
-  length-written = sym (size-subobject (segmentAt ero s at) (held d)) ∙ ap (λ (h : Head). h .size) (head-written d) ∙ size-read
+  pub length-written : length (subobjectOf (segmentAt s ero at)) ≡ octetOf s (at + 1)
+  length-written = sym (size-subobject (segmentAt s ero at) (held d)) ∙ ap (λ (h : Head). h .size) (head-written d) ∙ size-read
 
   -- the first eight octets, by the ignored bits in them
   abbrev flags : ℕ
   flags = octetOf s (at + 3)
 
-  first-kept : headAt ero s at .l * 128 + 40 ≡ octetOf s at
+  first-kept : headAt s ero at .l * 128 + 40 ≡ octetOf s at
   unfolding headAt headOf kindOf
   first-kept = first-octet ero (octetOf s at) (octet-small s (d .octets) at) (d .kind)
 
-  v-kept : headAt ero s at .v + cond ero 0 (flags / 8 % 2) ≡ flags / 8 % 2
+  v-kept : headAt s ero at .v + cond ero 0 (flags / 8 % 2) ≡ flags / 8 % 2
   unfolding headAt headOf
   v-kept = v-split ero (flags / 8 % 2)
 
-  t-kept : bit (hasStructure (headAt ero s at)) + cond (eqb (headAt ero s at .s) 0) 0 (headAt ero s at .t) ≡ flags / 4 % 2
+  t-kept : bit (hasStructure (headAt s ero at)) + cond (eqb (headAt s ero at .s) 0) 0 (headAt s ero at .t) ≡ flags / 4 % 2
   unfolding hasStructure headAt headOf
   t-kept = t-split (eqb (flags % 2) 0) (flags / 4 % 2) (omega arith)
 
@@ -420,35 +417,35 @@ module _ {ero : Bool} {s : List ℕ} {at : ℕ} (d : Sound ero s at) where
 
   -- the ignored bits one by one, and those of the structure
   abbrev ignored : ℕ → ℕ
-  ignored k = getD (ignoredAt ero s at) k 0
+  ignored k = getD (ignoredAt s ero at) k 0
 
   abbrev lastIgnored : List ℕ
-  lastIgnored = drop 6 (ignoredAt ero s at)
+  lastIgnored = drop 6 (ignoredAt s ero at)
 
   abbrev flagsWritten : ℕ
-  flagsWritten = headAt ero s at .v * 8 + bit (hasStructure (headAt ero s at)) * 4 + headAt ero s at .f * 2 + headAt ero s at .s
+  flagsWritten = headAt s ero at .v * 8 + bit (hasStructure (headAt s ero at)) * 4 + headAt s ero at .f * 2 + headAt s ero at .s
 
-  nt-same : ignored 0 ≡ 0 → headAt ero s at .nt * 16 ≡ octetOf s (at + 2)
+  nt-same : ignored 0 ≡ 0 → headAt s ero at .nt * 16 ≡ octetOf s (at + 2)
   unfolding headAt headOf
   nt-same e = omega arith
 
-  nt-back : headAt ero s at .nt * 16 ≡ octetOf s (at + 2) → ignored 0 ≡ 0
+  nt-back : headAt s ero at .nt * 16 ≡ octetOf s (at + 2) → ignored 0 ≡ 0
   unfolding headAt headOf
   nt-back e = omega arith
 
   four-same : ignored 1 ≡ 0 → ignored 4 ≡ 0 → ignored 5 ≡ 0 → flagsWritten ≡ flags
   unfolding headAt headOf
-  four-same u v t = flags-same flags (headAt ero s at .v) (bit (hasStructure (headAt ero s at))) (ignored 4) (ignored 5) v-kept t-kept u v t
+  four-same u v t = flags-same flags (headAt s ero at .v) (bit (hasStructure (headAt s ero at))) (ignored 4) (ignored 5) v-kept t-kept u v t
 
   four-back : flagsWritten ≡ flags → (ignored 1 ≡ 0) × (ignored 4 ≡ 0) × (ignored 5 ≡ 0)
   unfolding headAt headOf
-  four-back e = flags-back flags (headAt ero s at .v) (bit (hasStructure (headAt ero s at))) (ignored 4) (ignored 5) v-kept t-kept e
+  four-back e = flags-back flags (headAt s ero at .v) (bit (hasStructure (headAt s ero at))) (ignored 4) (ignored 5) v-kept t-kept e
 
   eight-inside : at + 8 ≤ length s
   eight-inside = let z = laid d .sid in omega arith
 
   fixed-same : ignored 0 ≡ 0 → ignored 1 ≡ 0 → ignored 2 ≡ 0 → ignored 3 ≡ 0 → ignored 4 ≡ 0 → ignored 5 ≡ 0
-      → fixedOctets (again (headAt ero s at)) (be16 s (at + 6)) ≡ part s at 8
+      → fixedOctets (again (headAt s ero at)) (be16 s (at + 6)) ≡ part s at 8
   unfolding fixedOctets
   fixed-same n u r q v t =
       let e0 = first-kept in
@@ -462,18 +459,18 @@ module _ {ero : Bool} {s : List ℕ} {at : ℕ} (d : Sound ero s at) where
       (λ i. e0 i ∷ e1 i ∷ e2 i ∷ e3 i ∷ e4 i ∷ e5 i ∷ e6 i ∷ e7 i ∷ []) ∙ sym (part-eight s at eight-inside)
 
   -- The segment's octets are those that were read, if the ignored bits are 0,
-  pub same-octets : zeros (ignoredAt ero s at) ≡ true → subobjectOf (segmentAt ero s at) ≡ part s at (octetOf s (at + 1))
+  pub same-octets : zeros (ignoredAt s ero at) ≡ true → subobjectOf (segmentAt s ero at) ≡ part s at (octetOf s (at + 1))
   same-octets e =
       let u = zeros-six (ignored 0) (ignored 1) (ignored 2) (ignored 3) (ignored 4) (ignored 5) lastIgnored e in
       let f = fixed-same (u .0) (u .1) (u .2) (u .3) (u .4) (u .5) in
-      let l = last-same s (at + 8 + 16 + naiLength (headAt ero s at .nt)) (hasStructure (headAt ero s at)) reach (u .6) in
+      let l = last-same s (at + 8 + 16 + naiLength (headAt s ero at .nt)) (hasStructure (headAt s ero at)) reach (u .6) in
       written-octets ∙ rw (f, l) (sym read-octets)
 
   -- and only if they are.
-  pub ignored-zero : subobjectOf (segmentAt ero s at) ≡ part s at (octetOf s (at + 1)) → zeros (ignoredAt ero s at) ≡ true
+  pub ignored-zero : subobjectOf (segmentAt s ero at) ≡ part s at (octetOf s (at + 1)) → zeros (ignoredAt s ero at) ≡ true
   unfolding fixedOctets
   ignored-zero e =
-      let h = headAt ero s at in
+      let h = headAt s ero at in
       let x = sym written-octets ∙ e ∙ read-octets in
       let p = append-same (fixedOctets (again h) (be16 s (at + 6))) (part s at 8) _ _ (sym (length-part s at 8 eight-inside)) x in
       let q = append-same (part s (at + 8) (sidLength (h .s))) (part s (at + 8) (sidLength (h .s))) _ _ refl (p .1) in

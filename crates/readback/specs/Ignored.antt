@@ -1,13 +1,14 @@
 -- The bits of a route object that reading ignores, each as a number, and the segments that the reader hands out
 -- (document 01, "The route object").
-use Prim.Native.Nat.{ℕ, zero, suc, _+_, _/_, _%_, _<_}
+use Prim.Native.Nat.{ℕ, zero, suc, _+_, _-_, _/_, _%_, _<_}
 use mathlib.Core.Bool.{Bool, cond}
 use mathlib.Core.List.{List, [], _∷_, _++_}
 use lib.Dec.{eqb}
 use Rattle.octets.specs.Octets.{octetOf, part}
 use Rattle.session.specs.declared.Session.{Session}
 use Rattle.subobject.specs.declared.segment.Segment.{Segment}
-use Rattle.subobject.specs.Layout.{headAt, structurePlace}
+use Rattle.objects.specs.Objects.{typePlace, typeWorth}
+use Rattle.subobject.specs.Layout.{worthNT, worthV, structureSize, bitLengths, headAt, structurePlace}
 use Rattle.subobject.specs.Rules.{hasStructure}
 use Rattle.frame.specs.Frames.{placesOf}
 use Rattle.route.specs.Routes.{judgeOf, segmentOf}
@@ -20,26 +21,26 @@ Octets (x ∷ xs) = (x < 256) × Octets xs
 -- ignored bits -------------------------------------------------------------------------------------------------
 
 -- Of the subobject at a place. In RRO "all 8 bits of the first octet are the type": L is not among the ignored bits.
-abbrev pub ignoredAt : Bool → List ℕ → ℕ → List ℕ
-ignoredAt ero s at =
+abbrev pub ignoredAt : List ℕ → Bool → ℕ → List ℕ
+ignoredAt s ero at =
     -- "12 flags; the last four are V, T, F, S": the other eight are unassigned
-    (octetOf s (at + 2) % 16) ∷ (octetOf s (at + 3) / 16)
+    (octetOf s (at + 2) % worthNT) ∷ (octetOf s (at + 3) / 16)
     -- "4-5 reserved"
     ∷ octetOf s (at + 4) ∷ octetOf s (at + 5)
     -- in RRO "V is ignored"
-    ∷ cond ero 0 (octetOf s (at + 3) / 8 % 2)
+    ∷ cond ero 0 (octetOf s (at + 3) / worthV % 2)
     -- "T is ignored where S is 1"
-    ∷ cond (eqb (headAt ero s at .s) 0) 0 (headAt ero s at .t)
+    ∷ cond (eqb (headAt s ero at .s) 0) 0 (headAt s ero at .t)
     -- of a structure the "3 reserved, 1 flags"
-    ∷ cond (hasStructure (headAt ero s at)) (part s (structurePlace at (headAt ero s at .nt) + 4) 4) []
+    ∷ cond (hasStructure (headAt s ero at)) (part s (structurePlace at (headAt s ero at .nt) + bitLengths) (structureSize - bitLengths)) []
 
-abbrev pub ignoredIn : Bool → List ℕ → List ℕ → List ℕ
-ignoredIn ero s [] = []
-ignoredIn ero s (p ∷ ps) = ignoredAt ero s p ++ ignoredIn ero s ps
+abbrev pub ignoredIn : List ℕ → Bool → List ℕ → List ℕ
+ignoredIn s ero [] = []
+ignoredIn s ero (p ∷ ps) = ignoredAt s ero p ++ ignoredIn s ero ps
 
 -- Of the object: "type in the high 4 bits of the next octet (the low 4 are ignored)", and of each subobject.
-abbrev pub ignoredOf : Bool → List ℕ → List ℕ
-ignoredOf ero s = (octetOf s 1 % 16) ∷ ignoredIn ero s (placesOf s)
+abbrev pub ignoredOf : List ℕ → Bool → List ℕ
+ignoredOf s ero = (octetOf s typePlace % typeWorth) ∷ ignoredIn s ero (placesOf s)
 
 -- what is read -------------------------------------------------------------------------------------------------
 

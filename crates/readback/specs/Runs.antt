@@ -10,10 +10,11 @@ use Rattle.session.specs.declared.Limit.the-variants.{Free}
 use Rattle.session.specs.declared.Session.{Session}
 use Rattle.subobject.specs.declared.segment.Segment.{Segment}
 use Rattle.subobject.specs.Segments.{subobjectOf}
-use Rattle.writer_layout.specs.Held.{Held}
+use Rattle.objects.specs.Objects.{header}
+use Rattle.writer_spare.specs.Held.{Held}
 use Rattle.writer.specs.declared.state.Writer.{Writer}
 use Rattle.writer.specs.declared.state.Written.{Written}
-use Rattle.writer.specs.Writing.{headerLength, headerOf, beginAnswer, beginBuffer, addAnswer, addBuffer, finishAnswer, finishBuffer}
+use Rattle.writer.specs.Writing.{headerOf, beginAnswer, beginBuffer, addAnswer, addBuffer, finishAnswer, finishBuffer}
 
 -- calls, one after the other -----------------------------------------------------------------------------------
 
@@ -36,13 +37,13 @@ abbrev pub finishRun : List ℕ → Writer → Run
 finishRun b w = record { written = finishAnswer b w; buffer = finishBuffer b w }
 
 -- An add for each segment, then finish.
-unfoldable pub addsRun : List Segment → List ℕ → Writer → Run
-addsRun [] b w = finishRun b w
-addsRun (g ∷ gs) b w = onward (addRun b w g) (addsRun gs)
+unfoldable pub addsRun : List ℕ → Writer → List Segment → Run
+addsRun b w [] = finishRun b w
+addsRun b w (g ∷ gs) = onward (addRun b w g) (λ b′ w′. addsRun b′ w′ gs)
 
 -- Begin in any buffer with any state, an add for each segment, then finish.
-unfoldable pub writeRun : Bool → List Segment → List ℕ → Writer → Run
-writeRun ero gs b w = onward (beginRun b w ero) (addsRun gs)
+unfoldable pub writeRun : List ℕ → Writer → Bool → List Segment → Run
+writeRun b w ero gs = onward (beginRun b w ero) (λ b′ w′. addsRun b′ w′ gs)
 
 -- Every call accepted.
 abbrev pub Accepted : Run → Type 0
@@ -60,7 +61,7 @@ bodyOf [] = []
 bodyOf (g ∷ gs) = subobjectOf g ++ bodyOf gs
 
 unfoldable pub objectOf : Bool → List Segment → List ℕ
-objectOf ero gs = headerOf ero (headerLength + length (bodyOf gs)) ++ bodyOf gs
+objectOf ero gs = headerOf ero (header + length (bodyOf gs)) ++ bodyOf gs
 
 -- Segments as the code holds them.
 pub data AllHeld : List Segment → Type 0 where
@@ -70,7 +71,3 @@ pub data AllHeld : List Segment → Type 0 where
 -- The session in which everything that can be written is read: SRv6 agreed, N set, no limit.
 abbrev pub openSession : Session
 openSession = record { agreed = true; n = true; limit = Free }
-
--- The setup type of SRv6.
-abbrev pub srv6Setup : ℕ
-srv6Setup = 3

@@ -1,4 +1,5 @@
--- The answer by its parts: the frame's, 13's, the walk's, 12's, 15's; and what an acceptance says of the octets. Assumes nothing.
+-- The answer by its parts: the frame's, 13's, the walk's, 12's, 15's; and what an acceptance says of the octets. The checks of a route are a list, so
+-- each part is a law of lists: a broken check in it answers, an unbroken part hands on to what follows (frame/proofs/Checks). Assumes nothing.
 use Prim.Native.Nat.{ℕ, zero, suc, _+_, _-_, _%_, _≤_, _<_}
 use mathlib.Core.Path.{_≡_, refl, sym, _∙_, ap}
 use mathlib.Core.List.{List, [], _∷_, _++_}
@@ -6,7 +7,7 @@ use mathlib.Core.Bool.{Bool, true, false, cond, not, _&&_}
 use lib.Dec.{ltb, eqb}
 use lib.ListN.{length, getD, drop, length-drop}
 use native.Mathlib.Omega.{arith}
-use borrow.Author.Tests.{eq-eqb, ne-eqb, lt-ltb, le-ltb, eqb-false, not-false}
+use borrow.Author.Tests.{eq-eqb, ne-eqb, lt-ltb, le-ltb, eqb-true, eqb-false, not-false}
 use Rattle.answers.specs.declared.verdict.Verdict.{Verdict}
 use Rattle.answers.specs.Numbers.{notAgreed, noSuchSegment}
 use Rattle.answers.specs.Verdicts.{refusedBy, acceptedWith}
@@ -15,124 +16,142 @@ use Rattle.session.specs.declared.Session.{Session}
 use Rattle.octets.specs.Octets.{octetOf, be16}
 use Rattle.subobject.specs.declared.head.Head.{Head}
 use Rattle.subobject.specs.declared.segment.Segment.{Segment}
-use Rattle.subobject.specs.Layout.{srv6, headOf, headAt}
+use Rattle.objects.specs.Objects.{header, unit}
+use Rattle.subobject.specs.Layout.{srv6Kind, headOf, headAt, expectedAt}
 use Rattle.subobject.specs.Rules.{rule7, rule8, rule9}
 use Rattle.subobject.specs.Segments.{segmentAt, noSegment}
-use Rattle.subobject.proofs.Laws.{both-true, sound-length, sound-least}
+use Rattle.octets.proofs.Said.{both-true}
+use Rattle.subobject.proofs.Laws.{sound-length, sound-least}
 use Rattle.frame.specs.Checks.{Check, check, firstBroken}
-use Rattle.frame.specs.Frames.{headed, fitsIn, Apart, from, step, apart, apartOf, placesOf, rule4, rule5, frameChecks, frameOf}
+use Rattle.frame.specs.Frames.{headed, fitsIn, Apart, ended, unfilled, from, apart, apartOf, placesOf, rule4, rule5, frameChecks, frameOf}
 use Rattle.frame.proofs.Checks.{first-append, None, Numbered, none-first, none-append, none-split, numbered-append, first-none, first-some}
 use Rattle.frame.proofs.Laws.{Sized, headed-sized, fits-true}
 use Rattle.route.specs.declared.picking.Picked.{Picked}
-use Rattle.route.specs.Routes.{rule13, wholeChecks, order, brokenBy, brokenAt, checksAt, subobjectChecks, lastChecks, checksOf, countOf, judgeOf, rule15, pickOf, segmentOf, walkOf, limitedOf, expectedAt}
-use Rattle.route.proofs.Laws.{head-size}
+use Rattle.route_walk.specs.Walk.{checksAt, subobjectChecks, walkOf}
+use Rattle.route_walk.proofs.Laws.{head-size}
+use Rattle.route.specs.Parts.{refusalOr, limitedOf}
+use Rattle.route.specs.Routes.{rule13, wholeChecks, lastChecks, checksOf, countOf, judgeOf, rule15, pickOf, segmentOf}
 
 -- every check has a number -------------------------------------------------------------------------------------
 
-pub numbered-subobjects : (broken : ℕ → ℕ → Bool) (ps : List ℕ) → Numbered (subobjectChecks broken ps)
-numbered-subobjects broken [] = tt
-numbered-subobjects broken (p ∷ ps) =
-    (omega arith, (omega arith, (omega arith, (omega arith, (omega arith, numbered-subobjects broken ps)))))
+pub numbered-subobjects : (s : List ℕ) (ero n : Bool) (ps : List ℕ) → Numbered (subobjectChecks s ero n ps)
+numbered-subobjects s ero n [] = tt
+numbered-subobjects s ero n (p ∷ ps) =
+    (omega arith, (omega arith, (omega arith, (omega arith, (omega arith, numbered-subobjects s ero n ps)))))
 
-pub numbered-frame : (ero : Bool) (s : List ℕ) → Numbered (frameChecks ero srv6 s)
+pub numbered-frame : (ero : Bool) (s : List ℕ) → Numbered (frameChecks s ero srv6Kind)
 numbered-frame ero s = (omega arith, (omega arith, (omega arith, (omega arith, tt))))
 
 pub numbered-all : (s : List ℕ) (ero : Bool) (session : Session) (pst : ℕ) → Numbered (checksOf s ero session pst)
 numbered-all s ero session pst =
     let rest =
-    numbered-append (subobjectChecks (brokenAt ero (session .n) s) (placesOf s)) (lastChecks ero (session .limit) (countOf s) (placesOf s))
-    (numbered-subobjects (brokenAt ero (session .n) s) (placesOf s)) (omega arith, tt) in
+    numbered-append (subobjectChecks s ero (session .n) (placesOf s)) (lastChecks (placesOf s) ero (session .limit) (countOf s))
+    (numbered-subobjects s ero (session .n) (placesOf s)) (omega arith, tt) in
     (omega arith, (omega arith, (omega arith, (omega arith, (omega arith, rest)))))
 
 -- the frame ----------------------------------------------------------------------------------------------------
 
 -- An unbroken 4: the header is sound, and the subobjects fill the object.
-pub frame-sound : (ero : Bool) (s : List ℕ) → rule4 ero s ≡ false → (headed ero s ≡ true) × (apartOf s .whole ≡ true)
+pub frame-sound : (ero : Bool) (s : List ℕ) → rule4 s ero ≡ false → (headed s ero ≡ true) × (apartOf s .whole ≡ true)
 unfolding rule4
-frame-sound ero s e = both-true (headed ero s) (apartOf s .whole) (not-false _ e)
+frame-sound ero s e = both-true (headed s ero) (apartOf s .whole) (not-false _ e)
 
 -- The octets' number is that of two octets.
-pub frame-bounds : (ero : Bool) (s : List ℕ) → rule4 ero s ≡ false → getD s 2 0 < 256 → getD s 3 0 < 256
-    → (4 ≤ length s) × (length s < 65536) × (apartOf s .whole ≡ true)
+pub frame-bounds : (ero : Bool) (s : List ℕ) → rule4 s ero ≡ false → getD s 2 0 < 256 → getD s 3 0 < 256
+    → (header ≤ length s) × (length s < 65536) × (apartOf s .whole ≡ true)
 unfolding be16
 frame-bounds ero s e h l =
     let f = frame-sound ero s e in
     let n = headed-sized ero s (f .0) in
     (n .low, omega (arith, n .read), f .1)
 
-module _ (s : List ℕ) (ero : Bool) (session : Session) (pst : ℕ) (f : Verdict) (e : f ≡ frameOf ero srv6 s) where
+module _ (s : List ℕ) (ero : Bool) (session : Session) (pst : ℕ) (f : Verdict) (e : f ≡ frameOf s ero srv6Kind) where
   pub frame-stops : (f .number ≡ 0 → ⊥) → f ≡ judgeOf s ero session pst
   unfolding frameOf judgeOf
   frame-stops n =
       e
-      ∙ first-some (frameChecks ero srv6 s) (acceptedWith (countOf s))
+      ∙ first-some (frameChecks s ero srv6Kind) (acceptedWith (countOf s))
       (firstBroken
       (check notAgreed 0 (rule13 (session .agreed) pst)
-      ∷ (subobjectChecks (brokenAt ero (session .n) s) (placesOf s) ++ lastChecks ero (session .limit) (countOf s) (placesOf s)))
+      ∷ (subobjectChecks s ero (session .n) (placesOf s) ++ lastChecks (placesOf s) ero (session .limit) (countOf s)))
       (acceptedWith (countOf s)))
       refl (λ z. n (rw e z))
 
-  pub frame-none : f .number ≡ 0 → None (frameChecks ero srv6 s)
+  pub frame-none : f .number ≡ 0 → None (frameChecks s ero srv6Kind)
   unfolding frameOf
-  frame-none z = first-none (frameChecks ero srv6 s) (acceptedWith (countOf s)) (numbered-frame ero s) (rw e at z)
+  frame-none z = first-none (frameChecks s ero srv6Kind) (acceptedWith (countOf s)) (numbered-frame ero s) (rw e at z)
 
   pub frame-count : f .number ≡ 0 → f .count ≡ countOf s
   unfolding frameOf
-  frame-count z = ap (λ (v : Verdict). v .count) (e ∙ none-first (frameChecks ero srv6 s) (acceptedWith (countOf s)) (frame-none z))
+  frame-count z = ap (λ (v : Verdict). v .count) (e ∙ none-first (frameChecks s ero srv6Kind) (acceptedWith (countOf s)) (frame-none z))
 
 -- the rest of the answer ---------------------------------------------------------------------------------------
 
-module _ (s : List ℕ) (ero : Bool) (session : Session) (pst : ℕ) (h : None (frameChecks ero srv6 s)) where
+module _ (s : List ℕ) (ero : Bool) (session : Session) (pst : ℕ) (h : None (frameChecks s ero srv6Kind)) where
   pub agreed-stops : rule13 (session .agreed) pst ≡ true → refusedBy notAgreed 0 ≡ judgeOf s ero session pst
   unfolding judgeOf
   agreed-stops e =
       sym
-      (none-first (frameChecks ero srv6 s)
+      (none-first (frameChecks s ero srv6Kind)
       (firstBroken
       (check notAgreed 0 (rule13 (session .agreed) pst)
-      ∷ (subobjectChecks (brokenAt ero (session .n) s) (placesOf s) ++ lastChecks ero (session .limit) (countOf s) (placesOf s)))
+      ∷ (subobjectChecks s ero (session .n) (placesOf s) ++ lastChecks (placesOf s) ero (session .limit) (countOf s)))
       (acceptedWith (countOf s)))
       h
       ∙ rw e)
 
   pub after-whole : rule13 (session .agreed) pst ≡ false
-      → firstBroken (subobjectChecks (brokenAt ero (session .n) s) (placesOf s))
-      (firstBroken (lastChecks ero (session .limit) (countOf s) (placesOf s)) (acceptedWith (countOf s)))
+      → firstBroken (subobjectChecks s ero (session .n) (placesOf s))
+      (firstBroken (lastChecks (placesOf s) ero (session .limit) (countOf s)) (acceptedWith (countOf s)))
       ≡ judgeOf s ero session pst
   unfolding judgeOf
   after-whole e =
       sym
-      (none-first (frameChecks ero srv6 s)
+      (none-first (frameChecks s ero srv6Kind)
       (firstBroken
       (check notAgreed 0 (rule13 (session .agreed) pst)
-      ∷ (subobjectChecks (brokenAt ero (session .n) s) (placesOf s) ++ lastChecks ero (session .limit) (countOf s) (placesOf s)))
+      ∷ (subobjectChecks s ero (session .n) (placesOf s) ++ lastChecks (placesOf s) ero (session .limit) (countOf s)))
       (acceptedWith (countOf s)))
       h
       ∙ rw e
-      (first-append (subobjectChecks (brokenAt ero (session .n) s) (placesOf s)) (lastChecks ero (session .limit) (countOf s) (placesOf s)) (acceptedWith (countOf s))))
+      (first-append (subobjectChecks s ero (session .n) (placesOf s)) (lastChecks (placesOf s) ero (session .limit) (countOf s)) (acceptedWith (countOf s))))
 
   -- The walk's answer if it refuses,
-  pub walk-stops : (w : Verdict) (count : ℕ) → rule13 (session .agreed) pst ≡ false → w ≡ walkOf ero (session .n) count s → (w .number ≡ 0 → ⊥)
+  walk-stops : (w : Verdict) (count : ℕ) → rule13 (session .agreed) pst ≡ false → w ≡ walkOf s ero (session .n) count → (w .number ≡ 0 → ⊥)
       → w ≡ judgeOf s ero session pst
   unfolding walkOf
   walk-stops w count e q n =
       q
-      ∙ first-some (subobjectChecks (brokenAt ero (session .n) s) (placesOf s)) (acceptedWith count)
-      (firstBroken (lastChecks ero (session .limit) (countOf s) (placesOf s)) (acceptedWith (countOf s))) refl (λ z. n (rw q z))
+      ∙ first-some (subobjectChecks s ero (session .n) (placesOf s)) (acceptedWith count)
+      (firstBroken (lastChecks (placesOf s) ero (session .limit) (countOf s)) (acceptedWith (countOf s))) refl (λ z. n (rw q z))
       ∙ after-whole e
 
   -- else 12's.
-  pub limit-ends : (w l : Verdict) (count : ℕ) → rule13 (session .agreed) pst ≡ false → w ≡ walkOf ero (session .n) count s → w .number ≡ 0
-      → count ≡ countOf s → l ≡ limitedOf ero (session .limit) count s → l ≡ judgeOf s ero session pst
+  limit-ends : (w l : Verdict) (count : ℕ) → rule13 (session .agreed) pst ≡ false → w ≡ walkOf s ero (session .n) count → w .number ≡ 0
+      → count ≡ countOf s → l ≡ limitedOf s ero (session .limit) count → l ≡ judgeOf s ero session pst
   unfolding walkOf limitedOf
   limit-ends w l count e q z c r =
       rw c at r
       ∙ sym
-      (none-first (subobjectChecks (brokenAt ero (session .n) s) (placesOf s))
-      (firstBroken (lastChecks ero (session .limit) (countOf s) (placesOf s)) (acceptedWith (countOf s)))
-      (first-none (subobjectChecks (brokenAt ero (session .n) s) (placesOf s)) (acceptedWith count)
-      (numbered-subobjects (brokenAt ero (session .n) s) (placesOf s)) (rw q at z)))
+      (none-first (subobjectChecks s ero (session .n) (placesOf s))
+      (firstBroken (lastChecks (placesOf s) ero (session .limit) (countOf s)) (acceptedWith (countOf s)))
+      (first-none (subobjectChecks s ero (session .n) (placesOf s)) (acceptedWith count)
+      (numbered-subobjects s ero (session .n) (placesOf s)) (rw q at z)))
       ∙ after-whole e
+
+  -- The walk's answer, or else 12's: "last 12".
+  pub walk-then-limit : (w l r : Verdict) (count : ℕ) → rule13 (session .agreed) pst ≡ false → w ≡ walkOf s ero (session .n) count → count ≡ countOf s
+      → l ≡ limitedOf s ero (session .limit) count → r ≡ refusalOr w l → r ≡ judgeOf s ero session pst
+  walk-then-limit w l r count e q c p t = t ∙ go (eqb (w .number) 0) refl
+    where
+      go : (b : Bool) → eqb (w .number) 0 ≡ b → cond b l w ≡ judgeOf s ero session pst
+      go true z = limit-ends w l count e q (eqb-true (w .number) 0 z) c p
+      go false z = walk-stops w count e q (eqb-false (w .number) 0 z)
+
+-- 12 where there is no limit.
+pub never-past : (ero : Bool) → (ero && false) ≡ false
+never-past true = refl
+never-past false = refl
 
 -- an acceptance ------------------------------------------------------------------------------------------------
 
@@ -147,67 +166,67 @@ unfolding judgeOf
 accepted-count s ero session pst z = none-first (checksOf s ero session pst) (acceptedWith (countOf s)) (accepted-none s ero session pst z)
 
 pub accepted-frame : (s : List ℕ) (ero : Bool) (session : Session) (pst : ℕ) → judgeOf s ero session pst .number ≡ 0
-    → (headed ero s ≡ true) × (apartOf s .whole ≡ true)
+    → (headed s ero ≡ true) × (apartOf s .whole ≡ true)
 accepted-frame s ero session pst z = frame-sound ero s (accepted-none s ero session pst z .0)
 
 -- No check of any subobject is broken.
-subobject-none : (broken : ℕ → ℕ → Bool) (ps : List ℕ) (i : ℕ) → i < length ps → None (subobjectChecks broken ps)
-    → None (checksAt (broken (getD ps i 0)) (getD ps i 0) order)
-subobject-none broken [] i l h = absurd (omega arith)
-subobject-none broken (p ∷ ps) zero l h = none-split (checksAt (broken p) p order) (subobjectChecks broken ps) h .0
-subobject-none broken (p ∷ ps) (suc i) l h =
-    subobject-none broken ps i (omega arith) (none-split (checksAt (broken p) p order) (subobjectChecks broken ps) h .1)
+subobject-none : (s : List ℕ) (ero n : Bool) (ps : List ℕ) (i : ℕ) → i < length ps → None (subobjectChecks s ero n ps)
+    → None (checksAt s ero n (getD ps i 0))
+subobject-none s ero n [] i l h = absurd (omega arith)
+subobject-none s ero n (p ∷ ps) zero l h = none-split (checksAt s ero n p) (subobjectChecks s ero n ps) h .0
+subobject-none s ero n (p ∷ ps) (suc i) l h =
+    subobject-none s ero n ps i (omega arith) (none-split (checksAt s ero n p) (subobjectChecks s ero n ps) h .1)
 
 pub accepted-subobject : (s : List ℕ) (ero : Bool) (session : Session) (pst i : ℕ) → judgeOf s ero session pst .number ≡ 0 → i < countOf s
-    → None (checksAt (brokenAt ero (session .n) s (getD (placesOf s) i 0)) (getD (placesOf s) i 0) order)
+    → None (checksAt s ero (session .n) (getD (placesOf s) i 0))
 accepted-subobject s ero session pst i z l =
-    subobject-none (brokenAt ero (session .n) s) (placesOf s) i l
-    (none-split (subobjectChecks (brokenAt ero (session .n) s) (placesOf s)) (lastChecks ero (session .limit) (countOf s) (placesOf s))
+    subobject-none s ero (session .n) (placesOf s) i l
+    (none-split (subobjectChecks s ero (session .n) (placesOf s)) (lastChecks (placesOf s) ero (session .limit) (countOf s))
     (accepted-none s ero session pst z .1 .1 .1 .1 .1) .0)
 
 -- Every place of a frame holds a subobject that fits.
-place-fits : (f : ℕ) (s : List ℕ) (at i : ℕ) → i < length (apart f s at .places)
-    → (let p = getD (apart f s at .places) i 0 in fitsIn (octetOf s (p + 1)) (length s - p) ≡ true)
+place-fits : (f : ℕ) (s : List ℕ) (at i : ℕ) → i < length (apart s at f .places)
+    → (let p = getD (apart s at f .places) i 0 in fitsIn (octetOf s (p + 1)) (length s - p) ≡ true)
 unfolding apart
 place-fits zero s at i l = absurd (omega arith)
 place-fits (suc f) s at i l = go (eqb at (length s)) (fitsIn (octetOf s (at + 1)) (length s - at)) refl i l (λ j k. place-fits f s (at + octetOf s (at + 1)) j k)
   where
     go : (x y : Bool) → fitsIn (octetOf s (at + 1)) (length s - at) ≡ y → (i : ℕ)
-        → i < length (step x y (λ u. from at (apart f s (at + octetOf s (at + 1)))) .places)
-        → ((j : ℕ) → j < length (apart f s (at + octetOf s (at + 1)) .places)
-        → (let p = getD (apart f s (at + octetOf s (at + 1)) .places) j 0 in fitsIn (octetOf s (p + 1)) (length s - p) ≡ true))
-        → (let p = getD (step x y (λ u. from at (apart f s (at + octetOf s (at + 1)))) .places) i 0 in fitsIn (octetOf s (p + 1)) (length s - p) ≡ true)
+        → i < length (cond x ended (cond y (from at (apart s (at + octetOf s (at + 1)) f)) unfilled) .places)
+        → ((j : ℕ) → j < length (apart s (at + octetOf s (at + 1)) f .places)
+        → (let p = getD (apart s (at + octetOf s (at + 1)) f .places) j 0 in fitsIn (octetOf s (p + 1)) (length s - p) ≡ true))
+        → (let p = getD (cond x ended (cond y (from at (apart s (at + octetOf s (at + 1)) f)) unfilled) .places) i 0 in fitsIn (octetOf s (p + 1)) (length s - p) ≡ true)
     go true y e i l rest = absurd (omega arith)
     go false false e i l rest = absurd (omega arith)
     go false true e zero l rest = e
     go false true e (suc i) l rest = rest i (omega arith)
 
 -- The first subobject stands at octet 4.
-first-place : (f : ℕ) (s : List ℕ) (at : ℕ) → 0 < length (apart f s at .places) → getD (apart f s at .places) 0 0 ≡ at
+first-place : (f : ℕ) (s : List ℕ) (at : ℕ) → 0 < length (apart s at f .places) → getD (apart s at f .places) 0 0 ≡ at
 unfolding apart
 first-place zero s at l = absurd (omega arith)
 first-place (suc f) s at l = go (eqb at (length s)) (fitsIn (octetOf s (at + 1)) (length s - at)) l
   where
-    go : (x y : Bool) → 0 < length (step x y (λ u. from at (apart f s (at + octetOf s (at + 1)))) .places)
-        → getD (step x y (λ u. from at (apart f s (at + octetOf s (at + 1)))) .places) 0 0 ≡ at
+    go : (x y : Bool) → 0 < length (cond x ended (cond y (from at (apart s (at + octetOf s (at + 1)) f)) unfilled) .places)
+        → getD (cond x ended (cond y (from at (apart s (at + octetOf s (at + 1)) f)) unfilled) .places) 0 0 ≡ at
     go true y l = absurd (omega arith)
     go false false l = absurd (omega arith)
     go false true l = refl
 
 -- What an acceptance says of subobject i: it has its expected length, at least 24, and lies inside the octets given.
 pub record Lying (s : List ℕ) (ero : Bool) (at : ℕ) : Type 0 where
-  pub inside : at + expectedAt ero s at ≤ length s
+  pub inside : at + expectedAt s ero at ≤ length s
   pub least : at + 24 ≤ length s
 
-flag-small : (ero : Bool) (s : List ℕ) (at : ℕ) → headAt ero s at .s ≤ 1
+flag-small : (ero : Bool) (s : List ℕ) (at : ℕ) → headAt s ero at .s ≤ 1
 unfolding headAt headOf
 flag-small ero s at = omega arith
 
 pub accepted-lying : (s : List ℕ) (ero : Bool) (session : Session) (pst i : ℕ) → judgeOf s ero session pst .number ≡ 0 → i < countOf s
     → Lying s ero (getD (placesOf s) i 0)
-unfolding brokenAt brokenBy apartOf octetOf expectedAt
+unfolding apartOf octetOf expectedAt
 accepted-lying s ero session pst i z l =
-    let h = headAt ero s (getD (placesOf s) i 0) in
+    let h = headAt s ero (getD (placesOf s) i 0) in
     let n = accepted-subobject s ero session pst i z l in
     let e8 : rule8 h ≡ false = n .0 in
     let e9 : rule9 h ≡ false = n .1 .0 in
@@ -215,20 +234,20 @@ accepted-lying s ero session pst i z l =
     let size = sound-length h e7 in
     let more = sound-least h e8 e9 e7 (flag-small ero s (getD (placesOf s) i 0)) in
     let o = head-size ero s (getD (placesOf s) i 0) h refl in
-    let fit = fits-true (octetOf s (getD (placesOf s) i 0 + 1)) (length s - getD (placesOf s) i 0) (place-fits (suc (length s)) s 4 i l) in
+    let fit = fits-true (octetOf s (getD (placesOf s) i 0 + 1)) (length s - getD (placesOf s) i 0) (place-fits (suc (length s)) s header i l) in
     record { inside = omega arith; least = omega arith }
 
 -- "A body is a multiple of 4 and at least 24 octets": what the board keeps of an accepted route, the octets after its header.
 pub accepted-body : (s : List ℕ) (ero : Bool) (session : Session) (pst : ℕ) → judgeOf s ero session pst .number ≡ 0
-    → (24 ≤ length (drop 4 s)) × (length (drop 4 s) % 4 ≡ 0)
+    → (24 ≤ length (drop header s)) × (length (drop header s) % unit ≡ 0)
 unfolding rule5 apartOf
 accepted-body s ero session pst z =
     let some : 0 < countOf s = omega (arith, eqb-false (countOf s) 0 (accepted-none s ero session pst z .1 .0)) in
     let lies = accepted-lying s ero session pst 0 z some in
-    let four : getD (placesOf s) 0 0 ≡ 4 = first-place (suc (length s)) s 4 some in
+    let four : getD (placesOf s) 0 0 ≡ header = first-place (suc (length s)) s header some in
     let sized = headed-sized ero s (accepted-frame s ero session pst z .0) in
     let low = lies .least in
-    (rw (length-drop 4 s) (omega arith), rw (length-drop 4 s) (omega (arith, sized .four, sized .low)))
+    (rw (length-drop header s) (omega arith), rw (length-drop header s) (omega (arith, sized .four, sized .low)))
 
 -- a segment ----------------------------------------------------------------------------------------------------
 
@@ -267,7 +286,7 @@ module _ (s : List ℕ) (ero : Bool) (session : Session) (pst i : ℕ) (v : Verd
       let o : pickOf s ero session pst i ≡ refusedBy noSuchSegment 0 = passing z ∙ rw (le-ltb i (countOf s) m) in
       rw o (λ k. record { verdict = p k; segment = q k })
 
-  pub pick-there : {at : ℕ} {g : Segment} → v .number ≡ 0 → i < v .count → at ≡ getD (placesOf s) i 0 → g ≡ segmentAt ero s at
+  pub pick-there : {at : ℕ} {g : Segment} → v .number ≡ 0 → i < v .count → at ≡ getD (placesOf s) i 0 → g ≡ segmentAt s ero at
       → _≡_ {A = Picked} (record { verdict = v; segment = g }) (segmentOf s ero session pst i)
   unfolding segmentOf rule15
   pick-there z l a q =

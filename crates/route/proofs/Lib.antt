@@ -1,4 +1,4 @@
 pub mod Answer
-pub mod Laws
+pub mod Numbers
 pub mod Order
 pub mod Theorems

@@ -1,4 +1,5 @@
--- Document 01's order of checks is the order of the list: a check's rank. Assumes nothing.
+-- Document 01's order of checks is the order of the list. A check's rank is how many stand before it; an earlier check has a lower rank and every rank
+-- below the list's length is that of a check, so that what holds of the list by rank holds of document 01's order. Assumes nothing.
 use Prim.Native.Nat.{ℕ, zero, suc, _+_, _*_, _/_, _%_, _≤_, _<_}
 use mathlib.Core.Path.{_≡_, refl, sym, _∙_, ap}
 use mathlib.Core.List.{List, [], _∷_, _++_}
@@ -12,18 +13,20 @@ use Rattle.session.specs.declared.Session.{Session}
 use Rattle.frame.specs.Checks.{Check, check}
 use Rattle.frame.specs.Frames.{placesOf}
 use Rattle.frame.proofs.Checks.{checkOf}
-use Rattle.route.specs.Routes.{order, checksAt, subobjectChecks, brokenAt, lastChecks, checksOf, countOf}
-use Rattle.route.specs.Order.{Where, whole, inside, last, Among, Before, checkAt}
+use Rattle.subobject.specs.Rules.{ruleCount}
+use Rattle.route_walk.specs.Walk.{checksAt, subobjectChecks}
+use Rattle.route.specs.Routes.{lastChecks, wholeChecks, checksOf, countOf}
+use Rattle.route.specs.Order.{Where, whole, inside, last, wholeCount, Among, Before, checkAt}
 
 -- ranks --------------------------------------------------------------------------------------------------------
 
 -- How many checks stand before this one in a route of n subobjects.
 abbrev pub rank : ℕ → Where → ℕ
 rank n (whole k) = k
-rank n (inside i k) = suc (suc (suc (suc (suc (5 * i + k)))))
-rank n last = suc (suc (suc (suc (suc (5 * n)))))
+rank n (inside i k) = suc (suc (suc (suc (suc (ruleCount * i + k)))))
+rank n last = suc (suc (suc (suc (suc (ruleCount * n)))))
 
-pub rank-within : (n : ℕ) (w : Where) → Among n w → rank n w < 6 + 5 * n
+pub rank-within : (n : ℕ) (w : Where) → Among n w → rank n w < suc wholeCount + ruleCount * n
 rank-within n (whole k) h = omega arith
 rank-within n (inside i k) h = omega (arith, h .0, h .1)
 rank-within n last h = omega arith
@@ -62,63 +65,63 @@ pub record Standing (n r : ℕ) : Type 0 where
   pub among : Among n stands
   pub ranked : rank n stands ≡ r
 
-pub standing : (n r : ℕ) → r < 6 + 5 * n → Standing n r
+pub standing : (n r : ℕ) → r < suc wholeCount + ruleCount * n → Standing n r
 standing n zero h = record { stands = whole 0; among = omega arith; ranked = refl }
 standing n (suc zero) h = record { stands = whole 1; among = omega arith; ranked = refl }
 standing n (suc (suc zero)) h = record { stands = whole 2; among = omega arith; ranked = refl }
 standing n (suc (suc (suc zero))) h = record { stands = whole 3; among = omega arith; ranked = refl }
 standing n (suc (suc (suc (suc zero)))) h = record { stands = whole 4; among = omega arith; ranked = refl }
-standing n (suc (suc (suc (suc (suc m))))) h = go (eqb m (5 * n)) refl
+standing n (suc (suc (suc (suc (suc m))))) h = go (eqb m (ruleCount * n)) refl
   where
-    go : (b : Bool) → eqb m (5 * n) ≡ b → Standing n (suc (suc (suc (suc (suc m)))))
-    go true e = record { stands = last; among = tt; ranked = let q = eqb-true m (5 * n) e in omega arith }
+    go : (b : Bool) → eqb m (ruleCount * n) ≡ b → Standing n (suc (suc (suc (suc (suc m)))))
+    go true e = record { stands = last; among = tt; ranked = let q = eqb-true m (ruleCount * n) e in omega arith }
     go false e =
-        let q = eqb-false m (5 * n) e in
-        let l : m < 5 * n = omega (arith, q) in
-        record { stands = inside (m / 5) (m % 5); among = (omega arith, omega arith); ranked = omega arith }
+        let q = eqb-false m (ruleCount * n) e in
+        let l : m < ruleCount * n = omega (arith, q) in
+        record { stands = inside (m / ruleCount) (m % ruleCount); among = (omega arith, omega arith); ranked = omega arith }
 
 -- the checks by rank -------------------------------------------------------------------------------------------
 
-sub-rank : (broken : ℕ → ℕ → Bool) (ps : List ℕ) (rest : List Check) (i k : ℕ) → i < length ps → k < 5
-    → checkOf (subobjectChecks broken ps ++ rest) (5 * i + k) ≡ checkOf (checksAt (broken (getD ps i 0)) (getD ps i 0) order) k
-sub-rank broken [] rest i k h l = absurd (omega arith)
-sub-rank broken (p ∷ ps) rest zero k h l =
-    let q : 5 * 0 + k ≡ k = omega arith in
-    ap (λ (x : ℕ). checkOf (subobjectChecks broken (p ∷ ps) ++ rest) x) q ∙ go k l
+sub-rank : (s : List ℕ) (ero n : Bool) (ps : List ℕ) (rest : List Check) (i k : ℕ) → i < length ps → k < ruleCount
+    → checkOf (subobjectChecks s ero n ps ++ rest) (ruleCount * i + k) ≡ checkOf (checksAt s ero n (getD ps i 0)) k
+sub-rank s ero n [] rest i k h l = absurd (omega arith)
+sub-rank s ero n (p ∷ ps) rest zero k h l =
+    let q : ruleCount * 0 + k ≡ k = omega arith in
+    ap (λ (x : ℕ). checkOf (subobjectChecks s ero n (p ∷ ps) ++ rest) x) q ∙ go k l
   where
-    go : (k : ℕ) → k < 5 → checkOf (subobjectChecks broken (p ∷ ps) ++ rest) k ≡ checkOf (checksAt (broken p) p order) k
+    go : (k : ℕ) → k < ruleCount → checkOf (subobjectChecks s ero n (p ∷ ps) ++ rest) k ≡ checkOf (checksAt s ero n p) k
     go zero l = refl
     go (suc zero) l = refl
     go (suc (suc zero)) l = refl
     go (suc (suc (suc zero))) l = refl
     go (suc (suc (suc (suc zero)))) l = refl
     go (suc (suc (suc (suc (suc k))))) l = absurd (omega arith)
-sub-rank broken (p ∷ ps) rest (suc i) k h l =
-    let q : 5 * suc i + k ≡ suc (suc (suc (suc (suc (5 * i + k))))) = omega arith in
-    ap (λ (x : ℕ). checkOf (subobjectChecks broken (p ∷ ps) ++ rest) x) q ∙ sub-rank broken ps rest i k (omega arith) l
+sub-rank s ero n (p ∷ ps) rest (suc i) k h l =
+    let q : ruleCount * suc i + k ≡ suc (suc (suc (suc (suc (ruleCount * i + k))))) = omega arith in
+    ap (λ (x : ℕ). checkOf (subobjectChecks s ero n (p ∷ ps) ++ rest) x) q ∙ sub-rank s ero n ps rest i k (omega arith) l
 
-last-rank : (broken : ℕ → ℕ → Bool) (ps : List ℕ) (c : Check) → checkOf (subobjectChecks broken ps ++ c ∷ []) (5 * length ps) ≡ c
-last-rank broken [] c = refl
-last-rank broken (p ∷ ps) c =
-    let q : 5 * suc (length ps) ≡ suc (suc (suc (suc (suc (5 * length ps))))) = omega arith in
-    ap (λ (x : ℕ). checkOf (subobjectChecks broken (p ∷ ps) ++ c ∷ []) x) q ∙ last-rank broken ps c
+last-rank : (s : List ℕ) (ero n : Bool) (ps : List ℕ) (c : Check) → checkOf (subobjectChecks s ero n ps ++ c ∷ []) (ruleCount * length ps) ≡ c
+last-rank s ero n [] c = refl
+last-rank s ero n (p ∷ ps) c =
+    let q : ruleCount * suc (length ps) ≡ suc (suc (suc (suc (suc (ruleCount * length ps))))) = omega arith in
+    ap (λ (x : ℕ). checkOf (subobjectChecks s ero n (p ∷ ps) ++ c ∷ []) x) q ∙ last-rank s ero n ps c
 
-sub-length : (broken : ℕ → ℕ → Bool) (ps : List ℕ) (c : Check) → length (subobjectChecks broken ps ++ c ∷ []) ≡ 5 * length ps + 1
-sub-length broken [] c = refl
-sub-length broken (p ∷ ps) c =
-    let q = sub-length broken ps c in
+sub-length : (s : List ℕ) (ero n : Bool) (ps : List ℕ) (c : Check) → length (subobjectChecks s ero n ps ++ c ∷ []) ≡ ruleCount * length ps + 1
+sub-length s ero n [] c = refl
+sub-length s ero n (p ∷ ps) c =
+    let q = sub-length s ero n ps c in
     omega arith
 
 module _ (s : List ℕ) (ero : Bool) (session : Session) (pst : ℕ) where
-  pub checks-length : length (checksOf s ero session pst) ≡ 6 + 5 * countOf s
+  pub checks-length : length (checksOf s ero session pst) ≡ suc wholeCount + ruleCount * countOf s
   checks-length =
-      let q = sub-length (brokenAt ero (session .n) s) (placesOf s) (getD (lastChecks ero (session .limit) (countOf s) (placesOf s)) 0 (check 0 0 false)) in
+      let q = sub-length s ero (session .n) (placesOf s) (getD (lastChecks (placesOf s) ero (session .limit) (countOf s)) 0 (check 0 0 false)) in
       omega arith
 
   pub rank-check : (w : Where) → Among (countOf s) w → checkOf (checksOf s ero session pst) (rank (countOf s) w) ≡ checkAt s ero session pst w
   rank-check (whole k) h = go k h
     where
-      go : (k : ℕ) → k < 5 → checkOf (checksOf s ero session pst) k ≡ checkAt s ero session pst (whole k)
+      go : (k : ℕ) → k < wholeCount → checkOf (checksOf s ero session pst) k ≡ checkAt s ero session pst (whole k)
       go zero l = refl
       go (suc zero) l = refl
       go (suc (suc zero)) l = refl
@@ -126,6 +129,6 @@ module _ (s : List ℕ) (ero : Bool) (session : Session) (pst : ℕ) where
       go (suc (suc (suc (suc zero)))) l = refl
       go (suc (suc (suc (suc (suc k))))) l = absurd (omega arith)
   rank-check (inside i k) h =
-      sub-rank (brokenAt ero (session .n) s) (placesOf s) (lastChecks ero (session .limit) (countOf s) (placesOf s)) i k (h .0) (h .1)
+      sub-rank s ero (session .n) (placesOf s) (lastChecks (placesOf s) ero (session .limit) (countOf s)) i k (h .0) (h .1)
   rank-check last h =
-      last-rank (brokenAt ero (session .n) s) (placesOf s) (getD (lastChecks ero (session .limit) (countOf s) (placesOf s)) 0 (check 0 0 false))
+      last-rank s ero (session .n) (placesOf s) (getD (lastChecks (placesOf s) ero (session .limit) (countOf s)) 0 (check 0 0 false))

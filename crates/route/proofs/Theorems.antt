@@ -17,8 +17,9 @@ use Rattle.subobject.specs.Segments.{segmentAt}
 use Rattle.frame.specs.Checks.{Check, check}
 use Rattle.frame.proofs.Checks.{checkOf, First, Found, none-all, all-none, none-first, first-answer, answer-first}
 use Rattle.route.specs.declared.picking.Picked.{Picked}
-use Rattle.route.specs.Routes.{order, brokenBy, brokenAt, checksAt, rule12, checksOf, countOf, judgeOf, segmentOf}
-use Rattle.route.specs.Order.{Where, Among, Before, checkAt, FirstBroken}
+use Rattle.route_walk.specs.Walk.{checksAt}
+use Rattle.route.specs.Routes.{wholeChecks, rule12, checksOf, countOf, judgeOf, segmentOf}
+use Rattle.route.specs.Order.{Where, wholeCount, Among, Before, checkAt, FirstBroken}
 use Rattle.route.proofs.Answer.{accepted-none}
 use Rattle.route.proofs.Order.{rank, rank-within, before-lower, lower-before, Standing, standing, checks-length, rank-check}
 
@@ -83,14 +84,17 @@ module _ (s : List ℕ) (ero : Bool) (session : Session) (pst : ℕ) where
 
 -- The checks of the subobject at a place are the rules 8, 9, 7, 10 and 11 over its head.
 pub rules-inside : (s : List ℕ) (ero n : Bool) (p : ℕ)
-    → (let h = headAt ero s p in
-    checksAt (brokenAt ero n s p) p order
-    ≡ check 8 p (rule8 h) ∷ check 9 p (rule9 h) ∷ check 7 p (rule7 h) ∷ check 10 p (rule10 ero n h) ∷ check 11 p (rule11 h (bitsAt s p h)) ∷ [])
-unfolding brokenAt brokenBy
+    → (let h = headAt s ero p in
+    checksAt s ero n p
+    ≡ check 8 p (rule8 h) ∷ check 9 p (rule9 h) ∷ check 7 p (rule7 h) ∷ check 10 p (rule10 h ero n) ∷ check 11 p (rule11 h (bitsAt s p h)) ∷ [])
 rules-inside s ero n p = refl
 
+-- The checks on the whole are five.
+pub whole-count : (s : List ℕ) (ero : Bool) (session : Session) (pst : ℕ) → length (wholeChecks s ero session pst) ≡ wholeCount
+whole-count s ero session pst = refl
+
 -- "10 and 12 aren't applied" in RRO.
-pub rro-without-10 : (n : Bool) (h : Head) → rule10 false n h ≡ false
+pub rro-without-10 : (n : Bool) (h : Head) → rule10 h false n ≡ false
 unfolding rule10
 rro-without-10 n h = refl
 
@@ -99,7 +103,7 @@ unfolding rule12
 rro-without-12 limit count = refl
 
 -- "In RRO .. both flags read as 0": L and V.
-pub rro-flags : (s : List ℕ) (at : ℕ) → (segmentAt false s at .loose ≡ false) × (segmentAt false s at .verify ≡ false)
+pub rro-flags : (s : List ℕ) (at : ℕ) → (segmentAt s false at .loose ≡ false) × (segmentAt s false at .verify ≡ false)
 unfolding segmentAt headAt headOf
 rro-flags s at = (refl, refl)
 

@@ -9,7 +9,9 @@ use lib.ListN.{getD}
 use Rattle.session.specs.declared.Session.{Session}
 use Rattle.frame.specs.Checks.{Check, check}
 use Rattle.frame.specs.Frames.{placesOf}
-use Rattle.route.specs.Routes.{order, wholeChecks, checksAt, brokenAt, lastChecks, countOf}
+use Rattle.subobject.specs.Rules.{ruleCount}
+use Rattle.route_walk.specs.Walk.{checksAt}
+use Rattle.route.specs.Routes.{wholeChecks, lastChecks, countOf}
 
 -- The k-th check on the whole (4, 5, 6, 14, 13), the k-th check of subobject i (8, 9, 7, 10, 11), or 12; k and i from 0.
 pub data Where : Type 0 where
@@ -17,10 +19,14 @@ pub data Where : Type 0 where
   inside : ℕ → ℕ → Where
   last : Where
 
+-- How many checks there are on the whole.
+abbrev pub wholeCount : ℕ
+wholeCount = 5
+
 -- The checks that a route of n subobjects has.
 abbrev pub Among : ℕ → Where → Type 0
-Among n (whole k) = k < 5
-Among n (inside i k) = (i < n) × (k < 5)
+Among n (whole k) = k < wholeCount
+Among n (inside i k) = (i < n) × (k < ruleCount)
 Among n last = Unit {0}
 
 abbrev pub Before : Where → Where → Type 0
@@ -34,10 +40,10 @@ Before last w = ⊥
 
 -- The check that stands there: its number, its place, and whether it is broken.
 abbrev pub checkAt : List ℕ → Bool → Session → ℕ → Where → Check
-checkAt s ero session pst (whole k) = getD (wholeChecks ero session pst s) k (check 0 0 false)
+checkAt s ero session pst (whole k) = getD (wholeChecks s ero session pst) k (check 0 0 false)
 checkAt s ero session pst (inside i k) =
-    getD (checksAt (brokenAt ero (session .n) s (getD (placesOf s) i 0)) (getD (placesOf s) i 0) order) k (check 0 0 false)
-checkAt s ero session pst last = getD (lastChecks ero (session .limit) (countOf s) (placesOf s)) 0 (check 0 0 false)
+    getD (checksAt s ero (session .n) (getD (placesOf s) i 0)) k (check 0 0 false)
+checkAt s ero session pst last = getD (lastChecks (placesOf s) ero (session .limit) (countOf s)) 0 (check 0 0 false)
 
 -- A rule of this number is broken at this place, and nothing before it in document 01's order is.
 pub record FirstBroken (s : List ℕ) (ero : Bool) (session : Session) (pst number place : ℕ) : Type 0 where

@@ -5,20 +5,18 @@ ghost use Prim.Native.Nat.{_≤_, _<_};
 ghost use lib.Dec.{ltb};
 ghost use lib.ListN.{length};
 ghost use Rattle.frame.specs.Frames.{apartOf};
-ghost use Rattle.route.specs.Routes.{judgeOf, rule13, limitedOf};
-use super::walk::walk;
+ghost use Rattle.objects.specs.Objects.{header};
+ghost use Rattle.route.specs.Parts.{refusalOr, limitedOf};
+ghost use Rattle.route.specs.Routes.{judgeOf, rule13};
 use answers::Verdict;
 use session::Limit;
 use session::Session;
-
-// the setup type of an SRv6 path
-const SRV6_PATH: u64 = 3;
 
 // 13: PST isn't 3 or SRv6 isn't agreed.
 fn not_agreed(agreed: bool, pst: u64) -> bool
     ensures broken { λ r. ⌜ r ≡ rule13 agreed pst ⌝ }
 {
-    !octets::both(pst == SRV6_PATH, agreed)
+    !octets::both(pst == objects::SRV6_SETUP, agreed)
 }
 
 // Whether there are more segments than `most`; not asked in RRO.
@@ -30,8 +28,8 @@ fn past(ero: bool, most: usize, count: usize) -> bool
 
 // 12: more segments than the limit.
 fn limited(s: &[u8], ero: bool, limit: Limit, count: usize) -> Verdict
-    requires { ⌜ (4 ≤ length (now s)) × (length (now s) < 65536) × (apartOf (now s) .whole ≡ true) ⌝ }
-    ensures limited { λ r. ⌜ r ≡ limitedOf ero limit count (now (s .entry)) ⌝ }
+    requires { ⌜ (header ≤ length (now s)) × (length (now s) < 65536) × (apartOf (now s) .whole ≡ true) ⌝ }
+    ensures limited { λ r. ⌜ r ≡ limitedOf (now (s .entry)) ero limit count ⌝ }
 {
     match limit {
         Limit::Free => answers::accepted(count),
@@ -44,21 +42,26 @@ fn limited(s: &[u8], ero: bool, limit: Limit, count: usize) -> Verdict
     }
 }
 
+// Of two answers the first, unless it is an acceptance.
+fn first(a: Verdict, b: Verdict) -> Verdict
+    ensures first { λ r. ⌜ r ≡ refusalOr a b ⌝ }
+{
+    if a.number != 0 { a } else { b }
+}
+
 // The verdict on a route under a session and a setup type.
 pub fn judge(s: &[u8], ero: bool, session: Session, pst: u64) -> Verdict
     ensures judged { λ r. ⌜ r ≡ judgeOf (now (s .entry)) ero session pst ⌝ }
 {
-    let f = frame::framed(s, ero, subobject::SRV6);
+    let f = frame_rules::framed(s, ero, subobject::SRV6);
     if f.number != 0 {
         return f;
     }
     if not_agreed(session.agreed, pst) {
         return answers::refused(answers::NOT_AGREED, 0);
     }
-    let w = walk(s, ero, session.n, f.count);
-    if w.number != 0 {
-        return w;
-    }
+    let w = route_walk::walk(s, ero, session.n, f.count);
     let limit = session.limit;
-    limited(s, ero, limit, f.count)
+    let l = limited(s, ero, limit, f.count);
+    first(w, l)
 }

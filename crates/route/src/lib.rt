@@ -6,7 +6,6 @@
 // Segment i, from 0, is asked for with the same object, session and PST: the same checks, then 15.
 mod judgement;
 mod picking;
-mod walk;
 
 pub use judgement::judge;
 pub use picking::Picked;

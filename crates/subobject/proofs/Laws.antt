@@ -5,19 +5,11 @@ use mathlib.Core.Bool.{Bool, true, false, cond, not, _&&_, _||_}
 use lib.Dec.{eqb}
 use native.Mathlib.Omega.{arith}
 use borrow.Author.Tests.{eq-eqb, ne-eqb, eqb-true, eqb-false, not-true, not-false}
+use Rattle.octets.proofs.Said.{both-true, either-false}
 use Rattle.subobject.specs.declared.head.Head.{Head}
-use Rattle.subobject.specs.Layout.{naiLength, sidLength, structureThere, structureLength, expectedLength}
+use Rattle.subobject.specs.Layout.{noNai, node, adjacency, linkLocal, nodeSize, adjacencySize, linkLocalSize, naiLength}
+use Rattle.subobject.specs.Layout.{structureThere, expectedLength}
 use Rattle.subobject.specs.Rules.{rule7, rule8, rule9, flagF}
-
--- tests joined -------------------------------------------------------------------------------------------------
-
-pub both-true : (a b : Bool) → (a && b) ≡ true → (a ≡ true) × (b ≡ true)
-both-true true b e = (refl, e)
-both-true false b e = absurd (let w : _≡_ {A = ℕ} 0 1 = cc in omega arith)
-
-pub either-false : (a b : Bool) → (a || b) ≡ false → (a ≡ false) × (b ≡ false)
-either-false true b e = absurd (let w : _≡_ {A = ℕ} 0 1 = cc in omega arith)
-either-false false b e = (refl, e)
 
 -- lengths ------------------------------------------------------------------------------------------------------
 
@@ -37,11 +29,11 @@ sound-flag h e =
     eqb-true _ _ (not-false _ (either-false (not (eqb (h .f) (flagF (h .nt)))) _ e .0))
 
 -- The NAI of a known NT that is not 0.
-nai-least : (h : Head) → rule8 h ≡ false → eqb (h .nt) 0 ≡ false → 16 ≤ naiLength (h .nt)
+nai-least : (h : Head) → rule8 h ≡ false → eqb (h .nt) noNai ≡ false → nodeSize ≤ naiLength (h .nt)
 unfolding rule8 naiLength
-nai-least h e z = go (eqb (h .nt) 2) (eqb (h .nt) 4) (eqb (h .nt) 6) (rw z at e)
+nai-least h e z = go (eqb (h .nt) node) (eqb (h .nt) adjacency) (eqb (h .nt) linkLocal) (rw z at e)
   where
-    go : (a b c : Bool) → not (false || (a || (b || c))) ≡ false → 16 ≤ cond a 16 (cond b 32 (cond c 40 0))
+    go : (a b c : Bool) → not (false || (a || (b || c))) ≡ false → nodeSize ≤ cond a nodeSize (cond b adjacencySize (cond c linkLocalSize 0))
     go true b c e = omega arith
     go false true c e = omega arith
     go false false true e = omega arith
@@ -49,9 +41,9 @@ nai-least h e z = go (eqb (h .nt) 2) (eqb (h .nt) 4) (eqb (h .nt) 6) (rw z at e)
 
 pub sound-least : (h : Head) → rule8 h ≡ false → rule9 h ≡ false → rule7 h ≡ false → h .s ≤ 1 → 24 ≤ h .size
 unfolding rule9 expectedLength
-sound-least h e8 e9 e7 b = go (eqb (h .s) 0) refl (eqb (h .nt) 0) refl
+sound-least h e8 e9 e7 b = go (eqb (h .s) 0) refl (eqb (h .nt) noNai) refl
   where
-    go : (z : Bool) → eqb (h .s) 0 ≡ z → (y : Bool) → eqb (h .nt) 0 ≡ y → 24 ≤ h .size
+    go : (z : Bool) → eqb (h .s) 0 ≡ z → (y : Bool) → eqb (h .nt) noNai ≡ y → 24 ≤ h .size
     go true ez y ey = rw (sound-length h e7, ez) (omega arith)
     go false ez true ey =
         let one : h .s ≡ 1 = omega (arith, eqb-false (h .s) 0 ez) in

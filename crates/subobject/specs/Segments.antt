@@ -9,7 +9,8 @@ use Rattle.octets.specs.Octets.{be16, hi, lo, partOf}
 use Rattle.subobject.specs.declared.head.Head.{Head}
 use Rattle.subobject.specs.declared.segment.Outline.{Outline}
 use Rattle.subobject.specs.declared.segment.Segment.{Segment}
-use Rattle.subobject.specs.Layout.{srv6, naiLength, sidLength, expectedLength, sidPlace, naiPlace, structurePlace, headAt}
+use Rattle.subobject.specs.Layout.{srv6Kind, noNai, naiSize, naiLength, behaviourPlace, sidSize, sidLength, bitLengths, expectedLength, sidPlace, naiPlace, structurePlace, headAt}
+use Rattle.subobject.specs.Layout.{worthL, worthNT, worthV, worthT, worthF}
 use Rattle.subobject.specs.Rules.{flagF, hasStructure, sumAt}
 
 -- reading ------------------------------------------------------------------------------------------------------
@@ -21,16 +22,16 @@ segmentBy h s at =
       loose = eqb (h .l) 1;
       verify = eqb (h .v) 1;
       nt = h .nt;
-      behaviour = be16 s (at + 6);
+      behaviour = be16 s (at + behaviourPlace);
       hassid = eqb (h .s) 0;
-      sid = partOf s (sidPlace at) (sidLength (h .s)) 16;
-      nai = partOf s (naiPlace at (h .s)) (naiLength (h .nt)) 40;
+      sid = partOf s (sidPlace at) (sidLength (h .s)) sidSize;
+      nai = partOf s (naiPlace at (h .s)) (naiLength (h .nt)) naiSize;
       structured = hasStructure h;
-      structure = partOf s (structurePlace at (h .nt)) (cond (hasStructure h) 4 0) 4;
+      structure = partOf s (structurePlace at (h .nt)) (cond (hasStructure h) bitLengths 0) bitLengths;
     }
 
-unfoldable pub segmentAt : Bool → List ℕ → ℕ → Segment
-segmentAt ero s at = segmentBy (headAt ero s at) s at
+unfoldable pub segmentAt : List ℕ → Bool → ℕ → Segment
+segmentAt s ero at = segmentBy (headAt s ero at) s at
 
 -- The segment that comes with a refusal.
 abbrev pub noSegment : Segment
@@ -38,13 +39,13 @@ noSegment =
     record {
       loose = false;
       verify = false;
-      nt = 0;
+      nt = noNai;
       behaviour = 0;
       hassid = false;
-      sid = replicate 16 0;
-      nai = replicate 40 0;
+      sid = replicate sidSize 0;
+      nai = replicate naiSize 0;
       structured = false;
-      structure = replicate 4 0;
+      structure = replicate bitLengths 0;
     }
 
 -- writing ------------------------------------------------------------------------------------------------------
@@ -83,7 +84,7 @@ segmentWith o sid nai structure =
 abbrev pub headOfOutline : Outline → Head
 headOfOutline o =
     record {
-      kind = srv6;
+      kind = srv6Kind;
       size = expectedLength (o .nt) (bit (not (o .hassid))) (bit (o .structured));
       nt = o .nt;
       s = bit (not (o .hassid));
@@ -99,11 +100,16 @@ headOfSegment g = headOfOutline (outlineOf g)
 -- The first eight octets. "Padding, reserved octets and unassigned bits are written as 0."
 unfoldable pub fixedOctets : Head → ℕ → List ℕ
 fixedOctets h behaviour =
-    (h .l * 128 + h .kind) ∷ h .size ∷ (h .nt * 16) ∷ (h .v * 8 + h .t * 4 + h .f * 2 + h .s) ∷ 0 ∷ 0 ∷ hi behaviour ∷ lo behaviour ∷ []
+    (h .l * worthL + h .kind)
+    ∷ h .size
+    ∷ (h .nt * worthNT)
+    ∷ (h .v * worthV + h .t * worthT + h .f * worthF + h .s)
+    ∷ 0 ∷ 0
+    ∷ hi behaviour ∷ lo behaviour ∷ []
 
 -- "SID structure, 8: four bit lengths, 3 reserved, 1 flags."
 abbrev pub structureOctets : List ℕ → List ℕ
-structureOctets bits = take 4 bits ++ 0 ∷ 0 ∷ 0 ∷ 0 ∷ []
+structureOctets bits = take bitLengths bits ++ 0 ∷ 0 ∷ 0 ∷ 0 ∷ []
 
 -- The octets of a segment: "SID, 16, if S is 0", NAI, "SID structure, 8, if T is 1 and S is 0".
 unfoldable pub subobjectOf : Segment → List ℕ

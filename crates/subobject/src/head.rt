@@ -3,7 +3,8 @@ ghost use mathlib.Core.Path.{_≡_};
 ghost use mathlib.Core.Bool.{cond};
 ghost use Prim.Native.Nat.{_+_, _≤_, _<_};
 ghost use lib.ListN.{length};
-ghost use Rattle.subobject.specs.Layout.{headAt, kindOf};
+ghost use Rattle.subobject.specs.Layout.{headAt, kindOf, longest};
+ghost use Rattle.subobject.specs.Rules.{hasStructure};
 ghost use Rattle.subobject.specs.Segments.{headOfOutline};
 use super::parts;
 use super::segment::Outline;
@@ -27,10 +28,10 @@ fn bit(b: bool) -> usize
 }
 
 // The type in a first octet: in an RRO all 8 bits.
-pub fn kind(ero: bool, x: usize) -> usize
-    ensures kind { λ r. ⌜ r ≡ kindOf ero x ⌝ }
+pub fn kind(x: usize, ero: bool) -> usize
+    ensures kind { λ r. ⌜ r ≡ kindOf x ero ⌝ }
 {
-    if ero { x % 128 } else { x }
+    if ero { x % parts::WORTH_L } else { x }
 }
 
 // A flag that an RRO ignores.
@@ -43,7 +44,7 @@ fn only(ero: bool, x: usize) -> usize
 // The head of the subobject at `at`.
 pub fn head_at(s: &[u8], at: usize, ero: bool) -> Head
     requires { ⌜ at + 4 ≤ length (now s) ⌝ }
-    ensures read { λ r. ⌜ r ≡ headAt ero (now (s .entry)) at ⌝ }
+    ensures read { λ r. ⌜ r ≡ headAt (now (s .entry)) ero at ⌝ }
     ensures small { λ r. ⌜ (r .size < 256) × (r .nt < 16) ⌝ }
 {
     let first = octets::wide(s[at]);
@@ -51,21 +52,21 @@ pub fn head_at(s: &[u8], at: usize, ero: bool) -> Head
     let high = octets::wide(s[at + 2]);
     let low = octets::wide(s[at + 3]);
     Head {
-        kind: kind(ero, first),
+        kind: kind(first, ero),
         size: size,
-        nt: high / 16,
+        nt: high / parts::WORTH_NT,
         s: low % 2,
-        f: low / 2 % 2,
-        t: low / 4 % 2,
-        v: only(ero, low / 8 % 2),
-        l: only(ero, first / 128),
+        f: low / parts::WORTH_F % 2,
+        t: low / parts::WORTH_T % 2,
+        v: only(ero, low / parts::WORTH_V % 2),
+        l: only(ero, first / parts::WORTH_L),
     }
 }
 
 // The head that a segment is written with: F follows from NT, the length is the expected one.
 pub fn head_of(o: Outline) -> Head
     ensures head { λ r. ⌜ r ≡ headOfOutline o ⌝ }
-    ensures bits { λ r. ⌜ (r .size ≤ 72) × (r .nt < 256) × (r .s ≤ 1) × (r .f ≤ 1) × (r .t ≤ 1) × (r .v ≤ 1) × (r .l ≤ 1) ⌝ }
+    ensures bits { λ r. ⌜ (r .size ≤ longest) × (r .nt < 256) × (r .s ≤ 1) × (r .f ≤ 1) × (r .t ≤ 1) × (r .v ≤ 1) × (r .l ≤ 1) ⌝ }
 {
     let nt = octets::wide(o.nt);
     let s = bit(!o.hassid);
@@ -80,4 +81,11 @@ pub fn head_of(o: Outline) -> Head
         v: bit(o.verify),
         l: bit(o.loose),
     }
+}
+
+// Whether a SID structure is there.
+pub fn structured(h: Head) -> bool
+    ensures structured { λ r. ⌜ r ≡ hasStructure h ⌝ }
+{
+    parts::structure_there(h.s, h.t)
 }

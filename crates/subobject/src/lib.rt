@@ -6,34 +6,37 @@
 //          are V, T, F, S, with S lowest            then  SID structure, 8, if T is 1 and S is 0
 //   4-5    reserved
 //
-// Its rules refuse by 8, 9, 7, 10 and 11. In an RRO all 8 bits of the first octet are the type, V is ignored, and 10 isn't applied.
+// In an RRO all 8 bits of the first octet are the type, and V is ignored. Its rules stand in specs/Rules, by number.
 mod head;
 mod parts;
-mod rule;
 mod segment;
 
 pub use head::Head;
 pub use head::head_at;
 pub use head::head_of;
 pub use head::kind;
+pub use head::structured;
 pub use parts::ADJACENCY;
+pub use parts::ADJACENCY_LENGTH;
+pub use parts::BEHAVIOUR_PLACE;
+pub use parts::BIT_LENGTHS;
 pub use parts::FIXED_LENGTH;
 pub use parts::LINK_LOCAL;
 pub use parts::MOST_BITS;
+pub use parts::NAI_LENGTH;
 pub use parts::NO_NAI;
 pub use parts::NODE;
+pub use parts::NODE_LENGTH;
 pub use parts::SID_LENGTH;
 pub use parts::SRV6;
 pub use parts::STRUCTURE_LENGTH;
+pub use parts::WORTH_F;
+pub use parts::WORTH_L;
+pub use parts::WORTH_NT;
+pub use parts::WORTH_T;
+pub use parts::WORTH_V;
 pub use parts::expected;
 pub use parts::nai_length;
-pub use rule::eight;
-pub use rule::eleven;
-pub use rule::nine;
-pub use rule::seven;
-pub use rule::structured;
-pub use rule::sum_at;
-pub use rule::ten;
 pub use segment::Outline;
 pub use segment::Segment;
 pub use segment::outline_of;

@@ -1,7 +1,7 @@
 // The parts of a subobject, and the length that is expected of it.
 ghost use mathlib.Core.Path.{_≡_};
 ghost use Prim.Native.Nat.{_+_, _≤_};
-ghost use Rattle.subobject.specs.Layout.{fixedLength, sidSize, structureSize, naiLength, structureThere, expectedLength};
+ghost use Rattle.subobject.specs.Layout.{fixedLength, sidSize, structureSize, naiSize, naiLength, structureThere, expectedLength, longest};
 
 // the type of an SRv6 subobject
 pub const SRV6: usize = 40;
@@ -15,26 +15,43 @@ pub const ADJACENCY: usize = 4;
 
 pub const LINK_LOCAL: usize = 6;
 
-// what stands in every subobject, the SID, the SID structure
+// the NAI of a node, an adjacency, a link-local adjacency, which is the longest
+pub const NODE_LENGTH: usize = 16;
+
+pub const ADJACENCY_LENGTH: usize = 32;
+
+pub const LINK_LOCAL_LENGTH: usize = 40;
+
+pub const NAI_LENGTH: usize = 40;
+
+// what stands in every subobject, and in it the endpoint behaviour; the SID; the SID structure and its four bit lengths
 pub const FIXED_LENGTH: usize = 8;
+
+pub const BEHAVIOUR_PLACE: usize = 6;
 
 pub const SID_LENGTH: usize = 16;
 
 pub const STRUCTURE_LENGTH: usize = 8;
 
-// the NAI of a node, an adjacency, a link-local adjacency
-const NODE_LENGTH: usize = 16;
-
-const ADJACENCY_LENGTH: usize = 32;
-
-const LINK_LOCAL_LENGTH: usize = 40;
+pub const BIT_LENGTHS: usize = 4;
 
 // what four bit lengths may sum to
 pub const MOST_BITS: usize = 128;
 
+// what the lowest bits of L, NT, V, T and F are worth in their octets; S is the lowest bit of its own
+pub const WORTH_L: usize = 128;
+
+pub const WORTH_NT: usize = 16;
+
+pub const WORTH_V: usize = 8;
+
+pub const WORTH_T: usize = 4;
+
+pub const WORTH_F: usize = 2;
+
 // The octets of the NAI.
 pub fn nai_length(nt: usize) -> usize
-    ensures length { λ r. ⌜ (r ≡ naiLength nt) × (r ≤ 40) ⌝ }
+    ensures length { λ r. ⌜ (r ≡ naiLength nt) × (r ≤ naiSize) ⌝ }
 {
     if nt == NODE {
         return NODE_LENGTH;
@@ -57,7 +74,7 @@ pub fn structure_there(s: usize, t: usize) -> bool
 
 // The expected lengths, case by case (document 000, 5.2.1): S is 1;
 fn without_sid(nt: usize) -> usize
-    ensures length { λ r. ⌜ (r ≡ fixedLength + naiLength nt) × (r ≤ 72) ⌝ }
+    ensures length { λ r. ⌜ (r ≡ fixedLength + naiLength nt) × (r ≤ longest) ⌝ }
 {
     if nt == NODE {
         return 24;
@@ -73,7 +90,7 @@ fn without_sid(nt: usize) -> usize
 
 // S is 0 without a structure;
 fn with_sid(nt: usize) -> usize
-    ensures length { λ r. ⌜ (r ≡ fixedLength + sidSize + naiLength nt) × (r ≤ 72) ⌝ }
+    ensures length { λ r. ⌜ (r ≡ fixedLength + sidSize + naiLength nt) × (r ≤ longest) ⌝ }
 {
     if nt == NODE {
         return 40;
@@ -89,7 +106,7 @@ fn with_sid(nt: usize) -> usize
 
 // S is 0 with a structure.
 fn with_structure(nt: usize) -> usize
-    ensures length { λ r. ⌜ (r ≡ fixedLength + sidSize + naiLength nt + structureSize) × (r ≤ 72) ⌝ }
+    ensures length { λ r. ⌜ (r ≡ fixedLength + sidSize + naiLength nt + structureSize) × (r ≤ longest) ⌝ }
 {
     if nt == NODE {
         return 48;
@@ -105,7 +122,7 @@ fn with_structure(nt: usize) -> usize
 
 // The expected length for NT, S and T.
 pub fn expected(nt: usize, s: usize, t: usize) -> usize
-    ensures length { λ r. ⌜ (r ≡ expectedLength nt s t) × (r ≤ 72) ⌝ }
+    ensures length { λ r. ⌜ (r ≡ expectedLength nt s t) × (r ≤ longest) ⌝ }
 {
     if structure_there(s, t) {
         return with_structure(nt);

@@ -2,8 +2,6 @@
 // (document 01, "Writing a route"). The writer's small state goes in by value and each call hands it
 // back, unchanged on refusal; a refusal changes no octet. Begin refuses by 16, add by 8, 9, 7, 11
 // and 16, finish by 16 and 5; the place in these answers is 0.
-mod place;
-mod refusal;
 mod state;
 mod writing;
 

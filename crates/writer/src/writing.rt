@@ -2,38 +2,32 @@
 // and a length of 2 octets that counts the 4 octets of the header.
 ghost use mathlib.Core.Path.{_≡_};
 ghost use Rattle.subobject.specs.Segments.{segmentWith};
-ghost use Rattle.writer_layout.specs.Held.{Held};
+ghost use Rattle.writer_spare.specs.Held.{Held};
 ghost use Rattle.writer.specs.Writing.{beginAnswer, beginBuffer, addAnswer, addBuffer, finishAnswer, finishBuffer};
-use super::place;
-use super::refusal;
 use super::state;
 use super::state::Writer;
 use super::state::Written;
 use subobject::Outline;
 use subobject::Segment;
 
-// ERO is class 7, RRO class 8, both type 1.
-const ERO_CLASS: usize = 7;
-
-const RRO_CLASS: usize = 8;
-
-const TYPE_OCTET: u8 = 16;
+// Type 1 in the high 4 bits; the low bits are 0.
+const TYPE_OCTET: u8 = (objects::OBJECT_TYPE * objects::TYPE_WORTH) as u8;
 
 // Writes the header with length 4.
 pub fn begin(buf: &mut [u8], writer: Writer, ero: bool) -> Written
     ensures answer { λ r. ⌜ r ≡ beginAnswer (now (buf .entry)) writer ero ⌝ }
     ensures buffer { λ _. ⌜ now (buf .exit) ≡ beginBuffer (now (buf .entry)) writer ero ⌝ }
 {
-    if buf.len() < place::HEADER_LENGTH {
+    if buf.len() < objects::HEADER {
         return state::refuse(answers::BUFFER_FULL, writer);
     }
-    buf[0] = octets::pick(ero, ERO_CLASS, RRO_CLASS) as u8;
-    buf[1] = TYPE_OCTET;
+    buf[objects::CLASS_PLACE] = octets::pick(ero, objects::ERO_CLASS, objects::RRO_CLASS) as u8;
+    buf[objects::TYPE_PLACE] = TYPE_OCTET;
     buf[2] = 0;
-    buf[3] = place::HEADER_LENGTH as u8;
+    buf[3] = objects::HEADER as u8;
     state::accept(Writer {
         ero: ero,
-        at: place::HEADER_LENGTH,
+        at: objects::HEADER,
     })
 }
 
@@ -52,7 +46,7 @@ pub fn add_parts(
     ensures buffer { λ _. ⌜ now (buf .exit) ≡ addBuffer (now (buf .entry)) writer (segmentWith o (now (sid .entry)) (now (nai .entry)) (now (bits .entry))) ⌝ }
 {
     let h = subobject::head_of(o);
-    let number = refusal::adding(buf.len(), writer, h, o, sid, nai, bits);
+    let number = writer_rules::adding(buf.len(), writer.ero, writer.at, h, o, sid, nai, bits);
     if number != 0 {
         return state::refuse(number, writer);
     }
@@ -87,7 +81,7 @@ pub fn finish(buf: &mut [u8], writer: Writer) -> Written
     ensures answer { λ r. ⌜ r ≡ finishAnswer (now (buf .entry)) writer ⌝ }
     ensures buffer { λ _. ⌜ now (buf .exit) ≡ finishBuffer (now (buf .entry)) writer ⌝ }
 {
-    let number = refusal::finishing(buf.len(), writer);
+    let number = writer_rules::finishing(buf.len(), writer.at);
     if number != 0 {
         return state::refuse(number, writer);
     }

@@ -12,14 +12,14 @@ use lib.Seq.{drop-cons, drop-drop, length-take-le, take-all}
 use native.Mathlib.Omega.{arith}
 use Rattle.octets.specs.Octets.{part, over, placed, partOf}
 use Rattle.octets.proofs.Laws.{over-at}
+use Rattle.octets.proofs.Said.{cond-most}
 use Rattle.subobject.specs.declared.segment.Segment.{Segment}
 use Rattle.subobject.specs.declared.head.Head.{Head}
 use Rattle.subobject.specs.Layout.{naiLength, sidLength, structureLength, expectedLength, structureThere}
 use Rattle.subobject.specs.Rules.{rule8, hasStructure, flagF}
 use Rattle.subobject.specs.Segments.{headOfSegment, fixedOctets, structureOctets, subobjectOf, bit}
-use Rattle.writer_layout.specs.Held.{Held}
+use Rattle.writer_spare.specs.Held.{Held}
 use Rattle.writer_layout.specs.Small.{Small}
-use Rattle.writer_layout.specs.Spare.{zeros, tidyOf}
 
 -- Four octets one by one.
 pub four : (l : List ℕ) → length l ≡ 4 → l ≡ getD l 0 0 ∷ getD l 1 0 ∷ getD l 2 0 ∷ getD l 3 0 ∷ []
@@ -100,10 +100,6 @@ nt-known g e = go (g .nt) (known (eqb (g .nt) 0) (eqb (g .nt) 2) (eqb (g .nt) 4)
         ⊎-elim (λ h. omega (arith, eqb-true n 0 h))
         (λ k. ⊎-elim (λ h. omega (arith, eqb-true n 2 h)) (λ k. ⊎-elim (λ h. omega (arith, eqb-true n 4 h)) (λ h. omega (arith, eqb-true n 6 h)) k) k) k
 
-cond-most : (b : Bool) (n : ℕ) → cond b n 0 ≤ n
-cond-most true n = omega arith
-cond-most false n = omega arith
-
 bit-most : (b : Bool) → bit b ≤ 1
 bit-most true = omega arith
 bit-most false = omega arith
@@ -146,16 +142,6 @@ written-subobject g h last b w x y z k n there hg eh el ek en et hb ew ex ey ez 
     (omega (arith, hg .nai, nai-most (h .nt)))
     (omega (arith, room g h (length b) hg eh hb))
     ∙ rw (l, ek', en', et, eh)
-
--- Octets from a place on that are all 0, one by one.
-pub zeros-more : (clear : Bool) (s : List ℕ) (i : ℕ) → i < length s
-    → ((clear && eqb (getD s i 0) 0) && zeros (drop (i + 1) s)) ≡ (clear && zeros (drop i s))
-zeros-more true s i h = rw (add-one i, drop-cons s i 0 h)
-zeros-more false s i h = refl
-
-pub zeros-end : (clear : Bool) (s : List ℕ) (i : ℕ) → length s ≤ i → clear ≡ (clear && zeros (drop i s))
-zeros-end true s i h = rw (drop-of-length-le s h)
-zeros-end false s i h = refl
 
 -- A run of no octets.
 pub placed-none : (b : List ℕ) (at : ℕ) → placed b at [] ≡ b
@@ -213,84 +199,3 @@ laid-nai-whole nt at b l x h e q = q ∙ rw (e, take-all 40 l (omega arith))
 
 pub laid-nai-none : (nt at : ℕ) (b l : List ℕ) → naiLength nt ≡ 0 → b ≡ placed b at (take (naiLength nt) l)
 laid-nai-none nt at b l e = sym (rw e (placed-none b at))
-
--- Octets that are all 0, run by run.
-pub zeros-split : (n : ℕ) (l : List ℕ) → (zeros (take n l) && zeros (drop n l)) ≡ zeros l
-zeros-split ℕ.zero l = refl
-zeros-split (ℕ.suc n) [] = refl
-zeros-split (ℕ.suc n) (x ∷ l) = go (eqb x 0) (zeros-split n l)
-  where
-    go : (b : Bool) → (zeros (take n l) && zeros (drop n l)) ≡ zeros l → ((b && zeros (take n l)) && zeros (drop n l)) ≡ (b && zeros l)
-    go true e = e
-    go false e = refl
-
-and-true : (a : Bool) → (a && true) ≡ a
-and-true true = refl
-and-true false = refl
-
-swap : (a b c : Bool) → (a && (b && c)) ≡ (c && (b && a))
-swap true true true = refl
-swap true true false = refl
-swap true false true = refl
-swap true false false = refl
-swap false true true = refl
-swap false true false = refl
-swap false false true = refl
-swap false false false = refl
-
--- The octets behind an NAI of 40 octets, 32, 16 or none, in runs of 16, 16 and 8.
-module _ (s : List ℕ) (h : length s ≡ 40) where
-  last-run : zeros (drop 32 s) ≡ zeros (take 8 (drop 32 s))
-  last-run = rw (take-all 8 (drop 32 s) (omega (arith, length-drop 32 s)))
-
-  last-runs : zeros (drop 16 s) ≡ (zeros (take 8 (drop 32 s)) && (zeros (take 16 (drop 16 s)) && true))
-  last-runs = sym (zeros-split 16 (drop 16 s)) ∙ rw (drop-drop 16 16 s, last-run) (swap true (zeros (take 16 (drop 16 s))) (zeros (take 8 (drop 32 s))))
-
-  all-runs : zeros s ≡ (zeros (take 8 (drop 32 s)) && (zeros (take 16 (drop 16 s)) && zeros (take 16 s)))
-  all-runs =
-      sym (zeros-split 16 s) ∙ ap (λ (x : Bool). zeros (take 16 s) && x) (sym (zeros-split 16 (drop 16 s)) ∙ rw (drop-drop 16 16 s, last-run))
-      ∙ swap (zeros (take 16 s)) (zeros (take 16 (drop 16 s))) (zeros (take 8 (drop 32 s)))
-
-  pub nai-runs : (nt : ℕ) → zeros (drop (naiLength nt) s)
-      ≡ cond (eqb nt 6) true (zeros (take 8 (drop 32 s)) && cond (eqb nt 4) true (zeros (take 16 (drop 16 s)) && cond (eqb nt 2) true (zeros (take 16 s))))
-  unfolding naiLength
-  nai-runs nt = go (eqb nt 2) (eqb nt 4) (eqb nt 6) (eqb-true nt 2) (eqb-true nt 4) (eqb-true nt 6)
-    where
-      go : (a b c : Bool) → (a ≡ true → nt ≡ 2) → (b ≡ true → nt ≡ 4) → (c ≡ true → nt ≡ 6) → zeros (drop (cond a 16 (cond b 32 (cond c 40 0))) s)
-          ≡ cond c true (zeros (take 8 (drop 32 s)) && cond b true (zeros (take 16 (drop 16 s)) && cond a true (zeros (take 16 s))))
-      go true true c ea eb ec = absurd (let x = ea refl in let y = eb refl in omega arith)
-      go true false true ea eb ec = absurd (let x = ea refl in let y = ec refl in omega arith)
-      go true false false ea eb ec = last-runs
-      go false true true ea eb ec = absurd (let x = eb refl in let y = ec refl in omega arith)
-      go false true false ea eb ec = last-run ∙ sym (and-true (zeros (take 8 (drop 32 s))))
-      go false false true ea eb ec = let q : length s ≤ 40 = omega arith in rw (drop-of-length-le s q)
-      go false false false ea eb ec = all-runs
-
--- The octets of a part that is there or not.
-pub zeros-there : (b : Bool) (l : List ℕ) (n : ℕ) → length l ≡ n → zeros (drop (cond b n 0) l) ≡ (b || zeros l)
-zeros-there true l n e = let q : length l ≤ n = omega arith in rw (drop-of-length-le l q)
-zeros-there false l n e = refl
-
--- What `if !..` learns of a test.
-pub said-no : (r b : Bool) → r ≡ b → not r ≡ true → b ≡ false
-said-no true b e h = absurd (let z : _≡_ {A = ℕ} 0 1 = cc in omega arith)
-said-no false b e h = sym e
-
-pub said-yes : (r b : Bool) → r ≡ b → not r ≡ false → b ≡ true
-said-yes true b e h = sym e
-said-yes false b e h = absurd (let z : _≡_ {A = ℕ} 0 1 = cc in omega arith)
-
--- A segment whose SID, structure and NAI are looked at in this order.
-pub tidy-parts : (g : Segment) → Held g
-    → tidyOf g ≡ cond (g .hassid || zeros (g .sid)) (cond (g .structured || zeros (g .structure)) (zeros (drop (naiLength (g .nt)) (g .nai))) false) false
-unfolding tidyOf
-tidy-parts g h =
-    rw (zeros-there (g .hassid) (g .sid) 16 (h .sid), zeros-there (g .structured) (g .structure) 4 (h .structure))
-    (go (g .hassid || zeros (g .sid)) (zeros (drop (naiLength (g .nt)) (g .nai))) (g .structured || zeros (g .structure)))
-  where
-    go : (a b c : Bool) → (a && (b && c)) ≡ cond a (cond c b false) false
-    go true true true = refl
-    go true true false = refl
-    go true false true = refl
-    go true false false = refl
-    go false b c = refl

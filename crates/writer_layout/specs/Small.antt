@@ -1,4 +1,4 @@
--- A head whose numbers fit the bits that they are written in.
+-- A head whose numbers fit the bits that they are written in. No promise rests on it: an inner function asks for it, and proofs show it.
 use Prim.Native.Nat.{ℕ, _≤_, _<_}
 use Rattle.subobject.specs.declared.head.Head.{Head}
 

@@ -1,6 +1,6 @@
 use mathlib.Core.Path.{_≡_, sym, _∙_}
 use native.Mathlib.Omega.{arith}
-use Rattle.route.proofs.Answer.{frame-stops, frame-none, frame-count, frame-bounds, agreed-stops, walk-stops, limit-ends}
+use Rattle.route.proofs.Answer.{frame-stops, frame-none, frame-count, frame-bounds, agreed-stops, walk-then-limit}
 use borrow.Author.Needs.{needs}
 use Rattle.route.proofs.judgement.judge.Statement.{statement}
 use Rattle.route.proofs.judgement.judge.Tie as tie
@@ -38,37 +38,28 @@ walk-requires c κs =
     (c .before .before .if1 .left) .0) (omega (arith, before4 .before .shared-slice-known .given 2))
     (omega (arith, before4 .before .shared-slice-known .given 3))
 
+limited-requires : tie.Need-limited-requires
+limited-requires c κs =
+    let before5 = c .before .before .before .before .before in
+    let args = before5 .before .before .args in
+    frame-bounds (args .ero) (args .s .now)
+    (frame-none (args .s .now) (args .ero) (args .session) (args .pst) _ (before5 .framed .ensures)
+    (c .before .before .before .if1 .left) .0) (omega (arith, before5 .before .shared-slice-known .given 2))
+    (omega (arith, before5 .before .shared-slice-known .given 3))
+
+first-requires : tie.Need-first-requires
+first-requires c κs = search needs
+
 returns-3 : tie.Need-returns-3
 returns-3 c =
     let before4 = c .before .before .before .before in
+    let framed = before4 .before .before .before .framed .ensures in
     let args = before4 .before .before .before .before .before .args in
-    walk-stops (args .s .now) (args .ero) (args .session) (args .pst)
-    (frame-none (args .s .now) (args .ero) (args .session) (args .pst) _
-    (before4 .before .before .before .framed .ensures) (before4 .before .if1 .left)) _ _
+    let passed = before4 .before .if1 .left in
+    walk-then-limit (args .s .now) (args .ero) (args .session) (args .pst)
+    (frame-none (args .s .now) (args .ero) (args .session) (args .pst) _ framed passed) _ _ _ _
     (sym (before4 .not-agreed .ensures) ∙ c .before .before .before .if2 .left) (c .before .before .walk .ensures)
-    (c .if3 .taken)
-
-limited-requires : tie.Need-limited-requires
-limited-requires c κs =
-    let before8 = c .before .before .before .before .before .before .before .before in
-    let args = before8 .before .args in
-    frame-bounds (args .ero) (args .s .now)
-    (frame-none (args .s .now) (args .ero) (args .session) (args .pst) _
-    (c .before .before .before .before .before .before .before .framed .ensures)
-    (c .before .before .before .before .before .if1 .left) .0) (omega (arith, before8 .shared-slice-known .given 2))
-    (omega (arith, before8 .shared-slice-known .given 3))
-
-returns-4 : tie.Need-returns-4
-returns-4 c =
-    let before5 = c .before .before .before .before .before in
-    let args = before5 .before .before .before .before .before .args in
-    limit-ends (args .s .now) (args .ero) (args .session) (args .pst)
-    (frame-none (args .s .now) (args .ero) (args .session) (args .pst) _
-    (before5 .before .before .before .framed .ensures) (before5 .before .if1 .left)) _ _ _
-    (sym (before5 .not-agreed .ensures) ∙ c .before .before .before .before .if2 .left)
-    (c .before .before .before .walk .ensures) (c .before .if3 .left)
-    (frame-count (args .s .now) (args .ero) (args .session) (args .pst) _
-    (before5 .before .before .before .framed .ensures) (before5 .before .if1 .left)) (c .limited .ensures)
+    (frame-count (args .s .now) (args .ero) (args .session) (args .pst) _ framed passed) (c .before .limited .ensures) (c .first .ensures)
 
 pub judge-spec : {M : Type 1} → statement M
 judge-spec =
@@ -80,6 +71,6 @@ judge-spec =
     refused-requires
     returns-2
     walk-requires
-    returns-3
     limited-requires
-    returns-4)
+    first-requires
+    returns-3)

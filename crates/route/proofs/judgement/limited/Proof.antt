@@ -1,6 +1,7 @@
 use mathlib.Core.Path.{_≡_, sym, _∙_}
-use Rattle.route.specs.Routes.{limitedOf, rule12}
-use Rattle.route.proofs.Laws.{never-past}
+use Rattle.route.specs.Parts.{limitedOf}
+use Rattle.route.specs.Routes.{rule12}
+use Rattle.route.proofs.Answer.{never-past}
 use borrow.Author.Needs.{needs}
 use Rattle.route.proofs.judgement.limited.Statement.{statement}
 use Rattle.route.proofs.judgement.limited.Tie as tie

@@ -1,3 +1,4 @@
+-- An acceptance says that the place is good and the segment fits (`taken`), so that the rest of the buffer can be lent; `placed-back` puts it back.
 use Prim.Native.Nat.{ℕ, _+_}
 use mathlib.Core.Path.{_≡_, sym, _∙_, ap}
 use lib.ListN.{length, length-drop}
@@ -7,15 +8,18 @@ use Rattle.octets.proofs.Laws.{placed-back, rest-lent}
 use Rattle.subobject.specs.declared.head.Head.{Head}
 use Rattle.subobject.specs.Rules.{rule8}
 use Rattle.subobject.specs.Segments.{headOfSegment, segmentWith, subobjectOf}
-use Rattle.writer.specs.Writing.{addNumber, addAnswer, addBuffer, acceptedAs}
+use Rattle.writer_rules.specs.Refusals.{addNumber}
+use Rattle.writer_rules.proofs.Laws.{Taken, taken, size-subobject}
+use Rattle.writer.specs.Writing.{addAnswer, addBuffer, acceptedAs}
 use Rattle.writer.specs.declared.state.Writer.{Writer}
-use Rattle.writer.proofs.Laws.{Taken, taken, size-subobject, answered-refused, answered-accepted, buffer-refused, buffer-accepted}
+use Rattle.writer.proofs.Laws.{answered-refused, answered-accepted, buffer-refused, buffer-accepted}
 use Rattle.writer.proofs.writing.add_parts.Statement.{statement}
 use Rattle.writer.proofs.writing.add_parts.Tie as tie
 
 free : (c : tie.Else1)
     → addNumber (length (c .before .before .before .before .before .before .before .args .buf .now))
-    (c .before .before .before .before .before .before .before .args .writer)
+    (c .before .before .before .before .before .before .before .args .writer .ero)
+    (c .before .before .before .before .before .before .before .args .writer .at)
     (segmentWith (c .before .before .before .before .before .before .before .args .o)
     (c .before .before .before .before .before .before .before .args .sid .now)
     (c .before .before .before .before .before .before .before .args .nai .now)
@@ -25,14 +29,15 @@ free c = sym (c .before .adding .ensures) ∙ c .if1 .left
 
 fits : (c : tie.Else1)
     → Taken (length (c .before .before .before .before .before .before .before .args .buf .now))
-    (c .before .before .before .before .before .before .before .args .writer)
+    (c .before .before .before .before .before .before .before .args .writer .ero)
+    (c .before .before .before .before .before .before .before .args .writer .at)
     (segmentWith (c .before .before .before .before .before .before .before .args .o)
     (c .before .before .before .before .before .before .before .args .sid .now)
     (c .before .before .before .before .before .before .before .args .nai .now)
     (c .before .before .before .before .before .before .before .args .bits .now))
 fits c =
     let args = c .before .before .before .before .before .before .before .args in
-    taken (length (args .buf .now)) (args .writer)
+    taken (length (args .buf .now)) (args .writer .ero) (args .writer .at)
     (segmentWith (args .o) (args .sid .now) (args .nai .now) (args .bits .now)) (free c)
 
 head : (c : tie.After-head-of)

@@ -1,17 +1,19 @@
 use mathlib.Core.Path.{_≡_, refl, sym, _∙_}
 use lib.ListN.{length, length-set}
 use native.Mathlib.Omega.{arith}
-use Rattle.writer.specs.Writing.{finishNumber, finishAnswer, finishBuffer}
-use Rattle.writer.proofs.Laws.{Done, done, answered-refused, answered-accepted, buffer-refused, buffer-accepted, length-stored}
+use Rattle.writer_rules.specs.Refusals.{finishNumber}
+use Rattle.writer_rules.proofs.Laws.{Done, done}
+use Rattle.writer.specs.Writing.{finishAnswer, finishBuffer}
+use Rattle.writer.proofs.Laws.{answered-refused, answered-accepted, buffer-refused, buffer-accepted, length-stored}
 use borrow.Author.Needs.{needs}
 use Rattle.writer.proofs.writing.finish.Statement.{statement}
 use Rattle.writer.proofs.writing.finish.Tie as tie
 
-free : (c : tie.Else1) → finishNumber (length (c .before .before .before .args .buf .now)) (c .before .before .before .args .writer) ≡ 0
+free : (c : tie.Else1) → finishNumber (length (c .before .before .before .args .buf .now)) (c .before .before .before .args .writer .at) ≡ 0
 free c = sym (c .before .finishing .ensures) ∙ c .if1 .left
 
-fits : (c : tie.Else1) → Done (length (c .before .before .before .args .buf .now)) (c .before .before .before .args .writer)
-fits c = done (length (c .before .before .before .args .buf .now)) (c .before .before .before .args .writer) (free c)
+fits : (c : tie.Else1) → Done (length (c .before .before .before .args .buf .now)) (c .before .before .before .args .writer .at)
+fits c = done (length (c .before .before .before .args .buf .now)) (c .before .before .before .args .writer .at) (free c)
 
 finishing-requires : tie.Need-finishing-requires
 finishing-requires c κs = search needs

@@ -1,3 +1,4 @@
+-- Each number fits its octet because the head is `Small`; eight stores are the run of eight octets (`sets-eq`).
 use Rattle.subobject.specs.Segments.{fixedOctets}
 use Rattle.octets.specs.Octets.{over}
 use lib.Seq.{sets-eq, length-sets}

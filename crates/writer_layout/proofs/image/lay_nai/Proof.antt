@@ -1,3 +1,4 @@
+-- By NT: the octets laid are `naiLength nt` of them, as many as fit; without an NAI nothing is laid and nothing changes.
 use Prim.Native.Nat.{ℕ}
 use mathlib.Core.List.{List}
 use mathlib.Core.Path.{_≡_, sym, _∙_, ap}

@@ -1,3 +1,4 @@
+-- The four runs are laid one behind the other (`written-subobject`); each fits because the whole subobject does (`room`).
 use Prim.Native.Nat.{ℕ}
 use mathlib.Core.Bool.{Bool, cond}
 use mathlib.Core.Path.{_≡_, ap}

@@ -1,0 +1,26 @@
+-- What one pass over the frame gathers. No promise rests on it: contracts of inner functions cite it, and proofs turn it into Frames.
+use Prim.Native.Nat.{ℕ, _+_}
+use mathlib.Core.List.{List}
+use mathlib.Core.Bool.{Bool, true, false, cond, _||_}
+use lib.ListN.{length}
+use lib.Dec.{eqb}
+use Rattle.frame.specs.declared.gathering.Facts.{Facts}
+use Rattle.frame.specs.Frames.{Apart, apartOf, kindAt, anyIs, mixedAt}
+
+abbrev pub noFacts : Bool → Facts
+noFacts whole = record { whole = whole; count = 0; any = false; other = 0 }
+
+-- A subobject more: of the first one's type, or of another.
+unfoldable pub seenOf : Facts → ℕ → ℕ → ℕ → ℕ → Facts
+seenOf g at k kind first =
+    cond (eqb k first) (record { whole = g .whole; count = g .count + 1; any = g .any; other = g .other })
+    (record { whole = g .whole; count = g .count + 1; any = g .any || eqb k kind; other = cond (eqb (g .other) 0) at (g .other) })
+
+-- What a frame holds that was taken apart.
+abbrev pub factsIn : (ℕ → ℕ) → ℕ → Apart → Facts
+factsIn kinds kind a =
+    cond (a .whole) (record { whole = true; count = length (a .places); any = anyIs kinds kind (a .places); other = mixedAt kinds (a .places) })
+    (noFacts false)
+
+unfoldable pub factsOf : List ℕ → Bool → ℕ → Facts
+factsOf s ero kind = factsIn (kindAt s ero) kind (apartOf s)

@@ -1,0 +1,33 @@
+-- What a test that was made tells of its parts. `not-true` and `not-false` of the toolchain's `borrow.Author.Tests` turn a negated test;
+-- the others that several crates need stand here.
+use Prim.Native.Nat.{ℕ, _≤_}
+use native.Mathlib.Nat.{le-refl}
+use native.Mathlib.Omega.{arith}
+use mathlib.Core.Path.{_≡_, refl, sym, _∙_}
+use mathlib.Core.Bool.{Bool, true, false, false≢true, cond, not, _&&_, _||_}
+use borrow.Author.Tests.{not-true, not-false}
+
+-- `if !test(..)` was taken, or left: what the definition behind the test says.
+pub said-no : (r b : Bool) → r ≡ b → not r ≡ true → b ≡ false
+said-no r b e h = sym e ∙ not-true r h
+
+pub said-yes : (r b : Bool) → r ≡ b → not r ≡ false → b ≡ true
+said-yes r b e h = sym e ∙ not-false r h
+
+-- Both hold; neither does.
+pub both-true : (a b : Bool) → (a && b) ≡ true → (a ≡ true) × (b ≡ true)
+both-true true b e = (refl, e)
+both-true false b e = absurd (false≢true e)
+
+pub either-false : (a b : Bool) → (a || b) ≡ false → (a ≡ false) × (b ≡ false)
+either-false true b e = absurd (false≢true (sym e))
+either-false false b e = (refl, e)
+
+pub and-holding : (a : Bool) → (a && true) ≡ a
+and-holding true = refl
+and-holding false = refl
+
+-- A size that may be absent.
+pub cond-most : (b : Bool) (n : ℕ) → cond b n 0 ≤ n
+cond-most true n = le-refl n
+cond-most false n = omega arith

@@ -1,0 +1,13 @@
+-- Of any two answers that fit a contract, both are the same.
+use Prim.Native.Nat.{ℕ}
+use mathlib.Core.Path.{_≡_, sym, _∙_}
+use mathlib.Core.List.{List}
+use mathlib.Core.Bool.{Bool}
+use Rattle.subobject.specs.declared.segment.Segment.{Segment}
+use Rattle.subobject.specs.Segments.{segmentAt, noSegment}
+
+pub segment-at-determined : (s : List ℕ) (ero : Bool) (at : ℕ) (a b : Segment) → a ≡ segmentAt s ero at → b ≡ segmentAt s ero at → a ≡ b
+segment-at-determined s ero at a b e f = e ∙ sym f
+
+pub no-segment-determined : (a b : Segment) → a ≡ noSegment → b ≡ noSegment → a ≡ b
+no-segment-determined a b e f = e ∙ sym f

@@ -1,0 +1,78 @@
+-- Reading a segment part by part. Assumes nothing.
+use Prim.Native.Nat.{ℕ, _+_, _≤_}
+use mathlib.Core.Path.{_≡_, refl, _∙_}
+use mathlib.Core.List.{List}
+use mathlib.Core.Bool.{Bool, true, false, cond}
+use lib.Dec.{eqb}
+use lib.ListN.{length}
+use native.Mathlib.Omega.{arith}
+use Rattle.octets.specs.Octets.{be16, part, partOf}
+use Rattle.subobject.specs.declared.head.Head.{Head}
+use Rattle.subobject.specs.declared.segment.Segment.{Segment}
+use Rattle.subobject.specs.Layout.{fixedLength, behaviourPlace, sidSize, sidLength, naiSize, naiLength, structureSize, bitLengths, structurePlace}
+use Rattle.subobject.specs.Layout.{expectedLength, headAt, expectedAt}
+use Rattle.subobject.specs.Rules.{hasStructure}
+use Rattle.subobject.specs.Segments.{segmentAt}
+use Rattle.subobject.proofs.Laws.{there-sid}
+
+-- A structure stands only behind a SID.
+sid-there : (h : Head) → hasStructure h ≡ true → eqb (h .s) 0 ≡ true
+unfolding hasStructure
+sid-there h e = there-sid (h .s) (h .t) e
+
+-- The parts of a subobject lie inside the octets given.
+pub parts-room : (ero : Bool) (s : List ℕ) (at : ℕ) (h : Head) → h ≡ headAt s ero at → at + expectedAt s ero at ≤ length s
+    → at + fixedLength + sidLength (h .s) + naiLength (h .nt) + cond (hasStructure h) structureSize 0 ≤ length s
+unfolding expectedAt expectedLength hasStructure
+parts-room ero s at h e p = rw e (omega (arith, p))
+
+pub bits-room : (b : Bool) → cond b bitLengths 0 ≤ cond b structureSize 0
+bits-room true = omega arith
+bits-room false = omega arith
+
+-- A structure stands behind a SID; where there is none, no octet is taken.
+pub structure-part : (s : List ℕ) (at : ℕ) (h : Head)
+    → partOf s (at + fixedLength + sidLength (h .s) + naiLength (h .nt)) (cond (hasStructure h) bitLengths 0) bitLengths
+    ≡ partOf s (structurePlace at (h .nt)) (cond (hasStructure h) bitLengths 0) bitLengths
+unfolding partOf part
+structure-part s at h = go (hasStructure h) refl
+  where
+    go : (b : Bool) → hasStructure h ≡ b
+        → partOf s (at + fixedLength + sidLength (h .s) + naiLength (h .nt)) (cond b bitLengths 0) bitLengths ≡ partOf s (structurePlace at (h .nt)) (cond b bitLengths 0) bitLengths
+    go true e = rw (sid-there h e)
+    go false e = refl
+
+-- The segment made of what was read part by part.
+pub segment-made : (ero : Bool) (s : List ℕ) (at : ℕ) (h : Head) (there : Bool) (k n m b : ℕ) (sid nai bits : List ℕ) → h ≡ headAt s ero at
+    → there ≡ hasStructure h → k ≡ sidLength (h .s) → n ≡ naiLength (h .nt) → m ≡ cond there bitLengths 0 → b ≡ be16 s (at + behaviourPlace)
+    → sid ≡ partOf s (at + fixedLength) k sidSize → nai ≡ partOf s (at + fixedLength + k) n naiSize → bits ≡ partOf s (at + fixedLength + k + n) m bitLengths
+    → _≡_ {A = Segment}
+    (record {
+      loose = eqb (h .l) 1;
+      verify = eqb (h .v) 1;
+      nt = h .nt;
+      behaviour = b;
+      hassid = eqb (h .s) 0;
+      sid = sid;
+      nai = nai;
+      structured = there;
+      structure = bits;
+    })
+    (segmentAt s ero at)
+unfolding segmentAt
+segment-made ero s at h there k n m b sid nai bits eh et ek en em eb es ei eq =
+    let q : bits ≡ partOf s (structurePlace at (h .nt)) (cond (hasStructure h) bitLengths 0) bitLengths = rw (em, et, ek, en) at eq ∙ structure-part s at h in
+    let p : sid ≡ partOf s (at + fixedLength) (sidLength (h .s)) sidSize = rw ek at es in
+    let r : nai ≡ partOf s (at + fixedLength + sidLength (h .s)) (naiLength (h .nt)) naiSize = rw (ek, en) at ei in
+    rw (← eh)
+    (λ i. record {
+      loose = eqb (h .l) 1;
+      verify = eqb (h .v) 1;
+      nt = h .nt;
+      behaviour = eb i;
+      hassid = eqb (h .s) 0;
+      sid = p i;
+      nai = r i;
+      structured = et i;
+      structure = q i;
+    })

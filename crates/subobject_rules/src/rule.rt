@@ -1,0 +1,67 @@
+// The rules of one subobject, over its head (document 01, "Numbers answered").
+ghost use mathlib.Core.Path.{_≡_};
+ghost use Prim.Native.Nat.{_+_, _<_};
+ghost use lib.ListN.{length};
+ghost use Rattle.subobject.specs.Rules.{rule7, rule8, rule9, rule10, rule11, sumAt};
+use subobject::Head;
+
+// NT not 0, 2, 4, 6.
+pub fn eight(h: Head) -> bool
+    ensures broken { λ r. ⌜ r ≡ rule8 h ⌝ }
+{
+    !octets::either(
+        h.nt == subobject::NO_NAI,
+        octets::either(
+            h.nt == subobject::NODE,
+            octets::either(h.nt == subobject::ADJACENCY, h.nt == subobject::LINK_LOCAL),
+        ),
+    )
+}
+
+// S and F both 1.
+pub fn nine(h: Head) -> bool
+    ensures broken { λ r. ⌜ r ≡ rule9 h ⌝ }
+{
+    octets::both(h.s == 1, h.f == 1)
+}
+
+// F isn't 1 exactly for NT 0, or Length isn't as expected.
+pub fn seven(h: Head) -> bool
+    ensures broken { λ r. ⌜ r ≡ rule7 h ⌝ }
+{
+    octets::either(
+        h.f != octets::pick(h.nt == subobject::NO_NAI, 1, 0),
+        h.size != subobject::expected(h.nt, h.s, h.t),
+    )
+}
+
+// No SID, and the PCC's N is 0; not applied in an RRO.
+pub fn ten(h: Head, ero: bool, n: bool) -> bool
+    ensures broken { λ r. ⌜ r ≡ rule10 h ero n ⌝ }
+{
+    octets::both(ero, octets::both(h.s == 1, !n))
+}
+
+// Four bit lengths sum above 128.
+pub fn eleven(h: Head, sum: usize) -> bool
+    ensures broken { λ r. ⌜ r ≡ rule11 h sum ⌝ }
+{
+    octets::both(subobject::structured(h), sum > subobject::MOST_BITS)
+}
+
+// The sum of four octets; past the end they are 0.
+pub fn sum_at(s: &[u8], at: usize) -> usize
+    requires { ⌜ at < length (now s) + 128 ⌝ }
+    ensures sum { λ r. ⌜ (r ≡ sumAt (now (s .entry)) at) × (r < 1024) ⌝ }
+{
+    if at + 4 <= s.len() {
+        return octets::wide(s[at])
+            + octets::wide(s[at + 1])
+            + octets::wide(s[at + 2])
+            + octets::wide(s[at + 3]);
+    }
+    octets::octet(s, at)
+        + octets::octet(s, at + 1)
+        + octets::octet(s, at + 2)
+        + octets::octet(s, at + 3)
+}

@@ -1,0 +1,6 @@
+// What writing a route object refuses (document 01, "Writing a route"), as numbers: adding 8, 9, 7, 11 and 16, finishing 16 and 5.
+mod place;
+mod refusal;
+
+pub use refusal::adding;
+pub use refusal::finishing;

@@ -1,0 +1,13 @@
+-- A segment as the code holds it: each number in its type, each array of its length.
+use Prim.Native.Nat.{ℕ, _<_}
+use mathlib.Core.Path.{_≡_}
+use lib.ListN.{length}
+use Rattle.subobject.specs.declared.segment.Segment.{Segment}
+use Rattle.subobject.specs.Layout.{sidSize, naiSize, bitLengths}
+
+pub record Held (g : Segment) : Type 0 where
+  pub nt : g .nt < 256
+  pub behaviour : g .behaviour < 65536
+  pub sid : length (g .sid) ≡ sidSize
+  pub nai : length (g .nai) ≡ naiSize
+  pub structure : length (g .structure) ≡ bitLengths

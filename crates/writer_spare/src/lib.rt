@@ -1,0 +1,4 @@
+// The octets that a segment keeps for a part that is absent or shorter (document 01, "Writing a route"): they are 0.
+mod spare;
+
+pub use spare::tidy;
