@@ -152,15 +152,31 @@ accepted-sound s ero at z =
     go false eo true ef true ek false ea false eb false ec false ed z =
         let i = inside s at eo in
         record {
-          low = i .0; even = i .1; short = i .2; fits = ef; kind = eqb-true (headAt s ero at .kind) srv6Kind ek;
-          r8 = ea; r9 = eb; r7 = ec; r11 = ed;
+          low = i .0;
+          even = i .1;
+          short = i .2;
+          fits = ef;
+          kind = eqb-true (headAt s ero at .kind) srv6Kind ek;
+          r8 = ea;
+          r9 = eb;
+          r7 = ec;
+          r11 = ed;
         }
 
 pub sound-accepted : (s : List ℕ) (ero : Bool) (at : ℕ) → Sound s ero at → stepVerdict s ero at ≡ acceptedWith 0
 unfolding stepVerdict outside
 sound-accepted s ero at w =
-    rw (le-ltb at header (w .low), eq-eqb (at % unit) 0 (w .even), lt-leb (length s) at (w .short), w .fits, eq-eqb (headAt s ero at .kind) srv6Kind (w .kind),
-    w .r8, w .r9, w .r7, w .r11)
+    rw (
+      le-ltb at header (w .low),
+      eq-eqb (at % unit) 0 (w .even),
+      lt-leb (length s) at (w .short),
+      w .fits,
+      eq-eqb (headAt s ero at .kind) srv6Kind (w .kind),
+      w .r8,
+      w .r9,
+      w .r7,
+      w .r11,
+    )
 
 -- ---- the step
 module _ (s : List ℕ) (ero : Bool) (at : ℕ) (v : Verdict) (e : v ≡ stepVerdict s ero at) where

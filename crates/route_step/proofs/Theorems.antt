@@ -75,7 +75,15 @@ module _ (s : List ℕ) (ero : Bool) where
   step-taken at low four n d u =
       let f = fits-true (octetOf s (at + 1)) (length s - at) d in
       let w : Sound s ero at = record {
-        low = low; even = four; short = omega arith; fits = d; kind = u .kind; r8 = u .r8; r9 = u .r9; r7 = u .r7; r11 = u .r11;
+        low = low;
+        even = four;
+        short = omega arith;
+        fits = d;
+        kind = u .kind;
+        r8 = u .r8;
+        r9 = u .r9;
+        r7 = u .r7;
+        r11 = u .r11;
       } in
       rw (sound-accepted s ero at w)
 

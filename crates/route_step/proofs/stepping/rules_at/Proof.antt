@@ -17,7 +17,7 @@ refused-requires-2 : tie.Need-refused-requires-2
 refused-requires-2 c κs = search needs
 
 returns-2 : tie.Need-returns-2
-returns-2 c = 
+returns-2 c =
     let asked = c .before .before in
     stops-8 _ _ _ (asked .before .if1 .left) (sym (asked .eight .ensures) ∙ c .before .if2 .taken) (c .refused2 .ensures)
 
@@ -28,7 +28,7 @@ refused-requires-3 : tie.Need-refused-requires-3
 refused-requires-3 c κs = search needs
 
 returns-3 : tie.Need-returns-3
-returns-3 c = 
+returns-3 c =
     let asked = c .before .before in
     let eight = asked .before .before in
     stops-9 _ _ _ (eight .before .if1 .left) (sym (eight .eight .ensures) ∙ asked .before .if2 .left)
@@ -41,7 +41,7 @@ refused-requires-4 : tie.Need-refused-requires-4
 refused-requires-4 c κs = search needs
 
 returns-4 : tie.Need-returns-4
-returns-4 c = 
+returns-4 c =
     let asked = c .before .before in
     let nine = asked .before .before in
     let eight = nine .before .before in
@@ -70,7 +70,7 @@ refused-requires-5 : tie.Need-refused-requires-5
 refused-requires-5 c κs = search needs
 
 returns-5 : tie.Need-returns-5
-returns-5 c = 
+returns-5 c =
     let asked = c .before .before in
     let summing = asked .before in
     let seven = summing .before .before .before in
@@ -86,7 +86,7 @@ accepted-requires : tie.Need-accepted-requires
 accepted-requires c κs = search needs
 
 returns-6 : tie.Need-returns-6
-returns-6 c = 
+returns-6 c =
     let asked = c .before .before in
     let summing = asked .before in
     let seven = summing .before .before .before in

@@ -11,12 +11,12 @@ no-segment-requires : tie.Need-no-segment-requires
 no-segment-requires c κs = search needs
 
 returns : tie.Need-returns
-returns c = 
+returns c =
     let args = c .before .before .before .before .before .args in
     step-refused (args .s .now) (args .ero) (args .at) _ (c .before .before .before .verdict-at .ensures) (c .before .if1 .taken) (c .no-segment .ensures)
 
 add-octet : tie.Need-add-octet
-add-octet c = 
+add-octet c =
     let args = c .before .before .before .before .args in
     omega (arith, step-short (args .s .now) (args .ero) (args .at) _ (c .before .before .verdict-at .ensures) (c .if1 .left))
 
@@ -24,17 +24,17 @@ octet-requires : tie.Need-octet-requires
 octet-requires c κs = search needs
 
 segment-at-requires : tie.Need-segment-at-requires
-segment-at-requires c κs = 
+segment-at-requires c κs =
     let args = c .before .before .before .before .before .args in
     step-lies (args .s .now) (args .ero) (args .at) _ (c .before .before .before .verdict-at .ensures) (c .before .if1 .left)
 
 add-t8 : tie.Need-add-t8
-add-t8 c = 
+add-t8 c =
     let args = c .before .before .before .before .before .before .args in
     omega (arith, step-room (args .s .now) (args .ero) (args .at) _ (c .before .before .before .before .verdict-at .ensures) (c .before .before .if1 .left), c .before .octet .ensures .0)
 
 returns-2 : tie.Need-returns-2
-returns-2 c = 
+returns-2 c =
     let args = c .before .before .before .before .before .before .args in
     step-accepted (args .s .now) (args .ero) (args .at) _ (c .before .before .before .before .verdict-at .ensures) (c .before .before .if1 .left)
     (c .segment-at .ensures) (c .before .octet .ensures .0)

@@ -21,25 +21,25 @@ refused-requires-2 : tie.Need-refused-requires-2
 refused-requires-2 c κs = search needs
 
 returns-2 : tie.Need-returns-2
-returns-2 c = 
+returns-2 c =
     let asked = c .before .before in
     stops-4 _ _ _ (sym (asked .before .before .is-outside .ensures) ∙ asked .before .if1 .left)
     (sym (asked .is-unfit .ensures) ∙ c .before .if2 .taken) (c .refused2 .ensures)
 
 head-at-requires : tie.Need-head-at-requires
-head-at-requires c κs = 
+head-at-requires c κs =
     let asked = c .before in
     let args = asked .before .before .before .before .args in
     room (args .s .now) (args .ero) (args .at) (sym (asked .before .before .is-outside .ensures) ∙ asked .before .if1 .left)
     (sym (asked .is-unfit .ensures) ∙ c .if2 .left)
 
 rules-at-requires : tie.Need-rules-at-requires
-rules-at-requires c κs = 
+rules-at-requires c κs =
     let asked = c .before .before in
     inside _ _ (sym (asked .before .before .is-outside .ensures) ∙ asked .before .if1 .left) .2
 
 returns-3 : tie.Need-returns-3
-returns-3 c = 
+returns-3 c =
     let asked = c .before .before .before in
     goes-on _ _ _ (sym (asked .before .before .is-outside .ensures) ∙ asked .before .if1 .left)
     (sym (asked .is-unfit .ensures) ∙ c .before .before .if2 .left) (c .before .head-at .ensures .0) (c .rules-at .ensures)
