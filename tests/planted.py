@@ -122,7 +122,7 @@ def pass_all(header, wrapper):
 
 def copy():
     for name in ["include", "tests", "examples", "rust", "bench"]:
-        shutil.copytree(os.path.join(ROOT, name), os.path.join(COPY, name), ignore=shutil.ignore_patterns("target"), dirs_exist_ok=True)
+        shutil.copytree(os.path.join(ROOT, name), os.path.join(COPY, name), ignore=shutil.ignore_patterns("target"), dirs_exist_ok=True, copy_function=shutil.copyfile)
 
 
 def write(path, text):
