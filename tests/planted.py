@@ -38,7 +38,7 @@ FAULTS = {
     "RRO begun as ERO": (HEADER, "strundevi_lent(buffer, size), writer, kind != STRUNDEVI_RRO);", "strundevi_lent(buffer, size), writer, (uint8_t)kind | 1);"),
     "finish in half the buffer": (HEADER, "return strundevi_raw_finish(strundevi_into(buffer, none), strundevi_lent(buffer, size), writer);", "return strundevi_raw_finish(strundevi_into(buffer, none), strundevi_lent(buffer, size / 2), writer);"),
     "lengths not tested": (HEADER, "return buffer == NULL || length > SIZE_MAX / 2 ? 0 : length;", "return buffer == NULL ? 0 : length;"),
-    "null buffers not tested": (HEADER, "return buffer == NULL || length > SIZE_MAX / 2 ? 0 : length;", "return length > SIZE_MAX / 2 ? 0 : length;"),
+    "null buffers not tested": (HEADER, "return buffer == NULL || length > SIZE_MAX / 2 ? 0 : length;", "return (void)buffer, length > SIZE_MAX / 2 ? 0 : length;"),
     "null board reported to": (HEADER, "    uint8_t none[1];\n    if (board == NULL)\n        return strundevi_no_board();\n", "    uint8_t none[1];\n"),
     "null board is 22": (HEADER, "strundevi_verdict refused = {STRUNDEVI_NOT_A_BOARD, 0, 0};", "strundevi_verdict refused = {STRUNDEVI_NO_PATH, 0, 0};"),
     "reported key cut to 32 bits": (HEADER, "strundevi_lent(store, size), key, strundevi_from(ero)", "strundevi_lent(store, size), (uint32_t)key, strundevi_from(ero)"),
@@ -122,7 +122,7 @@ def pass_all(header, wrapper):
 
 def copy():
     for name in ["include", "tests", "examples", "rust", "bench"]:
-        shutil.copytree(os.path.join(ROOT, name), os.path.join(COPY, name), ignore=shutil.ignore_patterns("target"), dirs_exist_ok=True)
+        shutil.copytree(os.path.join(ROOT, name), os.path.join(COPY, name), ignore=shutil.ignore_patterns("target"), dirs_exist_ok=True, copy_function=shutil.copyfile)
 
 
 def write(path, text):
