@@ -15,8 +15,8 @@ use Rattle.octets.proofs.Said.{either-false}
 use Rattle.objects.specs.Objects.{header, unit}
 use Rattle.subobject.specs.declared.head.Head.{Head}
 use Rattle.subobject.specs.declared.segment.Segment.{Segment}
-use Rattle.subobject.specs.Layout.{srv6Kind, headOf, headAt, expectedLength, expectedAt, naiLength, fixedLength, sidSize}
-use Rattle.subobject.specs.Rules.{rule7, rule8, rule9, rule11, sumAt, bitsAt}
+use Rattle.subobject.specs.Layout.{srv6Kind, headOf, headAt, expectedLength, expectedAt}
+use Rattle.subobject.specs.Rules.{rule7, rule8, rule9, rule11, bitsAt}
 use Rattle.subobject.specs.Segments.{segmentAt, noSegment}
 use Rattle.subobject.proofs.Laws.{sound-length}
 use Rattle.frame.specs.Frames.{fitsIn}
@@ -92,11 +92,6 @@ module _ (s : List ℕ) (at : ℕ) (h : Head) where
         → r ≡ headVerdict s at h
     unfolding headVerdict
     unbroken a b c d e = e ∙ sym (rw (eq-eqb (h .kind) srv6Kind k, a, b, c, d))
-
-  -- The sum that was read is that of the bit lengths.
-  pub summed : (nai sum : ℕ) (b x : Bool) → nai ≡ naiLength (h .nt) → sum ≡ sumAt s (at + fixedLength + sidSize + nai) → b ≡ rule11 h sum → b ≡ x
-      → rule11 h (bitsAt s at h) ≡ x
-  summed nai sum b x n q e t = rw (← n, ← q) (sym e ∙ t)
 
 -- ---- the verdict
 module _ (s : List ℕ) (ero : Bool) (at : ℕ) where

@@ -4,6 +4,7 @@ ghost use mathlib.Core.Bool.{not};
 ghost use Prim.Native.Nat.{_+_, _-_, _<_};
 ghost use lib.ListN.{length};
 ghost use Rattle.octets.specs.Octets.{octetOf};
+ghost use Rattle.subobject.specs.Rules.{rule11, bitsAt};
 ghost use Rattle.frame.specs.Frames.{fitsIn};
 ghost use Rattle.route_step.specs.Steps.{outside, headVerdict, stepVerdict, stepOf};
 use answers::Verdict;
@@ -45,6 +46,24 @@ fn is_unfit(s: &[u8], at: usize) -> bool
     len < objects::UNIT
 }
 
+// 11 for the subobject at a place. Only a structure's octets are read.
+fn is_too_long(s: &[u8], at: usize, h: Head) -> bool
+    requires { ⌜ at < length (now s) ⌝ }
+    ensures broken { λ r. ⌜ r ≡ rule11 h (bitsAt (now (s .entry)) at h) ⌝ }
+{
+    if subobject::structured(h) {
+        let nai = subobject::nai_length(h.nt);
+        return subobject_rules::eleven(
+            h,
+            subobject_rules::sum_at(
+                s,
+                at + subobject::FIXED_LENGTH + subobject::SID_LENGTH + nai,
+            ),
+        );
+    }
+    false
+}
+
 // The first broken rule of a subobject with this head.
 fn rules_at(s: &[u8], at: usize, h: Head) -> Verdict
     requires { ⌜ at < length (now s) ⌝ }
@@ -62,12 +81,7 @@ fn rules_at(s: &[u8], at: usize, h: Head) -> Verdict
     if subobject_rules::seven(h) {
         return answers::refused(answers::LENGTH_WRONG, at);
     }
-    let nai = subobject::nai_length(h.nt);
-    let sum = subobject_rules::sum_at(
-        s,
-        at + subobject::FIXED_LENGTH + subobject::SID_LENGTH + nai,
-    );
-    if subobject_rules::eleven(h, sum) {
+    if is_too_long(s, at, h) {
         return answers::refused(answers::STRUCTURE_TOO_LONG, at);
     }
     answers::accepted(0)

@@ -1,5 +1,5 @@
 use mathlib.Core.Path.{sym, _∙_}
-use Rattle.route_step.proofs.Laws.{other-kind, stops-8, stops-9, stops-7, stops-11, unbroken, summed}
+use Rattle.route_step.proofs.Laws.{other-kind, stops-8, stops-9, stops-7, stops-11, unbroken}
 use borrow.Author.Needs.{needs}
 use Rattle.route_step.proofs.stepping.rules_at.Statement.{statement}
 use Rattle.route_step.proofs.stepping.rules_at.Tie as tie
@@ -48,23 +48,8 @@ returns-4 c =
     stops-7 _ _ _ (eight .before .if1 .left) (sym (eight .eight .ensures) ∙ nine .before .if2 .left) (sym (nine .nine .ensures) ∙ asked .before .if3 .left)
     (sym (asked .seven .ensures) ∙ c .before .if4 .taken) (c .refused4 .ensures)
 
-nai-length-requires : tie.Need-nai-length-requires
-nai-length-requires c κs = search needs
-
-add-sum-at : tie.Need-add-sum-at
-add-sum-at c = search needs
-
-add-sum-at-2 : tie.Need-add-sum-at-2
-add-sum-at-2 c = search needs
-
-add-sum-at-3 : tie.Need-add-sum-at-3
-add-sum-at-3 c = search needs
-
-sum-at-requires : tie.Need-sum-at-requires
-sum-at-requires c κs = search needs
-
-eleven-requires : tie.Need-eleven-requires
-eleven-requires c κs = search needs
+is-too-long-requires : tie.Need-is-too-long-requires
+is-too-long-requires c κs = search needs
 
 refused-requires-5 : tie.Need-refused-requires-5
 refused-requires-5 c κs = search needs
@@ -72,15 +57,11 @@ refused-requires-5 c κs = search needs
 returns-5 : tie.Need-returns-5
 returns-5 c =
     let asked = c .before .before in
-    let summing = asked .before in
-    let seven = summing .before .before .before in
+    let seven = asked .before .before in
     let nine = seven .before .before in
     let eight = nine .before .before in
-    let args = eight .before .before .before .before .args in
     stops-11 _ _ _ (eight .before .if1 .left) (sym (eight .eight .ensures) ∙ nine .before .if2 .left) (sym (nine .nine .ensures) ∙ seven .before .if3 .left)
-    (sym (seven .seven .ensures) ∙ summing .before .before .if4 .left)
-    (summed (args .s .now) (args .at) (args .h) _ _ _ _ (summing .before .nai-length .ensures .0) (summing .sum-at .ensures .0) (asked .eleven .ensures) (c .before .if5 .taken))
-    (c .refused5 .ensures)
+    (sym (seven .seven .ensures) ∙ asked .before .if4 .left) (sym (asked .is-too-long .ensures) ∙ c .before .if5 .taken) (c .refused5 .ensures)
 
 accepted-requires : tie.Need-accepted-requires
 accepted-requires c κs = search needs
@@ -88,15 +69,11 @@ accepted-requires c κs = search needs
 returns-6 : tie.Need-returns-6
 returns-6 c =
     let asked = c .before .before in
-    let summing = asked .before in
-    let seven = summing .before .before .before in
+    let seven = asked .before .before in
     let nine = seven .before .before in
     let eight = nine .before .before in
-    let args = eight .before .before .before .before .args in
     unbroken _ _ _ (eight .before .if1 .left) (sym (eight .eight .ensures) ∙ nine .before .if2 .left) (sym (nine .nine .ensures) ∙ seven .before .if3 .left)
-    (sym (seven .seven .ensures) ∙ summing .before .before .if4 .left)
-    (summed (args .s .now) (args .at) (args .h) _ _ _ _ (summing .before .nai-length .ensures .0) (summing .sum-at .ensures .0) (asked .eleven .ensures) (c .before .if5 .left))
-    (c .accepted .ensures)
+    (sym (seven .seven .ensures) ∙ asked .before .if4 .left) (sym (asked .is-too-long .ensures) ∙ c .before .if5 .left) (c .accepted .ensures)
 
 pub rules-at-spec : {M : Type 1} → statement M
 rules-at-spec =
@@ -113,12 +90,7 @@ rules-at-spec =
     seven-requires
     refused-requires-4
     returns-4
-    nai-length-requires
-    add-sum-at
-    add-sum-at-2
-    add-sum-at-3
-    sum-at-requires
-    eleven-requires
+    is-too-long-requires
     refused-requires-5
     returns-5
     accepted-requires
