@@ -50,6 +50,16 @@ int main(void) {
         return 1;
     printf("segment 2: last octet of the SID %d\n", picked.segment.sid[15]);
 
+    /* all segments in one pass; each step moves on, so the loop ends */
+    size_t at = STRUNDEVI_FIRST_PLACE;
+    for (size_t i = 0; i < verdict.count; i++) {
+        strundevi_stepped stepped = strundevi_step(buffer, length, STRUNDEVI_ERO, at);
+        if (!good("step", stepped.verdict.number))
+            return 1;
+        printf("step %zu: last octet of the SID %d\n", i, stepped.segment.sid[15]);
+        at = stepped.next;
+    }
+
     strundevi_empty(&board);
     strundevi_mark mark = strundevi_fresh_mark(&board);
     if (!good("report", strundevi_report(&board, store, sizeof store, 7, buffer, length, session, STRUNDEVI_PST_SRV6).number) ||

@@ -20,6 +20,12 @@ static size_t cut(const uint8_t *octets, size_t size) {
     return length < 4 || length > size ? size : length;
 }
 
+static int alike(const strundevi_segment *a, const strundevi_segment *b) {
+    return a->loose == b->loose && a->verify == b->verify && a->nt == b->nt && a->behaviour == b->behaviour && a->hassid == b->hassid &&
+           a->structured == b->structured && memcmp(a->sid, b->sid, sizeof a->sid) == 0 && memcmp(a->nai, b->nai, sizeof a->nai) == 0 &&
+           memcmp(a->structure, b->structure, sizeof a->structure) == 0;
+}
+
 /* The bits of octet `at` of an accepted route that are ignored in reading. */
 static uint8_t ignored(const uint8_t *route, enum strundevi_kind kind, size_t at) {
     size_t start = 4;
@@ -61,15 +67,21 @@ int LLVMFuzzerTestOneInput(const uint8_t *data, size_t size) {
 
     /* an accepted route has its segments and no more, and is written with the lengths it has */
     strundevi_written written = strundevi_begin(buffer, sizeof buffer, (strundevi_writer){0}, kind);
+    size_t place = STRUNDEVI_FIRST_PLACE;
     for (size_t i = 0; i < verdict.count; i++) {
+        strundevi_stepped stepped = strundevi_step(route, length, kind, place);
+        same(stepped.verdict.number == 0 && stepped.next > place);
+        place = stepped.next;
         strundevi_picked picked = strundevi_segment_at(route, length, kind, free_session, STRUNDEVI_PST_SRV6, i);
-        same(picked.verdict.number == 0);
+        same(picked.verdict.number == 0 && alike(&picked.segment, &stepped.segment));
         written = strundevi_add(buffer, sizeof buffer, written.writer, picked.segment);
         same(written.verdict.number == 0);
     }
     same(strundevi_segment_at(route, length, kind, free_session, STRUNDEVI_PST_SRV6, verdict.count).verdict.number == STRUNDEVI_NO_SUCH_SEGMENT);
     same(strundevi_finish(buffer, sizeof buffer, written.writer).verdict.number == 0 && written.writer.at == length);
     same(strundevi_judge(buffer, length, kind, free_session, STRUNDEVI_PST_SRV6).count == verdict.count);
+
+    same(place == length && strundevi_step(route, length, kind, place).verdict.number == STRUNDEVI_NO_SUCH_SEGMENT);
 
     /* octet for octet, but for the bits that are ignored in reading and written as 0 */
     for (size_t at = 0; at < length; at++) {

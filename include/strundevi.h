@@ -81,6 +81,7 @@ enum strundevi_number {
 /* ---- sizes */
 
 enum strundevi_size {
+    STRUNDEVI_FIRST_PLACE = 4,        /* of a segment in a route */
     STRUNDEVI_SID_OCTETS = 16,
     STRUNDEVI_NAI_OCTETS = 40,        /* of the longest NAI, NT 6 */
     STRUNDEVI_STRUCTURE_OCTETS = 4,   /* the four bit lengths */
@@ -152,6 +153,13 @@ typedef struct strundevi_picked {
     strundevi_segment segment;
 } strundevi_picked;
 
+/* The verdict, the segment at a place and the place behind it; refused: a segment of zeros and the place asked for. */
+typedef struct strundevi_stepped {
+    strundevi_verdict verdict;
+    strundevi_segment segment;
+    size_t next;
+} strundevi_stepped;
+
 /* A route being written: of which kind, and where the next segment goes. All zeros is a fine one to begin with. */
 typedef struct strundevi_writer {
     uint8_t ero;
@@ -207,6 +215,7 @@ strundevi_opened strundevi_raw_read_open(const uint8_t *octets, size_t length);
 strundevi_session strundevi_raw_agree(strundevi_opened pcc, strundevi_opened pce);
 strundevi_verdict strundevi_raw_judge(const uint8_t *octets, size_t length, uint8_t ero, strundevi_session session, uint64_t pst);
 strundevi_picked strundevi_raw_segment_at(const uint8_t *octets, size_t length, uint8_t ero, strundevi_session session, uint64_t pst, uint64_t i);
+strundevi_stepped strundevi_raw_step(const uint8_t *octets, size_t length, uint8_t ero, size_t at);
 strundevi_written strundevi_raw_begin(uint8_t *buffer, size_t size, strundevi_writer writer, uint8_t ero);
 strundevi_written strundevi_raw_add(uint8_t *buffer, size_t size, strundevi_writer writer, strundevi_outline outline, const uint8_t *sid,
                                     const uint8_t *nai, const uint8_t *structure);
@@ -266,6 +275,12 @@ STRUNDEVI_LOOK_AT static inline strundevi_verdict strundevi_judge(const uint8_t 
 STRUNDEVI_LOOK_AT static inline strundevi_picked strundevi_segment_at(const uint8_t *octets, size_t length, enum strundevi_kind kind, strundevi_session session,
                                               uint64_t pst, uint64_t i) {
     return strundevi_raw_segment_at(strundevi_from(octets), strundevi_lent(octets, length), kind != STRUNDEVI_RRO, session, pst, i);
+}
+
+/* The segment at a place of a route that was judged, and the place behind it, from STRUNDEVI_FIRST_PLACE on: all segments in one pass. 15 at a place
+ * under 4, no multiple of 4, or at or past the end; 4, 14, 8, 9, 7, 11 of the one subobject, which is all that is looked at. */
+STRUNDEVI_LOOK_AT static inline strundevi_stepped strundevi_step(const uint8_t *octets, size_t length, enum strundevi_kind kind, size_t at) {
+    return strundevi_raw_step(strundevi_from(octets), strundevi_lent(octets, length), kind != STRUNDEVI_RRO, at);
 }
 
 /* Begins a route in the buffer: 16. */

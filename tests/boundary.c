@@ -43,6 +43,7 @@ int main(void) {
         EXPECT(strundevi_read_open(NULL, n).number == STRUNDEVI_OPEN_MALFORMED);
         EXPECT(refused(strundevi_judge(NULL, n, STRUNDEVI_ERO, session, 3), STRUNDEVI_FRAME_BROKEN));
         EXPECT(refused(strundevi_segment_at(NULL, n, STRUNDEVI_RRO, session, 3, 0).verdict, STRUNDEVI_FRAME_BROKEN));
+        EXPECT(refused(strundevi_step(NULL, n, STRUNDEVI_ERO, 4).verdict, STRUNDEVI_NO_SUCH_SEGMENT));
         EXPECT(refused(strundevi_begin(NULL, n, writer, STRUNDEVI_RRO).verdict, STRUNDEVI_BUFFER_FULL));
         EXPECT(refused(strundevi_add(NULL, n, writer, segment).verdict, STRUNDEVI_BUFFER_FULL));
         EXPECT(refused(strundevi_finish(NULL, n, writer).verdict, STRUNDEVI_BUFFER_FULL));

@@ -19,6 +19,11 @@ int main(void) {
     if (picked.verdict.number != STRUNDEVI_ACCEPTED || picked.segment.sid[15] != 1)
         return 1;
 
+    strundevi_stepped stepped = strundevi_step(route, sizeof route, STRUNDEVI_ERO, STRUNDEVI_FIRST_PLACE);
+    if (stepped.verdict.number != STRUNDEVI_ACCEPTED || stepped.next != sizeof route || stepped.segment.sid[15] != 1 ||
+        strundevi_step(route, sizeof route, STRUNDEVI_ERO, stepped.next).verdict.number != STRUNDEVI_NO_SUCH_SEGMENT)
+        return 1;
+
     strundevi_written written = strundevi_begin(buffer, sizeof buffer, writer, STRUNDEVI_ERO);
     if (written.verdict.number == STRUNDEVI_ACCEPTED)
         written = strundevi_add(buffer, sizeof buffer, written.writer, picked.segment);

@@ -35,10 +35,11 @@ FAULTS = {
     "ERO judged as RRO": (HEADER, "strundevi_lent(octets, length), kind != STRUNDEVI_RRO, session, pst);", "strundevi_lent(octets, length), kind == STRUNDEVI_RRO, session, pst);"),
     "setup type not asked for": (HEADER, "kind != STRUNDEVI_RRO, session, pst);", "kind != STRUNDEVI_RRO, session, pst | 3);"),
     "next segment handed out": (HEADER, "kind != STRUNDEVI_RRO, session, pst, i);", "kind != STRUNDEVI_RRO, session, pst, i + 1);"),
+    "step as through an RRO": (HEADER, "kind != STRUNDEVI_RRO, at);", "kind == STRUNDEVI_RRO, at);"),
     "RRO begun as ERO": (HEADER, "strundevi_lent(buffer, size), writer, kind != STRUNDEVI_RRO);", "strundevi_lent(buffer, size), writer, (uint8_t)kind | 1);"),
     "finish in half the buffer": (HEADER, "return strundevi_raw_finish(strundevi_into(buffer, none), strundevi_lent(buffer, size), writer);", "return strundevi_raw_finish(strundevi_into(buffer, none), strundevi_lent(buffer, size / 2), writer);"),
     "lengths not tested": (HEADER, "return buffer == NULL || length > SIZE_MAX / 2 ? 0 : length;", "return buffer == NULL ? 0 : length;"),
-    "null buffers not tested": (HEADER, "return buffer == NULL || length > SIZE_MAX / 2 ? 0 : length;", "return length > SIZE_MAX / 2 ? 0 : length;"),
+    "null buffers not tested": (HEADER, "return buffer == NULL || length > SIZE_MAX / 2 ? 0 : length;", "return (void)buffer, length > SIZE_MAX / 2 ? 0 : length;"),
     "null board reported to": (HEADER, "    uint8_t none[1];\n    if (board == NULL)\n        return strundevi_no_board();\n", "    uint8_t none[1];\n"),
     "null board is 22": (HEADER, "strundevi_verdict refused = {STRUNDEVI_NOT_A_BOARD, 0, 0};", "strundevi_verdict refused = {STRUNDEVI_NO_PATH, 0, 0};"),
     "reported key cut to 32 bits": (HEADER, "strundevi_lent(store, size), key, strundevi_from(ero)", "strundevi_lent(store, size), (uint32_t)key, strundevi_from(ero)"),
@@ -63,6 +64,8 @@ FAULTS = {
     "wrapper: structure not handed out": (WRAPPER + "route.rs", ".then_some(self.0.structure)", ".then_some(self.0.structure.map(|bits| bits & 0))"),
     "wrapper: RRO judged as ERO": (WRAPPER + "route.rs", "            Kind::Rro => 0,", "            Kind::Rro => 1,"),
     "wrapper: always segment 0": (WRAPPER + "route.rs", "raw::segment(octets, kind.raw(), session.raw(), pst, i)", "raw::segment(octets, kind.raw(), session.raw(), pst, i & 0)"),
+    "wrapper: every step from octet 4": (WRAPPER + "route.rs", "raw::step(octets, kind.raw(), at)", "raw::step(octets, kind.raw(), at.min(4))"),
+    "wrapper: iterator begins behind the first": (WRAPPER + "route.rs", "at: FIRST_PLACE, left }", "at: FIRST_PLACE + 24, left }"),
     "wrapper: RRO writer made an ERO writer": (WRAPPER + "writer.rs", "raw::Writer { ero: kind.raw(), at: 0 }, kind.raw())", "raw::Writer { ero: kind.raw(), at: 0 }, kind.raw() | 1)"),
     "wrapper: whole buffer for the object": (WRAPPER + "writer.rs", "Ok(&self.buffer[..self.at])", "Ok(&self.buffer[..])"),
     "wrapper: resumed at a multiple of 4": (WRAPPER + "writer.rs", "        Writer { buffer, kind, at }", "        Writer { buffer, kind, at: at / 4 * 4 }"),
@@ -85,6 +88,7 @@ FAULTS = {
     "reference: bit lengths up to 129": (REFERENCE + "route.rs", "MOST_BITS: u32 = 128;", "MOST_BITS: u32 = 129;"),
     "reference: one segment more than the limit": (REFERENCE + "route.rs", "if count == limit {", "if count == limit.wrapping_add(1) {"),
     "reference: V of an RRO": (REFERENCE + "route.rs", "verify: ero && flags", "verify: flags"),
+    "reference: a step needs a SID": (REFERENCE + "route.rs", "broken(&rest[..length], false)", "broken(&rest[..length], true)"),
     "reference: objects up to 65,536 octets": (REFERENCE + "writer.rs", "MOST_OCTETS: usize = 65_532;", "MOST_OCTETS: usize = 65_536;"),
     "reference: removal at c kept": (REFERENCE + "board.rs", "self.versions[i] <= c", "self.versions[i] < c"),
     "reference: change at w handed out again": (REFERENCE + "board.rs", "version > w &&", "version >= w &&"),
@@ -122,7 +126,7 @@ def pass_all(header, wrapper):
 
 def copy():
     for name in ["include", "tests", "examples", "rust", "bench"]:
-        shutil.copytree(os.path.join(ROOT, name), os.path.join(COPY, name), ignore=shutil.ignore_patterns("target"), dirs_exist_ok=True)
+        shutil.copytree(os.path.join(ROOT, name), os.path.join(COPY, name), ignore=shutil.ignore_patterns("target"), dirs_exist_ok=True, copy_function=shutil.copyfile)
 
 
 def write(path, text):

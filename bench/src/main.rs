@@ -131,6 +131,41 @@ impl Bench {
         );
     }
 
+    /// All segments of a route, one after the other: judged once, then stepped through.
+    fn steps(&mut self, duty: &str, route: &[u8]) {
+        let theirs = reference::Session { agreed: true, n: true, limit: None };
+        let library = |route: &[u8]| {
+            let count = raw::judge(route, ERO, black_box(FREE), PST).count;
+            let mut at = strundevi::FIRST_PLACE;
+            for _ in 0..count {
+                let stepped = raw::step(route, ERO, at);
+                black_box(&stepped.segment);
+                at = stepped.next;
+            }
+            at
+        };
+        let reference = |route: &[u8]| {
+            let count = reference::judge(route, reference::Kind::Ero, black_box(&theirs), PST).unwrap_or(0);
+            let mut at = strundevi::FIRST_PLACE;
+            for _ in 0..count {
+                let Ok((segment, next)) = reference::step(route, reference::Kind::Ero, at) else { break };
+                black_box(&segment);
+                at = next;
+            }
+            at
+        };
+        assert_eq!((library(route), reference(route)), (route.len(), route.len()));
+        self.time(
+            duty,
+            |_| {
+                black_box(library(black_box(route)));
+            },
+            |_| {
+                black_box(reference(black_box(route)));
+            },
+        );
+    }
+
     /// Writing `n` segments that are a SID and nothing else, or have every part.
     fn write(&mut self, duty: &str, n: usize, whole: bool) {
         let mut ours = vec![0u8; 8192];
@@ -268,6 +303,9 @@ fn main() {
     bench.segment("segment 0 of 1", &plain_route(1), 0);
     bench.segment("segment 15 of 16", &plain_route(16), 15);
     bench.segment("segment 4 of 16, with an NAI", &mixed_route(16), 4);
+    for n in [16, 2729] {
+        bench.steps(&format!("all segments in one pass: {n}"), &plain_route(n));
+    }
     bench.write("begin, 16 adds, finish", 16, false);
     bench.write("begin, 16 adds of all parts, finish", 16, true);
     bench.board(PLACES, "full board", &random_keys());

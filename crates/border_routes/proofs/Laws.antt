@@ -13,7 +13,10 @@ use Rattle.border_records.specs.declared.verdict.VerdictRecord.{VerdictRecord}
 use Rattle.border_records.specs.declared.agreement.SessionRecord.{SessionRecord}
 use Rattle.border_records.specs.Records.{isYes, sessionIn, verdictOut}
 use Rattle.border_segment.specs.declared.picking.PickedRecord.{PickedRecord}
-use Rattle.border_segment.specs.Segments.{pickedOut}
+use Rattle.border_segment.specs.declared.stepping.SteppedRecord.{SteppedRecord}
+use Rattle.border_segment.specs.Segments.{pickedOut, steppedOut}
+use Rattle.route_step.specs.declared.stepping.Stepped.{Stepped}
+use Rattle.route_step.specs.Steps.{stepOf}
 
 -- A verdict with a count is an acceptance.
 counted-at : (c : Bool) (n p : ℕ) (v : Verdict) → (cond c (refusedBy n p) v .count ≡ 0 → ⊥) → cond c (refusedBy n p) v ≡ v
@@ -46,3 +49,7 @@ module _ (s : List ℕ) (ero : ℕ) (session : SessionRecord) (k : Bool) (g : Se
   pub segment-told : (pst i : ℕ) (p : Picked) (r : PickedRecord) → p ≡ segmentOf s k g pst i → r ≡ pickedOut p
       → r ≡ pickedOut (segmentOf s (isYes ero) (sessionIn session) pst i)
   segment-told pst i p r e o = o ∙ ap pickedOut (e ∙ same (λ (x : Bool) (y : Session). segmentOf s x y pst i))
+
+pub step-told : (s : List ℕ) (ero at : ℕ) (k : Bool) (x : Stepped) (r : SteppedRecord) → k ≡ isYes ero → x ≡ stepOf s k at → r ≡ steppedOut x
+    → r ≡ steppedOut (stepOf s (isYes ero) at)
+step-told s ero at k x r f e o = o ∙ ap steppedOut (e ∙ ap (λ (b : Bool). stepOf s b at) f)

@@ -1,11 +1,13 @@
-// Judging a route, and asking for its segments, over the records of the border (include/strundevi.h). `ero` is a flag: an ERO, else an RRO.
+// Judging a route, asking for its segments and stepping through it, over the records of the border (include/strundevi.h). `ero` is a flag: an ERO, else an RRO.
 ghost use mathlib.Core.Path.{_≡_};
 ghost use Rattle.route.specs.Routes.{judgeOf, segmentOf};
 ghost use Rattle.border_records.specs.Records.{isYes, sessionIn, verdictOut};
-ghost use Rattle.border_segment.specs.Segments.{pickedOut};
+ghost use Rattle.route_step.specs.Steps.{stepOf};
+ghost use Rattle.border_segment.specs.Segments.{pickedOut, steppedOut};
 use border_records::SessionRecord;
 use border_records::VerdictRecord;
 use border_segment::PickedRecord;
+use border_segment::SteppedRecord;
 
 // The verdict on a route under a session and a setup type. An acceptance is laid out by its count alone, which is
 // quicker than to copy it.
@@ -32,4 +34,12 @@ pub fn segment_at(octets: &[u8], ero: u8, session: SessionRecord, pst: u64, i: u
     let kind = border_records::yes(ero);
     let agreed = border_records::session_in(session);
     border_segment::picked_out(route::segment(octets, kind, agreed, pst, i))
+}
+
+// The segment at a place of a judged route, and the place behind it.
+pub fn step(octets: &[u8], ero: u8, at: usize) -> SteppedRecord
+    ensures stepped { λ r. ⌜ r ≡ steppedOut (stepOf (now (octets .entry)) (isYes ero) at) ⌝ }
+{
+    let kind = border_records::yes(ero);
+    border_segment::stepped_out(route_step::step(octets, kind, at))
 }

@@ -5,7 +5,9 @@ use Rattle.route.specs.declared.picking.Picked.{Picked}
 use Rattle.border_records.specs.Records.{isYes, flagOf, verdictOut}
 use Rattle.border_segment.specs.declared.segment.OutlineRecord.{OutlineRecord}
 use Rattle.border_segment.specs.declared.segment.SegmentRecord.{SegmentRecord}
+use Rattle.route_step.specs.declared.stepping.Stepped.{Stepped}
 use Rattle.border_segment.specs.declared.picking.PickedRecord.{PickedRecord}
+use Rattle.border_segment.specs.declared.stepping.SteppedRecord.{SteppedRecord}
 
 abbrev pub outlineIn : OutlineRecord → Outline
 outlineIn o =
@@ -39,3 +41,6 @@ outlineWithin g =
 
 abbrev pub pickedOut : Picked → PickedRecord
 pickedOut p = record { verdict = verdictOut (p .verdict); segment = segmentOut (p .segment) }
+
+abbrev pub steppedOut : Stepped → SteppedRecord
+steppedOut x = record { verdict = verdictOut (x .verdict); segment = segmentOut (x .segment); next = x .next }

@@ -1,6 +1,7 @@
-// A segment as it crosses the border to C and Rust, and what asking for one hands back (include/strundevi.h).
+// A segment as it crosses the border to C and Rust, and what asking for one and stepping through a route hand back (include/strundevi.h).
 mod picking;
 mod segment;
+mod stepping;
 
 pub use picking::PickedRecord;
 pub use picking::picked_out;
@@ -8,3 +9,5 @@ pub use segment::OutlineRecord;
 pub use segment::SegmentRecord;
 pub use segment::outline_in;
 pub use segment::segment_out;
+pub use stepping::SteppedRecord;
+pub use stepping::stepped_out;

@@ -18,7 +18,8 @@ use Rattle.border_records.specs.declared.opened.OpenedRecord.{OpenedRecord}
 use Rattle.border_records.specs.declared.agreement.SessionRecord.{SessionRecord}
 use Rattle.border_segment.specs.declared.segment.OutlineRecord.{OutlineRecord}
 use Rattle.border_records.specs.Records.{isYes, openedIn, openedOut, sessionIn, sessionOut, verdictOut}
-use Rattle.border_segment.specs.Segments.{outlineIn, pickedOut}
+use Rattle.route_step.specs.Steps.{stepOf}
+use Rattle.border_segment.specs.Segments.{outlineIn, pickedOut, steppedOut}
 use Rattle.border_segment.specs.declared.picking.PickedRecord.{PickedRecord}
 use Rattle.border_answers.specs.declared.writing.WriterRecord.{WriterRecord}
 use Rattle.border_answers.specs.declared.writing.WrittenRecord.{WrittenRecord}
@@ -47,6 +48,9 @@ judge-determined s ero session pst = one _
 pub segment-determined : (s : List ℕ) (ero : ℕ) (session : SessionRecord) (pst i : ℕ)
     → One (pickedOut (segmentOf s (isYes ero) (sessionIn session) pst i))
 segment-determined s ero session pst i = one _
+
+pub step-determined : (s : List ℕ) (ero at : ℕ) → One (steppedOut (stepOf s (isYes ero) at))
+step-determined s ero at = one _
 
 pub begin-determined : (b : List ℕ) (w : WriterRecord) (ero : ℕ)
     → One (writtenOut (beginAnswer b (writerIn w) (isYes ero))) × One (beginBuffer b (writerIn w) (isYes ero))

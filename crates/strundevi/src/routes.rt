@@ -1,11 +1,13 @@
-// Judging a route, and asking for its segments. `ero` is a flag: an ERO, else an RRO.
+// Judging a route, asking for its segments, and stepping through it. `ero` is a flag: an ERO, else an RRO.
 ghost use mathlib.Core.Path.{_≡_};
 ghost use Rattle.route.specs.Routes.{judgeOf, segmentOf};
 ghost use Rattle.border_records.specs.Records.{isYes, sessionIn, verdictOut};
-ghost use Rattle.border_segment.specs.Segments.{pickedOut};
+ghost use Rattle.route_step.specs.Steps.{stepOf};
+ghost use Rattle.border_segment.specs.Segments.{pickedOut, steppedOut};
 use border_records::SessionRecord;
 use border_records::VerdictRecord;
 use border_segment::PickedRecord;
+use border_segment::SteppedRecord;
 
 // The verdict on a route under a session and a setup type.
 #[no_mangle]
@@ -32,4 +34,12 @@ pub extern "C" fn strundevi_raw_segment_at(
     ensures picked { λ r. ⌜ r ≡ pickedOut (segmentOf (now (octets .entry)) (isYes ero) (sessionIn session) pst i) ⌝ }
 {
     border_routes::segment_at(octets, ero, session, pst, i)
+}
+
+// The segment at a place of a judged route, and the place behind it.
+#[no_mangle]
+pub extern "C" fn strundevi_raw_step(octets: &[u8], ero: u8, at: usize) -> SteppedRecord
+    ensures stepped { λ r. ⌜ r ≡ steppedOut (stepOf (now (octets .entry)) (isYes ero) at) ⌝ }
+{
+    border_routes::step(octets, ero, at)
 }

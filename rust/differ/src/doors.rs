@@ -77,6 +77,17 @@ pub fn segment(door: Door, s: &[u8], ero: bool, session: &theirs::Session, pst: 
     }
 }
 
+pub fn step(door: Door, s: &[u8], ero: bool, at: usize) -> raw::Stepped {
+    match door {
+        Door::Archive => raw::step(s, ero as u8, at),
+        Door::Header => header::step(s, ero as u8, at),
+        Door::Wrapper => match strundevi::step(s, plain::safe_kind(ero), at) {
+            Ok((segment, next)) => raw::Stepped { verdict: verdict(Ok(0)), segment: plain::told(&segment), next },
+            Err(refusal) => raw::Stepped { verdict: refused(refusal), segment: raw::Segment::ZERO, next: at },
+        },
+    }
+}
+
 pub fn begin(door: Door, buffer: &mut [u8], writer: raw::Writer, ero: bool) -> raw::Written {
     match door {
         Door::Archive => raw::begin(buffer, writer, ero as u8),

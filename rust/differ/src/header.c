@@ -17,6 +17,10 @@ strundevi_picked header_segment_at(const uint8_t *octets, size_t length, uint8_t
     return strundevi_segment_at(octets, length, ero ? STRUNDEVI_ERO : STRUNDEVI_RRO, session, pst, i);
 }
 
+strundevi_stepped header_step(const uint8_t *octets, size_t length, uint8_t ero, size_t at) {
+    return strundevi_step(octets, length, ero ? STRUNDEVI_ERO : STRUNDEVI_RRO, at);
+}
+
 strundevi_written header_begin(uint8_t *buffer, size_t size, strundevi_writer writer, uint8_t ero) {
     return strundevi_begin(buffer, size, writer, ero ? STRUNDEVI_ERO : STRUNDEVI_RRO);
 }
@@ -84,6 +88,7 @@ static const size_t layout[] = {
     sizeof(strundevi_segment), AT(segment, loose), AT(segment, verify), AT(segment, nt), AT(segment, behaviour), AT(segment, hassid),
     AT(segment, sid), AT(segment, nai), AT(segment, structured), AT(segment, structure),
     sizeof(strundevi_picked), AT(picked, verdict), AT(picked, segment),
+    sizeof(strundevi_stepped), AT(stepped, verdict), AT(stepped, segment), AT(stepped, next),
     sizeof(strundevi_writer), AT(writer, ero), AT(writer, at),
     sizeof(strundevi_written), AT(written, verdict), AT(written, writer),
     sizeof(strundevi_board), AT(board, keys), AT(board, versions), AT(board, lengths), AT(board, version), AT(board, floor),
@@ -99,7 +104,7 @@ static const uint64_t numbers[] = {
     STRUNDEVI_STRUCTURE_TOO_LONG, STRUNDEVI_TOO_MANY_SEGMENTS, STRUNDEVI_NOT_AGREED, STRUNDEVI_NO_SRV6, STRUNDEVI_NO_SUCH_SEGMENT,
     STRUNDEVI_BUFFER_FULL, STRUNDEVI_NOT_A_BOARD, STRUNDEVI_KEY_OUT_OF_RANGE, STRUNDEVI_BODY_TOO_LONG, STRUNDEVI_VERSIONS_USED_UP,
     STRUNDEVI_ALL_PATHS, STRUNDEVI_NO_PATH, STRUNDEVI_MARK_TOO_OLD, STRUNDEVI_MARK_AHEAD,
-    STRUNDEVI_SID_OCTETS, STRUNDEVI_NAI_OCTETS, STRUNDEVI_STRUCTURE_OCTETS, STRUNDEVI_OBJECT_MOST, STRUNDEVI_PLACES, STRUNDEVI_PLACE_OCTETS,
+    STRUNDEVI_FIRST_PLACE, STRUNDEVI_SID_OCTETS, STRUNDEVI_NAI_OCTETS, STRUNDEVI_STRUCTURE_OCTETS, STRUNDEVI_OBJECT_MOST, STRUNDEVI_PLACES, STRUNDEVI_PLACE_OCTETS,
     STRUNDEVI_STORE_OCTETS, STRUNDEVI_KEY_MOST, STRUNDEVI_VERSION_MOST, STRUNDEVI_PST_SRV6, STRUNDEVI_RRO, STRUNDEVI_ERO, STRUNDEVI_REFUSED,
     STRUNDEVI_PATH, STRUNDEVI_REMOVED, STRUNDEVI_LEVEL, STRUNDEVI_VERSION_MAJOR, STRUNDEVI_VERSION_MINOR, STRUNDEVI_VERSION_PATCH, STRUNDEVI_VERSION,
 };

@@ -2,7 +2,7 @@
 
 use std::ffi::{c_char, CStr};
 use std::mem::{offset_of, size_of};
-use strundevi::raw::{Mark, Next, Opened, Part, Picked, Record, Segment, Session, Verdict, Writer, Written};
+use strundevi::raw::{Mark, Next, Opened, Part, Picked, Record, Segment, Session, Stepped, Verdict, Writer, Written};
 use strundevi::{Kind, Number, PcErr};
 
 #[repr(C)]
@@ -16,6 +16,7 @@ extern "C" {
     fn header_agree(pcc: Opened, pce: Opened) -> Session;
     fn header_judge(octets: *const u8, length: usize, ero: u8, session: Session, pst: u64) -> Verdict;
     fn header_segment_at(octets: *const u8, length: usize, ero: u8, session: Session, pst: u64, i: u64) -> Picked;
+    fn header_step(octets: *const u8, length: usize, ero: u8, at: usize) -> Stepped;
     fn header_begin(buffer: *mut u8, size: usize, writer: Writer, ero: u8) -> Written;
     fn header_add(buffer: *mut u8, size: usize, writer: Writer, segment: *const Segment) -> Written;
     fn header_finish(buffer: *mut u8, size: usize, writer: Writer) -> Written;
@@ -57,6 +58,10 @@ pub fn judge(s: &[u8], ero: u8, session: Session, pst: u64) -> Verdict {
 
 pub fn segment(s: &[u8], ero: u8, session: Session, pst: u64, i: u64) -> Picked {
     unsafe { header_segment_at(s.as_ptr(), s.len(), ero, session, pst, i) }
+}
+
+pub fn step(s: &[u8], ero: u8, at: usize) -> Stepped {
+    unsafe { header_step(s.as_ptr(), s.len(), ero, at) }
 }
 
 pub fn begin(buffer: &mut [u8], writer: Writer, ero: u8) -> Written {
@@ -127,6 +132,7 @@ fn layout() -> Vec<usize> {
         Session: agreed n limited limit;
         Segment: loose verify nt behaviour hassid sid nai structured structure;
         Picked: verdict segment;
+        Stepped: verdict segment next;
         Writer: ero at;
         Written: verdict writer;
         Record: keys versions lengths version floor;
@@ -167,7 +173,7 @@ const NUMBERS: [(u8, Number, (u8, u8), (u8, u8)); 24] = [
 /// Every number and size that the header names, as the paper has them.
 fn numbers() -> Vec<u64> {
     let version: Vec<u64> = strundevi::VERSION.split('.').map(|part| part.parse().unwrap_or(u64::MAX)).collect();
-    let sizes = [16, 40, 4, 65_532, 128, 384, 49_152, 1_048_574, u64::MAX - 1, 3, 0, 1, 0, 1, 2, 3];
+    let sizes = [4, 16, 40, 4, 65_532, 128, 384, 49_152, 1_048_574, u64::MAX - 1, 3, 0, 1, 0, 1, 2, 3];
     let whole = version.iter().fold(0, |sum, part| 100 * sum + part);
     (0..=24).chain(sizes).chain(version).chain([whole]).collect()
 }
@@ -192,8 +198,9 @@ pub fn check() -> Result<(), String> {
         strundevi::VERSION_MOST,
         strundevi::OBJECT_MOST as u64,
         strundevi::PST_SRV6,
+        strundevi::FIRST_PLACE as u64,
     ];
-    if ours != [128, 384, 49_152, 1_048_574, u64::MAX - 1, 65_532, 3] {
+    if ours != [128, 384, 49_152, 1_048_574, u64::MAX - 1, 65_532, 3, 4] {
         return Err(format!("sizes\nwrapper {ours:?}"));
     }
     for (i, &(number, named, ero, rro)) in NUMBERS.iter().enumerate() {

@@ -158,6 +158,56 @@ pub fn check_route(tally: &mut Tally, s: &[u8], q: &Question) -> Result<(), Stri
     Ok(())
 }
 
+// ---- stepping
+
+type Stepped = (plain::Verdict, Option<reference::Segment>, usize);
+
+fn our_step(door: Door, s: &[u8], ero: bool, at: usize) -> Stepped {
+    let r = doors::step(door, s, ero, at);
+    (plain::ours(r.verdict), plain::segment_back(&r.segment), r.next)
+}
+
+fn their_step(s: &[u8], ero: bool, at: usize) -> Stepped {
+    let r = reference::step(s, plain::kind(ero), at);
+    let (segment, next) = r.unwrap_or((reference::Segment::default(), at));
+    (plain::theirs(&r, |_| 0), Some(segment), next)
+}
+
+/// Steps from a place until one is refused. In an accepted route they hand out its segments, and so does the wrapper's iterator.
+fn check_steps(tally: &mut Tally, s: &[u8], q: &Question, from: usize) -> Result<(), String> {
+    let mut handed = Vec::new();
+    let mut at = from;
+    loop {
+        let (ours, theirs) = (our_step(q.door, s, q.ero, at), their_step(s, q.ero, at));
+        tally.count(q.door, Call::Step, theirs.0 .0);
+        if ours != theirs {
+            return Err(format!("step at {at} of {}\nlibrary   {ours:?}\nreference {theirs:?}", shown(s, q)));
+        }
+        let (verdict, Some(segment), next) = theirs else { break };
+        if verdict.0 != 0 {
+            break;
+        }
+        handed.push(segment);
+        at = next;
+    }
+    let (number, _, count) = their_judge(s, q);
+    if from != strundevi::FIRST_PLACE || number != 0 {
+        return Ok(());
+    }
+    let asked = |i: usize| reference::segment(s, plain::kind(q.ero), &q.session, q.pst, i as u64).ok();
+    if at != s.len() || handed.len() != count || [0, q.i as usize % count, count - 1].iter().any(|&i| asked(i) != Some(handed[i])) {
+        return Err(format!("the steps are not the segments: {}", shown(s, q)));
+    }
+    if q.door == Door::Wrapper {
+        let iterator = strundevi::segments(s, plain::safe_kind(q.ero), &plain::safe_session(&q.session), q.pst);
+        let same = iterator.is_ok_and(|all| all.len() == count && all.map(|g| plain::segment_back(&plain::told(&g))).eq(handed.into_iter().map(Some)));
+        if !same {
+            return Err(format!("the iterator does not hand out the segments: {}", shown(s, q)));
+        }
+    }
+    Ok(())
+}
+
 // ---- every prefix, every octet, every inner length
 
 /// The object with its first n octets only; with each octet at each value; with each pair of octets at each small number; header mended or not.
@@ -217,7 +267,8 @@ pub fn exhaust(tally: &mut Tally, r: &mut Random) -> Result<(), String> {
     let free = Session { agreed: true, n: true, limit: None };
     for (ero, sample) in sample_routes(r) {
         for session in [free, Session { n: false, limit: Some(1), ..free }] {
-            around(&sample, |s| check_route(tally, s, &Question { door: Door::Archive, ero, session, pst: 3, i: 1 }))?;
+            let q = Question { door: Door::Archive, ero, session, pst: 3, i: 1 };
+            around(&sample, |s| check_route(tally, s, &q).and_then(|()| check_steps(tally, s, &q, 4)))?;
         }
     }
     Ok(())
@@ -282,6 +333,11 @@ pub fn routes(tally: &mut Tally, r: &mut Random, n: usize) -> Result<(), String>
         let asked = if r.one_in(30) { !ero } else { ero };
         let q = question(r, asked);
         check_route(tally, &object, &q)?;
+        if count < 200 || r.one_in(20) {
+            let place = r.number() as usize;
+            let from = r.of(&[4, 4, 0, 2, 8, 28, 68, object.len(), object.len().saturating_sub(4), place]);
+            check_steps(tally, &object, &q, from)?;
+        }
     }
     Ok(())
 }

@@ -9,6 +9,7 @@ pub enum Call {
     Ero,
     Rro,
     Segment,
+    Step,
     Begin,
     Add,
     Finish,
@@ -21,11 +22,12 @@ pub enum Call {
     Empty,
 }
 
-const CALLS: [(&str, &[usize]); 14] = [
+const CALLS: [(&str, &[usize]); 15] = [
     ("open", &[0, 1, 2, 3]),
     ("ero", &[0, 4, 5, 6, 7, 8, 9, 10, 11, 12, 13, 14]),
     ("rro", &[0, 4, 5, 6, 7, 8, 9, 11, 13, 14]),
     ("segment", &[0, 4, 5, 6, 7, 8, 9, 10, 11, 12, 13, 14, 15]),
+    ("step", &[0, 4, 7, 8, 9, 11, 14, 15]),
     ("begin", &[0, 16]),
     ("add", &[0, 7, 8, 9, 11, 16]),
     ("finish", &[0, 5, 16]),

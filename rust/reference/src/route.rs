@@ -189,6 +189,26 @@ pub fn segment(s: &[u8], kind: Kind, session: &Session, pst: u64, i: u64) -> Ans
     Ok(read(&s[at..], kind))
 }
 
+/// The segment at a place, looked at by itself, and the place behind it: 15, 4, 14, then 8, 9, 7, 11.
+#[inline]
+pub fn step(s: &[u8], kind: Kind, at: usize) -> Answer<(Segment, usize)> {
+    if at < 4 || at % 4 != 0 || at >= s.len() {
+        return refuse(NO_SUCH_SEGMENT);
+    }
+    let rest = &s[at..];
+    let length = rest.get(1).map_or(0, |&length| length as usize);
+    if length < 4 || length % 4 != 0 || length > rest.len() {
+        return refuse(FRAME_BROKEN);
+    }
+    if rest[0] & kind.type_bits() != SRV6 {
+        return refuse(NO_SRV6);
+    }
+    if let Some(number) = broken(&rest[..length], false) {
+        return refuse_at(number, at);
+    }
+    Ok((read(rest, kind), at + length))
+}
+
 /// What a subobject that broke no rule says.
 fn read(sub: &[u8], kind: Kind) -> Segment {
     let ero = kind == Kind::Ero;

@@ -2,7 +2,7 @@
 //!
 //!     cargo run --release --offline --example route
 
-use strundevi::{judge, read_open, segment, Board, Change, Kind, Refusal, Segment, Session, Writer, PST_SRV6, STORE_OCTETS};
+use strundevi::{judge, read_open, segment, segments, Board, Change, Kind, Refusal, Segment, Session, Writer, PST_SRV6, STORE_OCTETS};
 
 const OPEN: [u8; 32] = [
     0x01, 0x10, 0x00, 0x20, 0x20, 0x1E, 0x78, 0x07, 0x00, 0x22, 0x00, 0x12, 0x00, 0x00, 0x00, 0x01, 0x03, 0x00, 0x00, 0x00, 0x00, 0x1B, 0x00, 0x06, 0x00, 0x00,
@@ -28,6 +28,9 @@ fn main() -> Result<(), Refusal> {
     println!("judged: {} segments", judge(route, Kind::Ero, &session, PST_SRV6)?);
     let last = segment(route, Kind::Ero, &session, PST_SRV6, 2)?;
     println!("segment 2: last octet of the SID {:?}", last.sid().map(|sid| sid[15]));
+    for (i, step) in segments(route, Kind::Ero, &session, PST_SRV6)?.enumerate() {
+        println!("step {i}: last octet of the SID {:?}", step.sid().map(|sid| sid[15]));
+    }
 
     let mut board = Board::new(vec![0; STORE_OCTETS]);
     let mut mark = board.fresh_mark();

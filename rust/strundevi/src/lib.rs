@@ -33,7 +33,7 @@ mod writer;
 pub use answer::{Number, PcErr, Refusal, Result};
 pub use board::{Board, Change, Mark, KEY_MOST, PLACES, PLACE_OCTETS, STORE_OCTETS, VERSION_MOST};
 pub use open::{read_open, Open, Session};
-pub use route::{judge, segment, Kind, Nai, Segment, PST_SRV6};
+pub use route::{judge, segment, segments, step, Kind, Nai, Segment, Segments, FIRST_PLACE, PST_SRV6};
 pub use writer::{Writer, OBJECT_MOST};
 
 /// The version of this crate, which is that of the header.

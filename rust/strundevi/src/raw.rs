@@ -61,6 +61,14 @@ pub struct Picked {
     pub segment: Segment,
 }
 
+#[repr(C)]
+#[derive(Clone, Copy)]
+pub struct Stepped {
+    pub verdict: Verdict,
+    pub segment: Segment,
+    pub next: usize,
+}
+
 /// What a segment names beside its octets.
 #[repr(C)]
 #[derive(Clone, Copy)]
@@ -133,6 +141,7 @@ extern "C" {
     fn strundevi_raw_agree(pcc: Opened, pce: Opened) -> Session;
     fn strundevi_raw_judge(octets: *const u8, length: usize, ero: u8, session: Session, pst: u64) -> Verdict;
     fn strundevi_raw_segment_at(octets: *const u8, length: usize, ero: u8, session: Session, pst: u64, i: u64) -> Picked;
+    fn strundevi_raw_step(octets: *const u8, length: usize, ero: u8, at: usize) -> Stepped;
     fn strundevi_raw_begin(buffer: *mut u8, size: usize, writer: Writer, ero: u8) -> Written;
     fn strundevi_raw_add(
         buffer: *mut u8,
@@ -221,6 +230,11 @@ pub fn judge(octets: &[u8], ero: u8, session: Session, pst: u64) -> Verdict {
 #[inline]
 pub fn segment(octets: &[u8], ero: u8, session: Session, pst: u64, i: u64) -> Picked {
     unsafe { strundevi_raw_segment_at(octets.as_ptr(), octets.len(), ero, session, pst, i) }
+}
+
+#[inline]
+pub fn step(octets: &[u8], ero: u8, at: usize) -> Stepped {
+    unsafe { strundevi_raw_step(octets.as_ptr(), octets.len(), ero, at) }
 }
 
 #[inline]

@@ -193,3 +193,61 @@ pub fn segment(octets: &[u8], kind: Kind, session: &Session, pst: u64, i: u64) -
     let r = raw::segment(octets, kind.raw(), session.raw(), pst, i);
     r.verdict.count().map(|_| Segment(r.segment))
 }
+
+/// The segments of a good route, one after the other, in one pass over its octets.
+///
+/// ```
+/// use strundevi::{segments, Kind, Session, PST_SRV6};
+///
+/// let session = Session { agreed: true, n: true, limit: None };
+/// let route = [7, 16, 0, 28, 40, 24, 0, 2, 0, 0, 0, 1, 32, 1, 13, 184, 0, 0, 0, 1, 0, 0, 0, 0, 0, 0, 0, 1];
+/// let mut behaviours = Vec::new();
+/// for segment in segments(&route, Kind::Ero, &session, PST_SRV6)? {
+///     behaviours.push(segment.behaviour());
+/// }
+/// assert_eq!(behaviours, [1]);
+/// # Ok::<(), strundevi::Refusal>(())
+/// ```
+#[derive(Clone, Debug)]
+pub struct Segments<'a> {
+    octets: &'a [u8],
+    kind: Kind,
+    at: usize,
+    left: usize,
+}
+
+/// The segments of a good route. Refused as `judge` is.
+#[inline]
+pub fn segments<'a>(octets: &'a [u8], kind: Kind, session: &Session, pst: u64) -> Result<Segments<'a>> {
+    let left = judge(octets, kind, session, pst)?;
+    Ok(Segments { octets, kind, at: FIRST_PLACE, left })
+}
+
+/// The place of a route's first segment.
+pub const FIRST_PLACE: usize = 4;
+
+/// The segment at a place of a route that was judged, and the place behind it. Refused with 15 at a place under 4, no multiple of 4, or at or past the
+/// end; with 4, 14, 8, 9, 7, 11 of the one subobject, which is all that is looked at.
+#[inline]
+pub fn step(octets: &[u8], kind: Kind, at: usize) -> Result<(Segment, usize)> {
+    let r = raw::step(octets, kind.raw(), at);
+    r.verdict.count().map(|_| (Segment(r.segment), r.next))
+}
+
+impl Iterator for Segments<'_> {
+    type Item = Segment;
+
+    #[inline]
+    fn next(&mut self) -> Option<Segment> {
+        let (segment, next) = step(self.octets, self.kind, self.at).ok()?;
+        self.at = next;
+        self.left = self.left.saturating_sub(1);
+        Some(segment)
+    }
+
+    fn size_hint(&self) -> (usize, Option<usize>) {
+        (self.left, Some(self.left))
+    }
+}
+
+impl ExactSizeIterator for Segments<'_> {}

@@ -1,0 +1,15 @@
+use borrow.Author.Needs.{needs}
+use Rattle.border_segment.proofs.stepping.stepped_out.Statement.{statement}
+use Rattle.border_segment.proofs.stepping.stepped_out.Tie as tie
+
+verdict-out-requires : tie.Need-verdict-out-requires
+verdict-out-requires c κs = search needs
+
+segment-out-requires : tie.Need-segment-out-requires
+segment-out-requires c κs = search needs
+
+returns : tie.Need-returns
+returns c = cc
+
+pub stepped-out-spec : {M : Type 1} → statement M
+stepped-out-spec = tie.close (tie.spec verdict-out-requires segment-out-requires returns)
