@@ -114,6 +114,16 @@ def trial_open():
             opened(setup([3], srv6(1, [7]))), opened(setup([3], srv6(0, [41]))), opened(setup([3], srv6(2, [41, 200, 42, 3, 44, 7, 45, 5]))), opened(setup([3], srv6(0, [41, 1, 43, 1]))),
             opened(setup([3], srv6(3, []))), opened(setup([3], srv6(0xFC, [45, 255]))), opened(setup([3], srv6(0xFE, [45, 255])))]
             + [opened(setup([3], srv6(0, [n, 8]))) for n in (0, 40, 41, 42, 43, 44, 45, 46, 255)]),
+        ("the limit: 44 with v permits the larger of 1 and v", [opened(setup([3], srv6(0, [44, v]))) for v in (0, 1, 2, 3, 254, 255)]),
+        ("41 with m permits m + 1", [opened(setup([3], srv6(0, [41, m]))) for m in (0, 1, 2, 3, 254, 255)]),
+        ("42 and 45 set none, whatever their values and wherever they stand", [opened(setup([3], srv6(0, pairs))) for pairs in
+            ([42, 0], [42, 1], [45, 0], [45, 1], [42, 1, 45, 1], [42, 1, 42, 0, 45, 255], [42, 1, 44, 7], [44, 7, 42, 1], [45, 0, 41, 6], [41, 6, 45, 0], [42, 1, 44, 7, 45, 2, 41, 9])]),
+        ("the smaller of the two, whichever stands first", [opened(setup([3], srv6(0, pairs))) for v, m in
+            ((4, 2), (4, 3), (4, 4), (2, 4), (1, 0), (0, 0), (0, 5), (5, 0), (255, 254), (255, 255), (254, 255)) for pairs in ([44, v, 41, m], [41, m, 44, v])]),
+        ("of a repeated type the smallest value", [opened(setup([3], srv6(0, pairs))) for pairs in
+            ([44, 5, 44, 3], [44, 3, 44, 5], [44, 7, 44, 3, 44, 5], [44, 0, 44, 9], [44, 9, 44, 0], [41, 5, 41, 3], [41, 3, 41, 5], [41, 255, 41, 0, 41, 9],
+             [44, 9, 41, 9, 44, 6, 41, 7], [44, 9, 41, 9, 44, 8, 41, 6], [42, 1, 44, 9, 42, 0, 44, 8])]),
+        ("with X set none, whatever the pairs", [opened(setup([3], srv6(1, pairs))) for pairs in ([44, 0], [41, 0, 44, 1], [42, 1], [44, 4, 41, 4, 7, 7])]),
         ("sub-TLV 27 of fewer than 4 octets, with and without type 3", [opened(setup(types, tlv(27, bytes(n)))) for types in ([3], [0]) for n in range(0, 8)]),
         ("TLVs that nobody knows are passed over", [opened(tlv(1, b"abcde"), setup([3], two)), opened(tlv(65535, b""), tlv(0, b"x"), setup([3], two), tlv(99, b"zz")), opened(tlv(1, b"abcde", 2), setup([3], two)),
             opened(setup([3], tlv(26, b"abcd") + two)), opened(), opened(tlv(27, b"abcd"))]),
@@ -127,7 +137,7 @@ def trial_open():
             pcc(b)
     out.append("# a session: SRv6 is agreed if both carry it; N and the limit are the PCC's")
     bare = opened(setup([0], b""))
-    able = opened(setup([3], srv6(2, [41, 1])))
+    able = opened(setup([3], srv6(2, [44, 1])))
     nosid = route([sub(nt=2, s=1)])
     pair = route([sub(), sub()])
     for a in (O, bare, O[:9], able):
@@ -237,15 +247,18 @@ def trial_route():
     for b in (sub(nt=2, s=1, t=1), sub(nt=2, s=1, t=1) + bytes(8), sub(reserved=255), bytes([40, 24, 0x0F, 0xF2]) + E[8:]):
         ero(route([b]))
         out.append("ero-segment 3 0 " + hexes(route([b])))
-    out.append("# limits: none, 0, 1, 255")
-    for pairs in ((), (41, 0), (41, 1), (41, 255)):
+    out.append("# limits: none, 1, 2, 255, 256; End Pop 1 sets none")
+    for pairs in ((), (42, 1), (42, 0, 45, 0), (44, 0), (41, 0), (44, 1), (41, 1), (44, 2), (42, 1, 44, 2), (44, 255), (41, 255)):
         agree(out, 0, pairs)
-        ero(E)
-        ero(route([sub()] * 2))
-        if pairs == (41, 255):
-            ero(route([sub()] * 255))
-            ero(route([sub()] * 256))
-        rro(route([sub()] * 2, 8))
+        for n in (1, 2, 3) + ((254, 255, 256, 257) if 255 in pairs else ()):
+            ero(route([sub()] * n))
+        rro(route([sub()] * 3, 8))
+    out.append("# what was reported stays on the board, whatever the session permits later: a limit of 1, then SRv6 not agreed")
+    agree(out, 0, ())
+    two = hexes(route([sub()] * 2))
+    out += ["report 7 3 " + two, "body 7"]
+    agree(out, 0, (44, 1))
+    out += ["body 7", "next 0 0", "report 7 3 " + two, "body 7", "report 8 3 " + two, "report 8 3 " + hexes(E), "body 7", "pcc -", "report 7 3 " + hexes(E), "body 7", "next 0 0", "next 0 1", "board"]
     out.append("# segments: each of a route, then 15")
     agree(out, 2, ())
     for i in (0, 1, 2, 3, 4, 2**32, ALL64):

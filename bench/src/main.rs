@@ -22,6 +22,15 @@ const PLACES: usize = 128;
 const ERO: u8 = 1;
 const FREE: raw::Session = raw::Session { agreed: 1, n: 1, limited: 0, limit: 0 };
 
+/// O with other pairs of MSD type and value, an even number of them.
+fn open_with(pairs: &[u8]) -> Vec<u8> {
+    let mut octets = O[..28].to_vec();
+    octets.extend_from_slice(pairs);
+    octets[11] = (octets.len() - 12) as u8;
+    octets[23] = (octets.len() - 24) as u8;
+    seal(octets)
+}
+
 /// A route of `n` segments like E's.
 fn plain_route(n: usize) -> Vec<u8> {
     let mut octets = E[..4].to_vec();
@@ -294,6 +303,17 @@ fn main() {
         },
         |_| {
             black_box(reference::read_open(black_box(&O))).ok();
+        },
+    );
+    let eight = open_with(&[41, 9, 42, 1, 44, 7, 45, 2, 44, 8, 41, 6, 42, 0, 45, 5]);
+    assert_eq!(raw::read_open(&eight).limit, 7);
+    bench.time(
+        "OPEN, pairs: 8",
+        |_| {
+            black_box(raw::read_open(black_box(&eight)));
+        },
+        |_| {
+            black_box(reference::read_open(black_box(&eight))).ok();
         },
     );
     for n in [1, 4, 16, 2729] {

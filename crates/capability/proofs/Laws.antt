@@ -1,23 +1,23 @@
--- Laws of the octet-by-octet and pair-by-pair loops, in the order of the definitions.
-use Prim.Native.Nat.{ℕ, suc, _+_, _-_, _≤_, _<_}
-use native.Mathlib.Nat.{min-comm}
-use native.Mathlib.Numerals.{add-one, add-two}
-use native.Mathlib.Omega.{arith}
-use mathlib.Core.Path.{_≡_, refl, ap}
-use mathlib.Core.List.{List, [], _∷_}
-use mathlib.Core.Bool.{Bool, true, false, _&&_}
-use lib.ListN.{length, getD, take, drop, length-drop, drop-of-length-le}
+-- Laws of the octet-by-octet loop, in the order of the definitions.
+use Prim.Native.Nat.{ℕ, _+_, _≤_, _<_}
+use native.Mathlib.Numerals.{add-one}
+use mathlib.Core.Path.{_≡_, refl}
+use mathlib.Core.Logic.{_↔_, _⊎_, inl, inr, ⊎-elim}
+use mathlib.Core.List.{List, []}
+use mathlib.Core.Bool.{Bool, true, false, cond, _&&_, false≢true}
+use lib.ListN.{length, getD, take, drop, drop-of-length-le}
 use lib.Seq.{drop-cons}
 use lib.Dec.{leb}
 use borrow.Author.Tests.{eq-eqb, ne-eqb, leb-true}
 use Rattle.answers.proofs.Determined.{determined}
-use Rattle.session.specs.declared.Limit.{Limit}
-use Rattle.session.specs.declared.Limit.the-variants.{Free, Most}
+use Rattle.session.specs.declared.Limit.the-variants.{Free}
 use Rattle.session.specs.declared.Opened.{Opened}
+use Rattle.msd.specs.Msd.{maxSegmentsLeft, maxHEncaps}
+use Rattle.msd_limit.specs.Limits.{limitIn, present, onlyEnds}
+use Rattle.msd_limit.proofs.Theorems.{free-exactly, only-ends-limit-nothing}
 use Rattle.octets.specs.Octets.{part}
 use Rattle.capability.specs.SetupTypes.{typesAt, typeCount, hasOf, listSize, listsType}
-use Rattle.capability.specs.Msd.{pairsIn, leastOf}
-use Rattle.capability.specs.Srv6.{announcedOf}
+use Rattle.capability.specs.Srv6.{xOf, pairsOf, hEncapsOf, segmentsLeftOf, limitOf, announcedOf}
 
 -- tests --------------------------------------------------------------------------------------------------------
 
@@ -42,35 +42,27 @@ pub listed-lent : (kind : ℕ) (v : List ℕ) (n : ℕ) {found : Bool} → found
 unfolding listsType part
 listed-lent kind v n e h = rw (← h) e
 
--- pairs --------------------------------------------------------------------------------------------------------
+-- the limit ----------------------------------------------------------------------------------------------------
 
-short : (q : List ℕ) → length q ≤ 1 → pairsIn q ≡ []
-short [] h = refl
-short (a ∷ []) h = refl
-short (a ∷ b ∷ r) h = absurd (omega arith)
+module _ (w : List ℕ) where
+  -- There is no limit exactly if X is set or neither H.Encaps nor Segments Left is present.
+  pub no-limit-exactly : (limitOf w ≡ Free) ↔ ((xOf w ≡ true) ⊎ ((present maxHEncaps (pairsOf w) ≡ false) × (present maxSegmentsLeft (pairsOf w) ≡ false)))
+  unfolding limitOf hEncapsOf segmentsLeftOf
+  no-limit-exactly = go (xOf w)
+    where
+      go : (x : Bool) → (limitIn (cond x [] (pairsOf w)) ≡ Free)
+          ↔ ((x ≡ true) ⊎ ((present maxHEncaps (pairsOf w) ≡ false) × (present maxSegmentsLeft (pairsOf w) ≡ false)))
+      go true = (λ e. inl refl, λ h. refl)
+      go false = (λ e. inr (free-exactly (pairsOf w) .0 e), λ h. ⊎-elim (λ e. absurd (false≢true e)) (λ k. free-exactly (pairsOf w) .1 k) h)
 
-module _ (p : List ℕ) (i : ℕ) where
-  pub pairs-end : length p ≤ i + 1 → pairsIn (drop i p) ≡ []
-  pairs-end h = short (drop i p) (simp length-drop (omega arith))
-
-  pub pairs-next : i + 1 < length p → pairsIn (drop i p) ≡ record { kind = getD p i 0; value = getD p (i + 1) 0 } ∷ pairsIn (drop (i + 2) p)
-  pairs-next h = rw (drop-cons p i 0 (omega arith), drop-cons p (suc i) 0 (omega arith), add-one, add-two)
-
--- limits -------------------------------------------------------------------------------------------------------
-
--- The smaller one of two limits.
-abbrev pub lower : Limit → Limit → Limit
-lower Free l = l
-lower (Most v) l = leastOf v l
-
-pub lower-free : (l : Limit) → lower l Free ≡ l
-lower-free Free = refl
-lower-free (Most v) = refl
-
-pub lower-least : (got l : Limit) (v : ℕ) → lower (leastOf v got) l ≡ lower got (leastOf v l)
-lower-least Free l v = refl
-lower-least (Most m) Free v = ap Most (min-comm v m)
-lower-least (Most m) (Most n) v = ap Most (omega arith)
+  -- Pairs of End Pop and End D alone limit nothing.
+  pub ends-limit-nothing : onlyEnds (pairsOf w) ≡ true → limitOf w ≡ Free
+  unfolding limitOf hEncapsOf segmentsLeftOf
+  ends-limit-nothing e = go (xOf w)
+    where
+      go : (x : Bool) → limitIn (cond x [] (pairsOf w)) ≡ Free
+      go true = refl
+      go false = only-ends-limit-nothing (pairsOf w) e
 
 -- Any two answers that fit the contract of a call are equal ----------------------------------------------------
 

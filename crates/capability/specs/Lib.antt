@@ -1,3 +1,2 @@
 pub mod SetupTypes
-pub mod Msd
 pub mod Srv6

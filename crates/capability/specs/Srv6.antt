@@ -1,16 +1,17 @@
 -- "Sub-TLV 27 holds 2 reserved octets, 2 flag octets, then pairs of MSD type and MSD value" (document 01, "The OPEN object").
 use Prim.Native.Nat.{ℕ, _/_, _%_}
-use mathlib.Core.List.{List}
+use mathlib.Core.List.{List, []}
 use mathlib.Core.Bool.{Bool, true, cond, not, _&&_}
+use mathlib.Core.Option.{Option}
 use lib.ListN.{length, drop}
 use lib.Dec.{eqb, leb}
 use Rattle.octets.specs.Octets.{octetOf}
 use Rattle.answers.specs.Numbers.{openMalformed, wrongMsd}
 use Rattle.session.specs.declared.Limit.{Limit}
-use Rattle.session.specs.declared.Limit.the-variants.{Free}
 use Rattle.session.specs.declared.Opened.{Opened}
 use Rattle.session.specs.Sessions.{openRefused, openCarries}
-use Rattle.capability.specs.Msd.{Pair, pairsIn, wrongPairs, smallestIn}
+use Rattle.msd.specs.Msd.{maxSegmentsLeft, maxHEncaps, Pair, pairsIn, wrongPairs, smallestOf}
+use Rattle.msd_limit.specs.Limits.{limitBy}
 
 -- The type of the sub-TLV.
 abbrev pub srv6Capability : ℕ
@@ -44,9 +45,19 @@ pairsOf w = pairsIn (drop pairsAt w)
 unfoldable pub wrongOf : List ℕ → Bool
 wrongOf w = not (xOf w) && wrongPairs (pairsOf w)
 
--- "The depth limit is the smallest value of all pairs; with X set, or with no pair, there is none."
+-- With X set no pair counts.
+abbrev pub countingOf : List ℕ → List Pair
+countingOf w = cond (xOf w) [] (pairsOf w)
+
+-- H.Encaps' v and Segments Left's m, each there or not, and the limit of them.
+unfoldable pub hEncapsOf : List ℕ → Option ℕ
+hEncapsOf w = smallestOf maxHEncaps (countingOf w)
+
+unfoldable pub segmentsLeftOf : List ℕ → Option ℕ
+segmentsLeftOf w = smallestOf maxSegmentsLeft (countingOf w)
+
 unfoldable pub limitOf : List ℕ → Limit
-limitOf w = cond (xOf w) Free (smallestIn (pairsOf w))
+limitOf w = limitBy (hEncapsOf w) (segmentsLeftOf w)
 
 -- What the value of sub-TLV 27 carries where none of its rules is broken.
 abbrev pub carriesBy : List ℕ → Opened

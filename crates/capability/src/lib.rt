@@ -1,6 +1,5 @@
 // TLV 34 and its sub-TLV 27 (document 01, "The OPEN object").
 mod list;
-mod msd;
 mod srv6;
 
 pub use list::PATH_SETUP;

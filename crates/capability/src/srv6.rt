@@ -35,8 +35,9 @@ pub fn announced(w: &[u8]) -> Opened
     if flags / X % 2 == 1 {
         return session::carried(true, n, Limit::Free);
     }
-    if super::msd::wrong(&w[PAIRS..]) {
+    let pairs = msd::gather(&w[PAIRS..]);
+    if pairs.wrong {
         return session::refused_open(WRONG_MSD);
     }
-    session::carried(true, n, super::msd::lowest(&w[PAIRS..]))
+    session::carried(true, n, msd_limit::limit(pairs.encaps, pairs.left))
 }

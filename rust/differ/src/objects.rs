@@ -18,7 +18,7 @@ fn capability(r: &mut Random) -> Vec<u8> {
     value[3] &= if r.one_in(4) { 0xff } else { 0xfe };
     for _ in 0..r.of(&[0, 1, 1, 1, 2, 3, 8]) {
         let kind = if r.one_in(12) { r.octet() } else { r.of(&[41, 42, 44, 45]) };
-        let value_of = if r.one_in(4) { r.octet() } else { r.below(12) as u8 };
+        let value_of = if r.one_in(4) { r.octet() } else { r.of(&[0, 1, 2, 3, 4, 5, 6, 7, 8, 9, 10, 11, 254, 255]) };
         value.extend_from_slice(&[kind, value_of]);
     }
     if r.one_in(20) {

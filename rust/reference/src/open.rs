@@ -3,6 +3,9 @@
 //! TLV 34 holds 3 reserved octets, a count, that many setup types padded to 4, then sub-TLVs; only the padding of its last sub-TLV may be
 //! missing or cut. Sub-TLV 27 holds 2 reserved octets, 2 flag octets (N is 2, X is 1), then pairs of MSD type and value.
 //! Refused with 1, 2, 3, in that order.
+//!
+//! The depth limit, without X: H.Encaps with v permits the larger of 1 and v segments, Segments Left with m permits m + 1; the smaller
+//! counts, of a repeated type that of its smallest value; End Pop and End D set none.
 
 use crate::answer::{refuse, Answer, CAPABILITY_MISSING, OPEN_MALFORMED, WRONG_MSD};
 
@@ -14,6 +17,10 @@ const SRV6_CAPABILITY: u16 = 27;
 const SRV6: u8 = 3;
 const FLAG_N: u8 = 2;
 const FLAG_X: u8 = 1;
+const SEGMENTS_LEFT: u8 = 41;
+const END_POP: u8 = 42;
+const H_ENCAPS: u8 = 44;
+const END_D: u8 = 45;
 
 /// What an accepted OPEN says. Without SRv6, `n` is false and there is no limit.
 #[derive(Clone, Copy, Debug, Default, PartialEq, Eq)]
@@ -98,11 +105,14 @@ pub fn read_open(s: &[u8]) -> Answer<Open> {
     }
     let mut limit: Option<usize> = None;
     for pair in capability[4..].chunks_exact(2) {
-        if !matches!(pair[0], 41 | 42 | 44 | 45) {
-            return refuse(WRONG_MSD);
-        }
-        let value = pair[1] as usize;
-        limit = Some(limit.map_or(value, |least| least.min(value)));
+        let value = usize::from(pair[1]);
+        let permitted = match pair[0] {
+            H_ENCAPS => value.max(1),
+            SEGMENTS_LEFT => value + 1,
+            END_POP | END_D => continue,
+            _ => return refuse(WRONG_MSD),
+        };
+        limit = Some(limit.map_or(permitted, |least| least.min(permitted)));
     }
     Ok(Open { srv6: true, n, limit })
 }

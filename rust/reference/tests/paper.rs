@@ -73,7 +73,7 @@ fn last_padding_only_may_be_cut() {
         octets[3] = octets.len() as u8;
         read_open(&octets)
     };
-    let good = Ok(Open { srv6: true, n: false, limit: Some(9) });
+    let good = Ok(Open { srv6: true, n: false, limit: Some(10) });
     let head = [0, 0, 0, 1, 3, 0, 0, 0, 0, 27, 0, 6, 0, 0, 0, 0, 41, 9];
     assert_eq!(open(&head), good);
     for n in 1..=2 {
@@ -89,6 +89,44 @@ fn last_padding_only_may_be_cut() {
         }
     }
     assert_eq!(open(&head[..8]), refused(2, 0));
+}
+
+#[test]
+fn limits() {
+    let limit = |flags: u8, pairs: &[u8]| {
+        let mut octets = O[..28].to_vec();
+        octets.extend_from_slice(pairs);
+        octets[11] = (octets.len() - 12) as u8;
+        octets[23] = (octets.len() - 24) as u8;
+        octets[27] = flags;
+        octets.resize(octets.len().div_ceil(4) * 4, 0);
+        octets[3] = octets.len() as u8;
+        read_open(&octets).unwrap().limit
+    };
+    let rows: [(&[u8], Option<usize>); 18] = [
+        (&[], None),
+        (&[42, 1], None),
+        (&[45, 0, 42, 0], None),
+        (&[44, 0], Some(1)),
+        (&[44, 1], Some(1)),
+        (&[44, 2], Some(2)),
+        (&[44, 255], Some(255)),
+        (&[41, 0], Some(1)),
+        (&[41, 1], Some(2)),
+        (&[41, 255], Some(256)),
+        (&[42, 1, 44, 7, 45, 2], Some(7)),
+        (&[44, 4, 41, 2], Some(3)),
+        (&[41, 4, 44, 4], Some(4)),
+        (&[41, 3, 44, 5], Some(4)),
+        (&[44, 5, 44, 3, 44, 4], Some(3)),
+        (&[41, 5, 41, 3, 41, 4], Some(4)),
+        (&[44, 9, 41, 9, 44, 6, 41, 7], Some(6)),
+        (&[44, 9, 41, 9, 44, 8, 41, 6], Some(7)),
+    ];
+    for (pairs, most) in rows {
+        assert_eq!(limit(0, pairs), most, "{pairs:?}");
+        assert_eq!(limit(1, pairs), None, "{pairs:?}");
+    }
 }
 
 #[test]

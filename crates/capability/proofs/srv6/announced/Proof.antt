@@ -1,7 +1,7 @@
 -- Each return is one row of `announcedOf`: the tests that led there are rewritten into the definition, and it computes to what was returned.
--- What `wrong` and `lowest` say of the lent rest is said of the pairs by `rest-lent`.
+-- What `gather` says of the lent rest is said of the pairs by `rest-lent`.
 use Rattle.capability.proofs.Laws.{and-leb}
-use Rattle.capability.specs.Srv6.{announcedOf, sizedOf, nOf, xOf, wrongOf, limitOf}
+use Rattle.capability.specs.Srv6.{announcedOf, sizedOf, nOf, xOf, wrongOf, hEncapsOf, segmentsLeftOf, limitOf}
 use Rattle.octets.proofs.Laws.{rest-lent}
 use borrow.Author.Tests.{eq-eqb, ne-eqb, not-true, not-false}
 use lib.ListN.{length}
@@ -34,21 +34,21 @@ carried-requires : tie.Need-carried-requires
 carried-requires c κs = search needs
 
 returns-2 : tie.Need-returns-2
-unfolding announcedOf sizedOf wrongOf xOf nOf limitOf
+unfolding announcedOf sizedOf wrongOf xOf nOf limitOf hEncapsOf segmentsLeftOf
 returns-2 c = rw (c .carried .ensures, sym (c .before .before .before .before .both .ensures) ∙ not-false _ (c .before .before .before .if1 .left))
     (simp (← c .before .before .octet .ensures .0, eq-eqb _ _ (c .before .if2 .taken)))
 
-sub-wrong : tie.Need-sub-wrong
-sub-wrong c = long (c .before .before)
+sub-gather : tie.Need-sub-gather
+sub-gather c = long (c .before .before)
 
-part-wrong-start : tie.Need-part-wrong-start
-part-wrong-start c = omega (arith, long (c .before .before))
+part-gather-start : tie.Need-part-gather-start
+part-gather-start c = omega (arith, long (c .before .before))
 
-part-wrong-end : tie.Need-part-wrong-end
-part-wrong-end c = search needs
+part-gather-end : tie.Need-part-gather-end
+part-gather-end c = search needs
 
-wrong-requires : tie.Need-wrong-requires
-wrong-requires c κs = search needs
+gather-requires : tie.Need-gather-requires
+gather-requires c κs = search needs
 
 refused-open-requires-2 : tie.Need-refused-open-requires-2
 refused-open-requires-2 c κs = search needs
@@ -64,37 +64,31 @@ returns-3 c =
     (simp (
       ← before4 .before .octet .ensures .0,
       ne-eqb _ _ (before4 .if2 .left),
-      rw rest-lent at (sym (c .before .before .wrong .ensures) ∙ c .before .if3 .taken),
+      rw rest-lent at (sym (c .before .before .gather .ensures .1 .0) ∙ c .before .if3 .taken),
     ))
 
-sub-lowest : tie.Need-sub-lowest
-sub-lowest c = long (c .before .before .before .before .before)
-
-part-lowest-start : tie.Need-part-lowest-start
-part-lowest-start c = omega (arith, long (c .before .before .before .before .before))
-
-part-lowest-end : tie.Need-part-lowest-end
-part-lowest-end c = search needs
-
-lowest-requires : tie.Need-lowest-requires
-lowest-requires c κs = search needs
+limit-requires : tie.Need-limit-requires
+limit-requires c κs = search needs
 
 carried-requires-2 : tie.Need-carried-requires-2
 carried-requires-2 c κs = search needs
 
 returns-4 : tie.Need-returns-4
-unfolding announcedOf sizedOf wrongOf xOf nOf limitOf
+unfolding announcedOf sizedOf wrongOf xOf nOf limitOf hEncapsOf segmentsLeftOf
 returns-4 c =
-    let before6 = c .before .before .before .before .before .before in
+    let before5 = c .before .before .before .before .before in
+    let gathered = c .before .before .before .gather .ensures in
     rw (
       c .carried2 .ensures,
-      sym (before6 .before .before .before .both .ensures) ∙ not-false _ (before6 .before .before .if1 .left),
+      sym (before5 .before .before .before .both .ensures) ∙ not-false _ (before5 .before .before .if1 .left),
     )
     (simp (
-      ← before6 .before .octet .ensures .0,
-      ne-eqb _ _ (before6 .if2 .left),
-      rw rest-lent at (sym (c .before .before .before .before .wrong .ensures) ∙ c .before .before .before .if3 .left),
-      rw rest-lent at (c .before .lowest .ensures),
+      ← before5 .before .octet .ensures .0,
+      ne-eqb _ _ (before5 .if2 .left),
+      rw rest-lent at (sym (gathered .1 .0) ∙ c .before .before .if3 .left),
+      c .before .limit .ensures,
+      rw rest-lent at (gathered .1 .1 (c .before .before .if3 .left) .0),
+      rw rest-lent at (gathered .1 .1 (c .before .before .if3 .left) .1),
     ))
 
 pub announced-spec : {M : Type 1} → statement M
@@ -107,15 +101,12 @@ announced-spec =
     octet-requires
     carried-requires
     returns-2
-    sub-wrong
-    part-wrong-start
-    part-wrong-end
-    wrong-requires
+    sub-gather
+    part-gather-start
+    part-gather-end
+    gather-requires
     refused-open-requires-2
     returns-3
-    sub-lowest
-    part-lowest-start
-    part-lowest-end
-    lowest-requires
+    limit-requires
     carried-requires-2
     returns-4)

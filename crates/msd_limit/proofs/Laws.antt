@@ -1,0 +1,25 @@
+-- The limit of two numbers, by the tests of the code.
+use Prim.Native.Nat.{ℕ, _+_, _≤_, _<_, max}
+use native.Mathlib.Omega.{arith}
+use mathlib.Core.Path.{_≡_, refl, ap}
+use mathlib.Core.Bool.{Bool, true, false}
+use lib.Dec.{ltb}
+use borrow.Author.Tests.{ltb-true, ltb-false}
+use Rattle.session.specs.declared.Limit.the-variants.{Free, Most}
+use Rattle.msd.specs.Msd.{absent, depthIn}
+use Rattle.msd.proofs.Laws.{depth-octet, depth-none}
+use Rattle.msd_limit.specs.Limits.{segmentsLeftPermits, limitBy}
+
+module _ (v m : ℕ) where
+  pub by-left : absent ≤ v → segmentsLeftPermits (depthIn m) ≡ limitBy (depthIn v) (depthIn m)
+  by-left h = rw (depth-none v h)
+
+  pub left-smaller : {most : ℕ} → v < absent → most ≡ max 1 v → m < most → Most (m + 1) ≡ limitBy (depthIn v) (depthIn m)
+  left-smaller h e l = rw (depth-octet v h, depth-octet m (omega arith)) (ap Most (omega arith))
+
+  pub encaps-smaller : {most : ℕ} → v < absent → most ≡ max 1 v → most ≤ m → Most most ≡ limitBy (depthIn v) (depthIn m)
+  encaps-smaller {most} h e l = go (ltb m absent) refl
+    where
+      go : (b : Bool) → ltb m absent ≡ b → Most most ≡ limitBy (depthIn v) (depthIn m)
+      go true f = let k = ltb-true m absent f in rw (depth-octet v h, depth-octet m k) (ap Most (omega arith))
+      go false f = rw (depth-octet v h, depth-none m (ltb-false m absent f)) (ap Most e)

@@ -1,0 +1,149 @@
+-- What a reader can cite of the limit that a list of pairs sets.
+use Prim.Native.Nat.{ℕ, _+_, _≤_, min, max}
+use native.Mathlib.Omega.{arith}
+use mathlib.Core.Path.{_≡_, refl, ap, sym, subst, _∙_}
+use mathlib.Core.Logic.{_↔_}
+use mathlib.Core.List.{List, [], _∷_, _++_}
+use mathlib.Core.Bool.{Bool, true, false, cond, _&&_, _||_}
+use mathlib.Core.Option.{Option, none, some}
+use lib.Dec.{eqb}
+use borrow.Author.Tests.{ne-eqb, eqb-true}
+use Rattle.octets.proofs.Said.{both-true}
+use Rattle.answers.proofs.Determined.{determined}
+use Rattle.session.specs.declared.Limit.{Limit}
+use Rattle.session.specs.declared.Limit.the-variants.{Free, Most}
+use Rattle.msd.specs.Msd.{maxSegmentsLeft, maxEndPop, maxHEncaps, maxEndD, Pair, smaller, withPair, smallestOf, depthIn}
+use Rattle.msd_limit.specs.Limits.{hEncapsPermits, segmentsLeftPermits, lower, limitBy, limitIn, present, isEnd, onlyEnds, within}
+
+-- no limit -----------------------------------------------------------------------------------------------------
+
+-- A type has no smallest value exactly if no pair has it.
+absent-exactly : (kind : ℕ) (ps : List Pair) → (smallestOf kind ps ≡ none) ↔ (present kind ps ≡ false)
+absent-exactly kind [] = (λ e. refl, λ e. refl)
+absent-exactly kind (p ∷ ps) = go (eqb (p .kind) kind) (smallestOf kind ps) (present kind ps) (absent-exactly kind ps)
+  where
+    there : (d : Option ℕ) → smaller (p .value) d ≡ none → true ≡ false
+    there none e = cc
+    there (some m) e = cc
+
+    go : (b : Bool) (d : Option ℕ) (q : Bool) → (d ≡ none) ↔ (q ≡ false) → (cond b (smaller (p .value) d) d ≡ none) ↔ ((b || q) ≡ false)
+    go true d q h = (there d, λ e. cc)
+    go false d q h = h
+
+free-by : (v m : Option ℕ) → (limitBy v m ≡ Free) ↔ ((v ≡ none) × (m ≡ none))
+free-by none none = (λ e. (refl, refl), λ h. refl)
+free-by none (some m) = (λ e. (cc, cc), λ h. cc)
+free-by (some v) none = (λ e. (cc, cc), λ h. cc)
+free-by (some v) (some m) = (λ e. (cc, cc), λ h. cc)
+
+-- There is no limit exactly if neither type is present.
+pub free-exactly : (ps : List Pair) → (limitIn ps ≡ Free) ↔ ((present maxHEncaps ps ≡ false) × (present maxSegmentsLeft ps ≡ false))
+free-exactly ps = let f = free-by (smallestOf maxHEncaps ps) (smallestOf maxSegmentsLeft ps) in (
+  λ e. (absent-exactly maxHEncaps ps .0 (f .0 e .0), absent-exactly maxSegmentsLeft ps .0 (f .0 e .1)),
+  λ h. f .1 (absent-exactly maxHEncaps ps .1 (h .0), absent-exactly maxSegmentsLeft ps .1 (h .1)),
+)
+
+-- A pair of 42 or 45 is none of 44 or 41.
+end-kind : (p : Pair) (kind : ℕ) → (maxEndPop ≡ kind → ⊥) → (maxEndD ≡ kind → ⊥) → isEnd p ≡ true → eqb (p .kind) kind ≡ false
+unfolding isEnd
+end-kind p kind h k e = go (eqb (p .kind) maxEndPop) refl e
+  where
+    go : (b : Bool) → eqb (p .kind) maxEndPop ≡ b → (b || eqb (p .kind) maxEndD) ≡ true → eqb (p .kind) kind ≡ false
+    go true f g = ne-eqb (p .kind) kind (λ x. h (sym (eqb-true (p .kind) maxEndPop f) ∙ x))
+    go false f g = ne-eqb (p .kind) kind (λ x. k (sym (eqb-true (p .kind) maxEndD g) ∙ x))
+
+end-encaps : (p : Pair) → isEnd p ≡ true → eqb (p .kind) maxHEncaps ≡ false
+end-encaps p = end-kind p maxHEncaps (λ e. omega (arith, e)) (λ e. omega (arith, e))
+
+end-left : (p : Pair) → isEnd p ≡ true → eqb (p .kind) maxSegmentsLeft ≡ false
+end-left p = end-kind p maxSegmentsLeft (λ e. omega (arith, e)) (λ e. omega (arith, e))
+
+-- one more pair ------------------------------------------------------------------------------------------------
+
+-- A pair put anywhere among others: of another type it counts for nothing, of the type it is one value more.
+module _ (kind : ℕ) (p : Pair) (ps : List Pair) where
+  more-other : (qs : List Pair) → eqb (p .kind) kind ≡ false → smallestOf kind (qs ++ (p ∷ ps)) ≡ smallestOf kind (qs ++ ps)
+  more-other [] e = rw e
+  more-other (q ∷ qs) e = ap (withPair kind q) (more-other qs e)
+
+  more-same : (qs : List Pair) → eqb (p .kind) kind ≡ true → smallestOf kind (qs ++ (p ∷ ps)) ≡ smaller (p .value) (smallestOf kind (qs ++ ps))
+  more-same [] e = rw e
+  more-same (q ∷ qs) e = ap (withPair kind q) (more-same qs e) ∙ go (eqb (q .kind) kind) (smallestOf kind (qs ++ ps))
+    where
+      swap : (d : Option ℕ) → smaller (q .value) (smaller (p .value) d) ≡ smaller (p .value) (smaller (q .value) d)
+      swap none = ap some (omega arith)
+      swap (some m) = ap some (omega arith)
+
+      go : (b : Bool) (d : Option ℕ) → cond b (smaller (q .value) (smaller (p .value) d)) (smaller (p .value) d) ≡ smaller (p .value) (cond b (smaller (q .value) d) d)
+      go true d = swap d
+      go false d = refl
+
+-- One more pair of 42 or 45, wherever it stands, never changes the limit.
+pub one-more-end-changes-nothing : (qs ps : List Pair) (p : Pair) → isEnd p ≡ true → limitIn (qs ++ (p ∷ ps)) ≡ limitIn (qs ++ ps)
+one-more-end-changes-nothing qs ps p e = rw (more-other maxHEncaps p ps qs (end-encaps p e), more-other maxSegmentsLeft p ps qs (end-left p e))
+
+-- Pairs of 42 and 45 alone limit nothing.
+pub only-ends-limit-nothing : (ps : List Pair) → onlyEnds ps ≡ true → limitIn ps ≡ Free
+only-ends-limit-nothing [] e = refl
+only-ends-limit-nothing (p ∷ ps) e =
+    one-more-end-changes-nothing [] ps p (both-true (isEnd p) (onlyEnds ps) e .0) ∙ only-ends-limit-nothing ps (both-true (isEnd p) (onlyEnds ps) e .1)
+
+-- A limit of two depths, with one value more on either side, permits nothing more.
+encaps-more : (n x : ℕ) (v m : Option ℕ) → within n (limitBy (smaller x v) m) → within n (limitBy v m)
+encaps-more n x none none h = tt
+encaps-more n x none (some m) h = omega (arith, h)
+encaps-more n x (some v) none h = omega (arith, h)
+encaps-more n x (some v) (some m) h = omega (arith, h)
+
+left-more : (n x : ℕ) (v m : Option ℕ) → within n (limitBy v (smaller x m)) → within n (limitBy v m)
+left-more n x none none h = tt
+left-more n x none (some m) h = omega (arith, h)
+left-more n x (some v) none h = omega (arith, h)
+left-more n x (some v) (some m) h = omega (arith, h)
+
+-- What one type's depth becomes by one more pair: what it was, or with one value more.
+either-way : (kind : ℕ) (qs ps : List Pair) (p : Pair) → (P : Option ℕ → Type 0) → P (smallestOf kind (qs ++ (p ∷ ps)))
+    → (P (smaller (p .value) (smallestOf kind (qs ++ ps))) → P (smallestOf kind (qs ++ ps))) → P (smallestOf kind (qs ++ ps))
+either-way kind qs ps p P h k = go (eqb (p .kind) kind) refl
+  where
+    go : (b : Bool) → eqb (p .kind) kind ≡ b → P (smallestOf kind (qs ++ ps))
+    go true e = k (subst P (more-same kind p ps qs e) h)
+    go false e = subst P (more-other kind p ps qs e) h
+
+-- One more pair of any type, wherever it stands, never raises the limit: what is within the limit with it is within the limit without.
+pub one-more-never-raises : (n : ℕ) (qs ps : List Pair) (p : Pair) → within n (limitIn (qs ++ (p ∷ ps))) → within n (limitIn (qs ++ ps))
+one-more-never-raises n qs ps p h =
+    let v = smallestOf maxHEncaps (qs ++ ps) in
+    let m = smallestOf maxSegmentsLeft (qs ++ (p ∷ ps)) in
+    let h1 = either-way maxHEncaps qs ps p (λ d. within n (limitBy d m)) h (encaps-more n (p .value) v m) in
+    either-way maxSegmentsLeft qs ps p (λ d. within n (limitBy v d)) h1 (left-more n (p .value) v (smallestOf maxSegmentsLeft (qs ++ ps)))
+
+-- bounds -------------------------------------------------------------------------------------------------------
+
+-- A route of one segment is within every limit.
+pub one-is-within : (ps : List Pair) → within 1 (limitIn ps)
+one-is-within ps = go (smallestOf maxHEncaps ps) (smallestOf maxSegmentsLeft ps)
+  where
+    go : (v m : Option ℕ) → within 1 (limitBy v m)
+    go none none = tt
+    go none (some m) = omega arith
+    go (some v) none = omega arith
+    go (some v) (some m) = omega arith
+
+-- The least and the largest value of either type.
+pub encaps-0 : limitIn (record { kind = maxHEncaps; value = 0 } ∷ []) ≡ Most 1
+encaps-0 = refl
+
+pub left-0 : limitIn (record { kind = maxSegmentsLeft; value = 0 } ∷ []) ≡ Most 1
+left-0 = refl
+
+pub encaps-255 : limitIn (record { kind = maxHEncaps; value = 255 } ∷ []) ≡ Most 255
+encaps-255 = refl
+
+pub left-255 : limitIn (record { kind = maxSegmentsLeft; value = 255 } ∷ []) ≡ Most 256
+left-255 = refl
+
+-- Any two answers that fit the contract of `limit` are equal ----------------------------------------------------
+
+pub limit-determined : (v m : ℕ) {x y : Limit} → x ≡ limitBy (depthIn v) (depthIn m) → y ≡ limitBy (depthIn v) (depthIn m) → x ≡ y
+limit-determined v m = determined
