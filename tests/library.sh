@@ -21,6 +21,24 @@ warnings="-pedantic -Wall -Wextra -Wshadow -Wconversion -Wsign-conversion -Wunde
 
 quietly rt check strundevi
 quietly rt staticlib strundevi
+
+# The archive is for x86-64. Where it cannot be linked, what links it is read by the compilers and not run; the reference, its console and the pages are.
+echo '#include "strundevi.h"
+int main(void) { strundevi_board board; strundevi_empty(&board); return board.version != 0; }' > "$out/probe.c"
+if ! cc -I include "$out/probe.c" "$archive" -o "$out/probe" > /dev/null 2>&1; then
+    for standard in c99 c11 c17; do
+        for name in tests/header tests/boundary examples/route examples/follow; do
+            quietly cc -std=$standard $warnings -Wstrict-prototypes -fsyntax-only -I include "$name.c"
+        done
+    done
+    quietly cargo build --release --offline --package reference --manifest-path rust/Cargo.toml
+    quietly cargo test --release --offline --package reference --manifest-path rust/Cargo.toml
+    quietly cargo check --release --offline --workspace --examples --bins --manifest-path rust/Cargo.toml
+    tests/pages.sh
+    echo "library: this machine cannot link an archive for x86-64: header, examples, wrapper and differential test were compiled or read, and not run"
+    exit 0
+fi
+
 for standard in c99 c11 c17; do
     quietly cc -std=$standard $warnings -Wstrict-prototypes -O2 -I include tests/header.c "$archive" -o "$out/header"
     quietly "$out/header"
