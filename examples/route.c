@@ -44,7 +44,7 @@ int main(void) {
     strundevi_verdict verdict = strundevi_judge(buffer, length, STRUNDEVI_ERO, session, STRUNDEVI_PST_SRV6);
     if (!good("judge", verdict.number))
         return 1;
-    printf("judged: %zu segments\n", verdict.count);
+    printf("judged: %zu segments, %zu of them stray\n", verdict.count, verdict.stray);
     strundevi_picked picked = strundevi_segment_at(buffer, length, STRUNDEVI_ERO, session, STRUNDEVI_PST_SRV6, 2);
     if (!good("segment", picked.verdict.number))
         return 1;

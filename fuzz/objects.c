@@ -61,7 +61,7 @@ int LLVMFuzzerTestOneInput(const uint8_t *data, size_t size) {
     strundevi_verdict verdict = strundevi_judge(route, length, kind, free_session, STRUNDEVI_PST_SRV6);
     same(strict.number != 0 || verdict.number == 0);
     if (verdict.number != 0) {
-        same(verdict.count == 0 && verdict.place < 65536);
+        same(verdict.count == 0 && verdict.stray == 0 && verdict.place < 65536);
         return 0;
     }
 

@@ -100,11 +100,13 @@ enum strundevi_kind { STRUNDEVI_RRO = 0, STRUNDEVI_ERO = 1 };
 
 /* ---- records */
 
-/* number 0, place 0 and a count; or the refusal's number and place and the count 0. The place is the octet of the fault for 6 to 12. */
+/* number 0, place 0 and two counts; or the refusal's number and place and the counts 0. The place is the octet of the fault for 6 to 12. Of a
+ * route, count is the number of its segments, and stray of those with something set that ought to be 0 (strundevi_picked); elsewhere they are 0. */
 typedef struct strundevi_verdict {
     size_t number;
     size_t place;
     size_t count;
+    size_t stray;
 } strundevi_verdict;
 
 /* What an OPEN object says. Refused: all but the number is 0. Without SRv6, n is 0 and there is no limit. limited 0: limit does not count. */
@@ -147,10 +149,14 @@ typedef struct strundevi_outline {
     uint8_t structured;
 } strundevi_outline;
 
-/* The verdict, with the number of segments, and the segment asked for; refused: a segment of zeros. */
+/* The verdict, with the number of segments, and the segment asked for; refused: all zeros behind the verdict. Behind the segment, what is set in its
+ * octets and ought to be 0; a segment is stray if one of the three is not 0. */
 typedef struct strundevi_picked {
     strundevi_verdict verdict;
     strundevi_segment segment;
+    uint16_t flags;   /* the 12 flag bits with the assigned ones, V, T, F and S, as 0 */
+    uint8_t sflags;   /* the flag octet of the SID structure; 0 without one */
+    uint8_t reserved; /* 1 if a reserved octet is not 0, else 0 */
 } strundevi_picked;
 
 /* The verdict, the segment at a place and the place behind it; refused: a segment of zeros and the place asked for. */
@@ -251,7 +257,7 @@ static inline uint8_t *strundevi_into(uint8_t *buffer, uint8_t *none) {
 }
 
 static inline strundevi_verdict strundevi_no_board(void) {
-    strundevi_verdict refused = {STRUNDEVI_NOT_A_BOARD, 0, 0};
+    strundevi_verdict refused = {STRUNDEVI_NOT_A_BOARD, 0, 0, 0};
     return refused;
 }
 
@@ -265,7 +271,7 @@ static inline strundevi_session strundevi_agree(strundevi_opened pcc, strundevi_
     return strundevi_raw_agree(pcc, pce);
 }
 
-/* Judges a route: 4, 5, 6, 14, 13; 8, 9, 7, 10, 11 segment by segment; 12. The count is that of its segments. */
+/* Judges a route: 4, 5, 6, 14, 13; 8, 9, 7, 10, 11 segment by segment; 12. The counts are those of its segments and of the stray ones. */
 STRUNDEVI_LOOK_AT static inline strundevi_verdict strundevi_judge(const uint8_t *octets, size_t length, enum strundevi_kind kind, strundevi_session session,
                                                 uint64_t pst) {
     return strundevi_raw_judge(strundevi_from(octets), strundevi_lent(octets, length), kind != STRUNDEVI_RRO, session, pst);
@@ -309,7 +315,7 @@ static inline void strundevi_empty(strundevi_board *board) {
         strundevi_raw_empty(board->keys, board->versions, board->lengths, &board->version, &board->floor);
 }
 
-/* Reports a path: 17, 18, the route's numbers, 19, 20, 21. The count is that of its segments. */
+/* Reports a path: 17, 18, the route's numbers, 19, 20, 21. The counts are those of its segments and of the stray ones. */
 STRUNDEVI_LOOK_AT static inline strundevi_verdict strundevi_report(strundevi_board *board, uint8_t *store, size_t size, uint64_t key, const uint8_t *ero,
                                                  size_t length, strundevi_session session, uint64_t pst) {
     uint8_t none[1];

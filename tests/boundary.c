@@ -17,7 +17,7 @@ static void expect(int line, int holds, const char *what) {
 #define EXPECT(holds) expect(__LINE__, (holds), #holds)
 
 static int refused(strundevi_verdict verdict, size_t number) {
-    return verdict.number == number && verdict.place == 0 && verdict.count == 0;
+    return verdict.number == number && verdict.place == 0 && verdict.count == 0 && verdict.stray == 0;
 }
 
 static const uint8_t route[] = {0x07, 0x10, 0x00, 0x1C, 0x28, 0x18, 0x00, 0x02, 0x00, 0x00, 0x00, 0x01, 0x20, 0x01,

@@ -253,6 +253,24 @@ def trial_route():
         for n in (1, 2, 3) + ((254, 255, 256, 257) if 255 in pairs else ()):
             ero(route([sub()] * n))
         rro(route([sub()] * 3, 8))
+    out.append("# what is set and ought to be 0: each bit of octets 2 to 5 and of the structure's last four, alone; V, T with S 1 and the header's bits are none")
+    agree(out, 2, ())
+    for b in (sub(), sub(2), sub(4, t=1), sub(t=1), sub(2, s=1), sub(6, s=1, t=1)):
+        places = [2, 3, 4, 5] + (list(range(len(b) - 8, len(b))) if b[3] % 8 // 4 == 1 and b[3] % 2 == 0 else [])
+        for at in places:
+            for bit in range(8) if at < 4 else (0, 7):
+                c = b[:at] + bytes([b[at] ^ (1 << bit)]) + b[at + 1:]
+                for side, kind in (("ero", 7), ("rro", 8)):
+                    out.append("%s 3 %s" % (side, hexes(route([c], kind))))
+                    out.append("%s-segment 3 0 %s" % (side, hexes(route([c], kind))))
+    odd = sub()[:2] + b"\x0f\xf2\xff\xff" + sub()[6:]
+    for n in range(1, 5):
+        out.append("ero 3 " + hexes(route([odd] * n + [sub()] * (4 - n))))
+        out.append("ero 3 " + hexes(route([sub()] * (4 - n) + [odd] * n)))
+    out.append("ero 3 " + hexes(route([odd] * 5)))
+    out.append("ero 3 " + hexes(route([odd, sub(length=20)])))
+    out.append("ero 3 " + hexes(E[:1] + b"\x1f" + E[2:]))
+    out.append("ero-segment 3 1 " + hexes(route([odd])))
     out.append("# what was reported stays on the board, whatever the session permits later: a limit of 1, then SRv6 not agreed")
     agree(out, 0, ())
     two = hexes(route([sub()] * 2))
@@ -403,6 +421,8 @@ def trial_board():
 def console():
     out = ["", "# the start: an empty board, both OPENs refused, the writer at place 0 of an ERO with no buffer", "board", "mark", "lent", "finish", "ero 3 " + hexes(E), "ero 3 -", "",
            "pcc " + hexes(O), "pce " + hexes(O).lower(), "ero 3 " + hexes(E), "ero 03 " + hexes(E).lower(), "rro 3 " + hexes(E), "ero-segment 3 0 " + hexes(E)]
+    odd = E[:6] + b"\x0f\xf2\x01\x00" + E[10:]
+    out += ["# a flag and a reserved octet that ought to be 0", "ero 3 " + hexes(odd), "ero-segment 3 0 " + hexes(odd), "report 99 3 " + hexes(odd), "remove 99", "compact 2"]
     out += ["# out of form", " ", "  ", " board", "board ", "board  ", "board board", "Board", "BOARD", "boar", "boards", "board\r", "\r", "board\t", "\tboard", "\0", "\0board", "board\0", "0", "-", "ero", "ero 3", "ero  3 " + hexes(E), "ero 3  " + hexes(E), "ero 3 " + hexes(E) + " ",
             "ero 3 " + hexes(E) + " 0", "ero  " + hexes(E), "ero - " + hexes(E), "ero +3 " + hexes(E), "ero -3 " + hexes(E), "ero 3.0 " + hexes(E), "ero 0x3 " + hexes(E), "ero 3, " + hexes(E), "ero : " + hexes(E), "ero / " + hexes(E), "ero " + hexes(E), "ero " + hexes(E) + " 3"]
     out += ["# numbers to 2^64-1", "ero 18446744073709551615 " + hexes(E), "ero 18446744073709551616 " + hexes(E), "ero 18446744073709551620 " + hexes(E), "ero 99999999999999999999 " + hexes(E), "ero 184467440737095516150 " + hexes(E), "ero 1844674407370955162 " + hexes(E),

@@ -40,13 +40,16 @@ fn plain_route(n: usize) -> Vec<u8> {
     seal(octets)
 }
 
-/// A route of `n` segments of every form in turn.
-fn mixed_route(n: usize) -> Vec<u8> {
+/// A route of `n` segments of every form in turn, none of them stray, or those with a structure.
+fn mixed_route(n: usize, stray: bool) -> Vec<u8> {
     let mut octets = E[..4].to_vec();
     for i in 0..n {
         let (nt, flags, parts) = [(0, 2, 16), (2, 0, 32), (4, 4, 56), (0, 6, 24), (6, 0, 56), (2, 1, 16)][i % 6];
         let mut sub = vec![40, 8 + parts as u8, nt << 4, flags, 0, 0, 0, i as u8];
         sub.resize(8 + parts, 20);
+        if flags & 4 != 0 && !stray {
+            sub[4 + parts..].fill(0);
+        }
         octets.extend_from_slice(&sub);
     }
     seal(octets)
@@ -112,8 +115,9 @@ impl Bench {
 
     fn judge(&mut self, duty: &str, route: &[u8]) {
         let theirs = reference::Session { agreed: true, n: true, limit: None };
-        let count = reference::judge(route, reference::Kind::Ero, &theirs, PST).unwrap();
-        assert_eq!(raw::judge(route, ERO, FREE, PST).count, count);
+        let counts = reference::judge(route, reference::Kind::Ero, &theirs, PST).unwrap();
+        let ours = raw::judge(route, ERO, FREE, PST);
+        assert_eq!((ours.count, ours.stray), (counts.segments, counts.stray));
         self.time(
             duty,
             |_| {
@@ -127,7 +131,7 @@ impl Bench {
 
     fn segment(&mut self, duty: &str, route: &[u8], i: u64) {
         let theirs = reference::Session { agreed: true, n: true, limit: None };
-        let sid = reference::segment(route, reference::Kind::Ero, &theirs, PST, i).unwrap().sid;
+        let sid = reference::segment(route, reference::Kind::Ero, &theirs, PST, i).unwrap().0.sid;
         assert_eq!(raw::segment(route, ERO, FREE, PST, i).segment.sid, sid);
         self.time(
             duty,
@@ -154,7 +158,7 @@ impl Bench {
             at
         };
         let reference = |route: &[u8]| {
-            let count = reference::judge(route, reference::Kind::Ero, black_box(&theirs), PST).unwrap_or(0);
+            let count = reference::judge(route, reference::Kind::Ero, black_box(&theirs), PST).map_or(0, |counts| counts.segments);
             let mut at = strundevi::FIRST_PLACE;
             for _ in 0..count {
                 let Ok((segment, next)) = reference::step(route, reference::Kind::Ero, at) else { break };
@@ -319,10 +323,11 @@ fn main() {
     for n in [1, 4, 16, 2729] {
         bench.judge(&format!("ERO, segments: {n}"), &plain_route(n));
     }
-    bench.judge("ERO, segments of all forms: 16", &mixed_route(16));
+    bench.judge("ERO, segments of all forms: 16", &mixed_route(16, false));
+    bench.judge("the same, 6 of them stray", &mixed_route(16, true));
     bench.segment("segment 0 of 1", &plain_route(1), 0);
     bench.segment("segment 15 of 16", &plain_route(16), 15);
-    bench.segment("segment 4 of 16, with an NAI", &mixed_route(16), 4);
+    bench.segment("segment 4 of 16, with an NAI", &mixed_route(16, false), 4);
     for n in [16, 2729] {
         bench.steps(&format!("all segments in one pass: {n}"), &plain_route(n));
     }

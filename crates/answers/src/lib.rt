@@ -1,4 +1,4 @@
-// What a call answers: a refusal with its number and place, or an acceptance with a count
+// What a call answers: a refusal with its number and place, or an acceptance with its counts
 // (document 01, "Numbers answered": every refusal returns its number and place and no other content).
 mod number;
 mod verdict;
@@ -29,4 +29,5 @@ pub use number::VERSIONS_USED_UP;
 pub use number::WRONG_MSD;
 pub use verdict::Verdict;
 pub use verdict::accepted;
+pub use verdict::carrying;
 pub use verdict::refused;

@@ -33,7 +33,7 @@ mostOf (Most n) = n
 
 -- The verdict, field by field.
 abbrev pub verdictOut : Verdict → VerdictRecord
-verdictOut v = record { number = v .number; place = v .place; count = v .count }
+verdictOut v = record { number = v .number; place = v .place; count = v .count; stray = v .stray }
 
 abbrev pub openedIn : OpenedRecord → Opened
 openedIn o = record { number = o .number; srv6 = isYes (o .srv6); n = isYes (o .n); limit = limitIn (o .limited) (o .limit) }

@@ -8,6 +8,7 @@ pub struct VerdictRecord {
     pub number: usize,
     pub place: usize,
     pub count: usize,
+    pub stray: usize,
 }
 
 pub fn verdict_out(v: Verdict) -> VerdictRecord
@@ -17,5 +18,6 @@ pub fn verdict_out(v: Verdict) -> VerdictRecord
         number: v.number,
         place: v.place,
         count: v.count,
+        stray: v.stray,
     }
 }

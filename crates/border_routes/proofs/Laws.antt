@@ -4,11 +4,11 @@ use mathlib.Core.Path.{_≡_, refl, ap, _∙_}
 use mathlib.Core.List.{List, [], _∷_}
 use mathlib.Core.Bool.{Bool, true, false, cond}
 use Rattle.answers.specs.declared.verdict.Verdict.{Verdict}
-use Rattle.answers.specs.Verdicts.{refusedBy, acceptedWith}
+use Rattle.answers.specs.Verdicts.{refusedBy}
 use Rattle.session.specs.declared.Session.{Session}
 use Rattle.frame.specs.Checks.{Check, firstBroken}
 use Rattle.route.specs.declared.picking.Picked.{Picked}
-use Rattle.route.specs.Routes.{judgeOf, segmentOf, checksOf, countOf}
+use Rattle.route.specs.Routes.{judgeOf, segmentOf, checksOf, acceptanceOf}
 use Rattle.border_records.specs.declared.verdict.VerdictRecord.{VerdictRecord}
 use Rattle.border_records.specs.declared.agreement.SessionRecord.{SessionRecord}
 use Rattle.border_records.specs.Records.{isYes, sessionIn, verdictOut}
@@ -38,12 +38,12 @@ module _ (s : List ℕ) (ero : ℕ) (session : SessionRecord) (k : Bool) (g : Se
       → r ≡ verdictOut (judgeOf s (isYes ero) (sessionIn session) pst)
   judge-told pst v r e o = o ∙ ap verdictOut (e ∙ same (λ (x : Bool) (y : Session). judgeOf s x y pst))
 
-  accepted : (pst : ℕ) (v : Verdict) → v ≡ judgeOf s k g pst → (v .count ≡ 0 → ⊥) → record { number = 0; place = 0; count = v .count } ≡ verdictOut v
+  accepted : (pst : ℕ) (v : Verdict) → v ≡ judgeOf s k g pst → (v .count ≡ 0 → ⊥) → record { number = 0; place = 0; count = v .count; stray = v .stray } ≡ verdictOut v
   unfolding judgeOf
-  accepted pst v e d = rw (e ∙ counted (checksOf s k g pst) (acceptedWith (countOf s)) (λ z. d (ap (λ (x : Verdict). x .count) e ∙ z)))
+  accepted pst v e d = rw (e ∙ counted (checksOf s k g pst) (acceptanceOf s k) (λ z. d (ap (λ (x : Verdict). x .count) e ∙ z)))
 
   pub judge-counted : (pst : ℕ) (v : Verdict) → v ≡ judgeOf s k g pst → (v .count ≡ 0 → ⊥)
-      → record { number = 0; place = 0; count = v .count } ≡ verdictOut (judgeOf s (isYes ero) (sessionIn session) pst)
+      → record { number = 0; place = 0; count = v .count; stray = v .stray } ≡ verdictOut (judgeOf s (isYes ero) (sessionIn session) pst)
   judge-counted pst v e d = judge-told pst v _ e (accepted pst v e d)
 
   pub segment-told : (pst i : ℕ) (p : Picked) (r : PickedRecord) → p ≡ segmentOf s k g pst i → r ≡ pickedOut p

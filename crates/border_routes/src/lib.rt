@@ -9,7 +9,7 @@ use border_records::VerdictRecord;
 use border_segment::PickedRecord;
 use border_segment::SteppedRecord;
 
-// The verdict on a route under a session and a setup type. An acceptance is laid out by its count alone, which is
+// The verdict on a route under a session and a setup type. An acceptance is laid out by its counts alone, which is
 // quicker than to copy it.
 pub fn judge(octets: &[u8], ero: u8, session: SessionRecord, pst: u64) -> VerdictRecord
     ensures judged { λ r. ⌜ r ≡ verdictOut (judgeOf (now (octets .entry)) (isYes ero) (sessionIn session) pst) ⌝ }
@@ -24,6 +24,7 @@ pub fn judge(octets: &[u8], ero: u8, session: SessionRecord, pst: u64) -> Verdic
         number: 0,
         place: 0,
         count: v.count,
+        stray: v.stray,
     }
 }
 

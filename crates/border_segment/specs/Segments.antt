@@ -40,7 +40,14 @@ outlineWithin g =
     record { loose = g .loose; verify = g .verify; nt = g .nt; behaviour = g .behaviour; hassid = g .hassid; structured = g .structured }
 
 abbrev pub pickedOut : Picked → PickedRecord
-pickedOut p = record { verdict = verdictOut (p .verdict); segment = segmentOut (p .segment) }
+pickedOut p =
+    record {
+      verdict = verdictOut (p .verdict);
+      segment = segmentOut (p .segment);
+      flags = p .strays .flags;
+      sflags = p .strays .structure;
+      reserved = flagOf (p .strays .reserved);
+    }
 
 abbrev pub steppedOut : Stepped → SteppedRecord
 steppedOut x = record { verdict = verdictOut (x .verdict); segment = segmentOut (x .segment); next = x .next }

@@ -12,6 +12,7 @@ use Rattle.session.specs.declared.Limit.{Limit}
 use Rattle.session.specs.declared.Limit.the-variants.{Free, Most}
 use Rattle.session.specs.declared.Opened.{Opened}
 use Rattle.subobject.specs.declared.segment.Segment.{Segment}
+use Rattle.subobject.specs.declared.strays.Strays.{Strays}
 use Rattle.subobject.specs.Layout.{naiLength}
 use Rattle.writer.specs.declared.state.Written.{Written}
 use Rattle.route.specs.declared.picking.Picked.{Picked}
@@ -21,7 +22,7 @@ use Rattle.board_by_value.specs.ByValue.{bodyNumberOn, bodyOn, nextOn, freshMar
 use Rattle.printing.specs.Text.{spell, decimalOf, glyphOf, hexOf, octetsText}
 use Rattle.words.specs.Words.{newline, space, comma, ascii}
 use Rattle.console_lines.specs.Lines.{lineOf, acceptance, refusalLine, badLine, doneLine, oneLine, twoLine, octetsLine}
-use Rattle.console_fields.specs.Shown.{bitOf, limitText, openLine, openedLine, structureText, segmentLine}
+use Rattle.console_fields.specs.Shown.{bitOf, limitText, openLine, openedLine, structureText, strayWords, segmentLine}
 use Rattle.command_forms.specs.declared.verb.Verb.{Verb}
 use Rattle.command_forms.specs.declared.verb.Verb.the-variants as v
 use Rattle.command.specs.declared.Command.{Command}
@@ -166,14 +167,18 @@ opened-one o = go (eqb (o .number) 0) where
   go true = open-one o
   go false = refusal-one (o .number) 0
 
-segment-one : (g : Segment) → OneLine (segmentLine g)
-segment-one g =
+segment-one : (g : Segment) (x : Strays) → OneLine (segmentLine g x)
+segment-one g x =
     let sid = octetsText (take (cond (g .hassid) 16 0) (g .sid)) in
     let nai = octetsText (take (naiLength (g .nt)) (g .nai)) in
     let structure = structureText (g .structured) (g .structure) in
-    accepted-one _ (numbers-clear (bitOf (g .loose)) (bitOf (g .verify)) _ (numbers-clear (g .nt) (g .behaviour) (sid ∷ nai ∷ structure ∷ [])
-    (all-cons sid (nai ∷ structure ∷ []) (clear-octets (take (cond (g .hassid) 16 0) (g .sid)))
-    (all-cons nai (structure ∷ []) (clear-octets (take (naiLength (g .nt)) (g .nai))) (all-cons structure [] (clear-structure (g .structured) (g .structure)) all-none)))))
+    let strays = strayWords x in
+    accepted-one _ (numbers-clear (bitOf (g .loose)) (bitOf (g .verify)) _ (numbers-clear (g .nt) (g .behaviour) (sid ∷ nai ∷ structure ∷ strays)
+    (all-cons sid (nai ∷ structure ∷ strays) (clear-octets (take (cond (g .hassid) 16 0) (g .sid)))
+    (all-cons nai (structure ∷ strays) (clear-octets (take (naiLength (g .nt)) (g .nai)))
+    (all-cons structure strays (clear-structure (g .structured) (g .structure))
+    (numbers-clear (x .flags) (x .structure) (decimalOf (bitOf (x .reserved)) ∷ [])
+    (all-cons (decimalOf (bitOf (x .reserved))) [] (clear-decimal (bitOf (x .reserved))) all-none)))))))
 
 answer-one : (w : Verdict) (accepted : List ℕ) → OneLine accepted → OneLine (answerLine w accepted)
 unfolding answerLine
@@ -184,7 +189,7 @@ answer-one w accepted h = go (eqb (w .number) 0) where
 
 count-one : (w : Verdict) → OneLine (countLine w)
 unfolding countLine
-count-one w = answer-one w (oneLine (w .count)) (number-one (w .count))
+count-one w = answer-one w (twoLine (w .count) (w .stray)) (two-one (w .count) (w .stray))
 
 plain-one : (w : Verdict) → OneLine (plainLine w)
 unfolding plainLine
@@ -192,7 +197,7 @@ plain-one w = answer-one w doneLine (accepted-one [] all-none)
 
 picked-one : (p : Picked) → OneLine (pickedLine p)
 unfolding pickedLine
-picked-one p = answer-one (p .verdict) (segmentLine (p .segment)) (segment-one (p .segment))
+picked-one p = answer-one (p .verdict) (segmentLine (p .segment) (p .strays)) (segment-one (p .segment) (p .strays))
 
 place-one : (w : Written) → OneLine (placeLine w)
 unfolding placeLine

@@ -19,7 +19,7 @@ pub record Boarding : Type 0 where
   pub store : List ℕ
   pub answer : List ℕ
 
--- `report KEY PST OCTETS`: "reports a path to the board"; `0 0 COUNT`
+-- `report KEY PST OCTETS`: "reports a path to the board"; `0 0 COUNT STRAY`
 abbrev pub reportTurn : Board → List ℕ → Session → Command → List ℕ → Boarding
 reportTurn b store session c line = record {
   board = reportOn b store (c .one) (octetsIn line 3) session (c .two) .board;

@@ -9,6 +9,7 @@ use Rattle.session.specs.declared.Limit.{Limit}
 use Rattle.session.specs.declared.Limit.the-variants.{Free, Most}
 use Rattle.session.specs.declared.Opened.{Opened}
 use Rattle.subobject.specs.declared.segment.Segment.{Segment}
+use Rattle.subobject.specs.declared.strays.Strays.{Strays}
 use Rattle.subobject.specs.Layout.{naiLength}
 use Rattle.printing.specs.Text.{decimalOf, octetsText}
 use Rattle.console_lines.specs.Lines.{acceptance, refusalLine}
@@ -41,8 +42,12 @@ structureText there bits =
     (decimalOf (getD bits 0 0) ++ (comma ∷ decimalOf (getD bits 1 0) ++ (comma ∷ decimalOf (getD bits 2 0) ++ (comma ∷ decimalOf (getD bits 3 0)))))
     (dash ∷ [])
 
--- `0 0 L V NT BEHAVIOUR SID NAI STRUCTURE`, "SID and NAI as OCTETS of their own lengths, or `-`"
-abbrev pub segmentLine : Segment → List ℕ
-segmentLine g =
+-- `FLAGS SFLAGS RESERVED`: "the 12 flag bits with the assigned ones 0, .. the structure's flag octet or 0, .. 1 if a reserved octet was not 0, else 0"
+abbrev pub strayWords : Strays → List (List ℕ)
+strayWords x = decimalOf (x .flags) ∷ decimalOf (x .structure) ∷ decimalOf (bitOf (x .reserved)) ∷ []
+
+-- `0 0 L V NT BEHAVIOUR SID NAI STRUCTURE FLAGS SFLAGS RESERVED`, "SID and NAI as OCTETS of their own lengths, or `-`"
+abbrev pub segmentLine : Segment → Strays → List ℕ
+segmentLine g x =
     acceptance (decimalOf (bitOf (g .loose)) ∷ decimalOf (bitOf (g .verify)) ∷ decimalOf (g .nt) ∷ decimalOf (g .behaviour)
-    ∷ octetsText (take (cond (g .hassid) 16 0) (g .sid)) ∷ octetsText (take (naiLength (g .nt)) (g .nai)) ∷ structureText (g .structured) (g .structure) ∷ [])
+    ∷ octetsText (take (cond (g .hassid) 16 0) (g .sid)) ∷ octetsText (take (naiLength (g .nt)) (g .nai)) ∷ structureText (g .structured) (g .structure) ∷ strayWords x)

@@ -6,14 +6,15 @@ ghost use mathlib.Core.Bool.{cond, true};
 ghost use lib.ListN.{length, take};
 ghost use Rattle.subobject.specs.Layout.{naiLength};
 ghost use Rattle.printing.specs.Text.{Behind, spaced, octetsText};
-ghost use Rattle.console_lines.specs.Lines.{short};
-ghost use Rattle.console_fields.specs.Shown.{long, bitOf, limitText, openLine, openedLine, structureText, segmentLine};
+ghost use Rattle.console_lines.specs.Lines.{short, furtherWords};
+ghost use Rattle.console_fields.specs.Shown.{long, bitOf, limitText, openLine, openedLine, structureText, strayWords, segmentLine};
 use console_lines::ACCEPTED;
 use console_lines::END;
 use session::Limit;
 use session::Opened;
 use subobject::SID_LENGTH;
 use subobject::Segment;
+use subobject::Strays;
 use words::COMMA;
 use words::DASH;
 use words::SPACE;
@@ -124,10 +125,22 @@ fn nai_field(out: &mut [u8], at: usize, nt: usize, nai: [u8; 40]) -> usize
     printing::octets_field(out, at, &nai[..n])
 }
 
-// `0 0 L V NT BEHAVIOUR SID NAI STRUCTURE`
-pub fn segment(out: &mut [u8], g: Segment) -> usize
+// ` FLAGS SFLAGS RESERVED`, and the end of the line.
+fn strays_end(out: &mut [u8], at: usize, x: Strays) -> usize
+    requires { ⌜ at + 64 ≤ length (now out) ⌝ }
+    ensures behind { λ r. ⌜ Behind (now (out .entry)) (now (out .exit)) at r (furtherWords (strayWords x)) ⌝ }
+    ensures short { λ r. ⌜ r ≤ at + 64 ⌝ }
+{
+    let end = printing::field(out, at, x.flags as u64);
+    let end = printing::field(out, end, x.structure as u64);
+    let end = printing::field(out, end, bit(x.reserved));
+    printing::push(out, end, &END)
+}
+
+// `0 0 L V NT BEHAVIOUR SID NAI STRUCTURE FLAGS SFLAGS RESERVED`
+pub fn segment(out: &mut [u8], g: Segment, x: Strays) -> usize
     requires { ⌜ long ≤ length (now out) ⌝ }
-    ensures told { λ r. ⌜ Behind (now (out .entry)) (now (out .exit)) 0 r (segmentLine g) ⌝ }
+    ensures told { λ r. ⌜ Behind (now (out .entry)) (now (out .exit)) 0 r (segmentLine g x) ⌝ }
     ensures within { λ r. ⌜ r ≤ long ⌝ }
 {
     let at = printing::push(out, 0, &ACCEPTED);
@@ -141,5 +154,5 @@ pub fn segment(out: &mut [u8], g: Segment) -> usize
     let at = nai_field(out, at, g.nt as usize, nai);
     let bits = g.structure;
     let at = structure_field(out, at, g.structured, bits);
-    printing::push(out, at, &END)
+    strays_end(out, at, x)
 }

@@ -38,11 +38,11 @@ badLine n = lineOf (ascii "bad") (ascii "line" ∷ decimalOf n ∷ [])
 abbrev pub doneLine : List ℕ
 doneLine = acceptance []
 
--- `0 0 COUNT`, `0 0 AT`
+-- `0 0 AT`
 abbrev pub oneLine : ℕ → List ℕ
 oneLine a = acceptance (decimalOf a ∷ [])
 
--- `0 0 S W`, `0 0 VERSION FLOOR`
+-- `0 0 COUNT STRAY`, `0 0 S W`, `0 0 VERSION FLOOR`
 abbrev pub twoLine : ℕ → ℕ → List ℕ
 twoLine a b = acceptance (decimalOf a ∷ decimalOf b ∷ [])
 
@@ -62,6 +62,6 @@ removedLine key version = acceptance (ascii "removed" ∷ decimalOf key ∷ deci
 abbrev pub levelLine : ℕ → List ℕ
 levelLine version = acceptance (ascii "level" ∷ decimalOf version ∷ [])
 
--- The checking program's line: "number, place, count"
+-- The checking program's line: "number, place, count", and the stray ones "as a fourth number"
 abbrev pub verdictLine : Verdict → List ℕ
-verdictLine v = lineOf (decimalOf (v .number)) (decimalOf (v .place) ∷ decimalOf (v .count) ∷ [])
+verdictLine v = lineOf (decimalOf (v .number)) (decimalOf (v .place) ∷ decimalOf (v .count) ∷ decimalOf (v .stray) ∷ [])

@@ -117,7 +117,7 @@ pub fn level(out: &mut [u8], version: u64) -> usize
     printing::push(out, at, &END)
 }
 
-// The checking program's line: number, place, count.
+// The checking program's line: number, place, count, stray ones.
 pub fn whole(out: &mut [u8], v: Verdict) -> usize
     requires { ⌜ short ≤ length (now out) ⌝ }
     ensures told { λ r. ⌜ Behind (now (out .entry)) (now (out .exit)) 0 r (verdictLine v) ⌝ }
@@ -126,5 +126,6 @@ pub fn whole(out: &mut [u8], v: Verdict) -> usize
     let at = printing::number(out, 0, v.number as u64);
     let at = printing::field(out, at, v.place as u64);
     let at = printing::field(out, at, v.count as u64);
+    let at = printing::field(out, at, v.stray as u64);
     printing::push(out, at, &END)
 }

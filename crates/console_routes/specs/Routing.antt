@@ -16,14 +16,14 @@ use Rattle.console_state.specs.Spelled.{octetsIn}
 unfoldable pub openIn : List ℕ → Opened
 openIn line = openOf (octetsIn line 1)
 
--- `ero PST OCTETS` · `rro PST OCTETS`: "judges a route under the session; a PST is any number, and none but 3 is 3"; `0 0 COUNT`
+-- `ero PST OCTETS` · `rro PST OCTETS`: "judges a route under the session; a PST is any number, and none but 3 is 3"; `0 0 COUNT STRAY`
 unfoldable pub routeLine : Bool → Session → Command → List ℕ → List ℕ
 routeLine ero session c line = countLine (judgeOf (octetsIn line 2) ero session (c .one))
 
 -- a segment that was asked for, or the refusal
 unfoldable pub pickedLine : Picked → List ℕ
-pickedLine p = answerLine (p .verdict) (segmentLine (p .segment))
+pickedLine p = answerLine (p .verdict) (segmentLine (p .segment) (p .strays))
 
--- `ero-segment PST I OCTETS` · `rro-segment PST I OCTETS`: "asks for segment I of a route"; `0 0 L V NT BEHAVIOUR SID NAI STRUCTURE`
+-- `ero-segment PST I OCTETS` · `rro-segment PST I OCTETS`: "asks for segment I of a route"; `0 0 L V NT BEHAVIOUR SID NAI STRUCTURE FLAGS SFLAGS RESERVED`
 unfoldable pub segmentAnswer : Bool → Session → Command → List ℕ → List ℕ
 segmentAnswer ero session c line = pickedLine (segmentOf (octetsIn line 3) ero session (c .one) (c .two))

@@ -58,5 +58,6 @@ pub fn picked(
         return console_lines::refusal(out, v.number, v.place);
     }
     let g = p.segment;
-    console_fields::segment(out, g)
+    let x = p.strays;
+    console_fields::segment(out, g, x)
 }

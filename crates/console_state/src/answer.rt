@@ -6,7 +6,7 @@ ghost use Rattle.console_lines.specs.Lines.{short};
 ghost use Rattle.console_state.specs.Answers.{countLine, plainLine};
 use answers::Verdict;
 
-// `0 0 COUNT`, or the refusal.
+// `0 0 COUNT STRAY`, or the refusal.
 pub fn counted(out: &mut [u8], v: Verdict) -> usize
     requires { ⌜ short ≤ length (now out) ⌝ }
     ensures told { λ r. ⌜ Behind (now (out .entry)) (now (out .exit)) 0 r (countLine v) ⌝ }
@@ -14,7 +14,7 @@ pub fn counted(out: &mut [u8], v: Verdict) -> usize
     if v.number != 0 {
         return console_lines::refusal(out, v.number, v.place);
     }
-    console_lines::one(out, v.count as u64)
+    console_lines::two(out, v.count as u64, v.stray as u64)
 }
 
 // `0 0`, or the refusal.

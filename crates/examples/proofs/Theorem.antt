@@ -10,6 +10,7 @@ use Rattle.capability.specs.Srv6.{sizedOf, nOf, xOf, wrongOf, hEncapsOf, segmen
 use Rattle.open.specs.Open.{setupOf, srv6Of, listed, framed, fitting, holding, subSized, breaks1, breaks2, breaks3, carriesOf, openOf}
 use Rattle.subobject.specs.Layout.{naiLength, expectedLength, kindOf, headOf, headAt}
 use Rattle.subobject.specs.Rules.{rule7, rule8, rule9, rule10, rule11, hasStructure, sumAt}
+use Rattle.subobject.specs.Strays.{strayFlags, structureFlags, reservedOctets, straysAt}
 use Rattle.frame.specs.Frames.{headed, fitsIn, apart, apartOf, rule4, rule5, rule6, rule6Place, rule14}
 use Rattle.route.specs.Routes.{rule12, rule13, judgeOf}
 use Rattle.examples.specs.Table.{exampleAnswer, examples, answers}
@@ -17,5 +18,5 @@ use Rattle.examples.specs.Table.{exampleAnswer, examples, answers}
 pub table : map exampleAnswer examples ≡ answers
 unfolding octetOf be16 part sessionOf tlvsIn tlvsOf listSize listsType knownMsd sizedOf nOf xOf wrongOf hEncapsOf segmentsLeftOf limitOf setupOf srv6Of listed framed fitting holding subSized
     breaks1 breaks2 breaks3 carriesOf openOf naiLength expectedLength kindOf headOf headAt rule7 rule8 rule9 rule10 rule11 hasStructure sumAt headed fitsIn apart
-    apartOf rule4 rule5 rule6 rule6Place rule14 rule12 rule13 judgeOf
+    strayFlags structureFlags reservedOctets straysAt apartOf rule4 rule5 rule6 rule6Place rule14 rule12 rule13 judgeOf
 table = refl

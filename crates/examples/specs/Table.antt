@@ -62,7 +62,7 @@ examples =
     ∷ route (withBits 64 64 64 64) srv6Setup
     ∷ []
 
--- P1: "SRv6, N 0, limit 4"; P2: "accepted without SRv6"; P3: "3"; P4: "one segment"; P5: "13"; P6: "9 at 4"; P7: "7 at 4";
+-- P1: "SRv6, N 0, limit 4"; P2: "accepted without SRv6"; P3: "3"; P4: "one segment", not stray; P5: "13"; P6: "9 at 4"; P7: "7 at 4";
 -- P8: "pass"; P9: "11"; P10: "11".
 abbrev pub answers : List Answer
 answers =

@@ -12,6 +12,7 @@ use Rattle.answers.specs.Verdicts.{acceptedWith}
 use Rattle.octets.specs.Octets.{octetOf, be16, part, placed, over}
 use Rattle.subobject.specs.Layout.{naiLength, expectedLength, kindOf, headOf, headAt}
 use Rattle.subobject.specs.Rules.{rule7, rule8, rule9, rule10, rule11, hasStructure, sumAt}
+use Rattle.subobject.specs.Strays.{strayFlags, structureFlags, reservedOctets, straysAt}
 use Rattle.frame.specs.Frames.{headed, fitsIn, apart, apartOf, rule4, rule5, rule6Place, rule6, rule14}
 use Rattle.route.specs.Routes.{rule13, rule12, judgeOf}
 use Rattle.board_record.specs.Table.{Table, tableOf, emptyTable, removalB}
@@ -56,7 +57,7 @@ store2 = path 1 ++ (replicate 360 0 ++ (path 2 ++ replicate 48744 0))
 
 judged : (n : ℕ) → judgeOf (object n) true agreed 3 ≡ acceptedWith 1
 unfolding judgeOf rule4 headed fitsIn apart apartOf rule5 rule6Place rule6 rule14 rule13 rule12 rule7 rule8 rule9 rule10 rule11 hasStructure sumAt
-    naiLength expectedLength kindOf headOf headAt octetOf be16
+    naiLength expectedLength kindOf headOf headAt octetOf be16 strayFlags structureFlags reservedOctets straysAt
 judged n = refl
 
 report1 : reportWith emptyTable (replicate 49152 0) keyA (object 1) (acceptedWith 1) ≡ record { verdict = acceptedWith 1; table = table1 }

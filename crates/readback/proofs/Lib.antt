@@ -7,3 +7,4 @@ pub mod Reading
 pub mod Parts
 pub mod Subobjects
 pub mod Rewriting
+pub mod Strays

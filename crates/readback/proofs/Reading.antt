@@ -8,7 +8,7 @@ use lib.ListN.{length, getD, take, drop, length-append}
 use native.Mathlib.Omega.{arith}
 use borrow.Author.Tests.{eq-eqb, ne-eqb, le-ltb, lt-ltb, le-leb}
 use Rattle.octets.specs.Octets.{octetOf, be16, hi, lo}
-use Rattle.answers.specs.Verdicts.{acceptedWith}
+use Rattle.answers.specs.Verdicts.{acceptedWith, carryingBoth}
 use Rattle.session.specs.declared.Session.{Session}
 use Rattle.session.specs.declared.Limit.the-variants.{Free}
 use Rattle.subobject.specs.declared.head.Head.{Head}
@@ -16,13 +16,15 @@ use Rattle.subobject.specs.declared.segment.Segment.{Segment}
 use Rattle.subobject.specs.Layout.{srv6Kind, naiLength, sidLength, structureThere, structureLength, expectedLength, kindOf, headOf, headAt}
 use Rattle.subobject.specs.Rules.{rule7, rule8, rule9, rule10, rule11, flagF, hasStructure, sumAt, bitsAt}
 use Rattle.subobject.specs.Segments.{segmentAt, noSegment, headOfSegment, fixedOctets, structureOctets, subobjectOf, bitsOf, bit}
+use Rattle.subobject.specs.Strays.{straysAt, noStrays, strayIn}
 use Rattle.frame.specs.Checks.{Check, check, firstBroken}
 use Rattle.frame.specs.Frames.{classOf, headed, fitsIn, Apart, apart, apartOf, placesOf, kindAt, anyIs, otherThan, mixedAt, rule4, rule5, rule6, rule6Place, rule14, frameChecks}
 use Rattle.frame.proofs.Checks.{None, none-first, none-append}
 use Rattle.frame_rules.proofs.Laws.{headed-last}
 use Rattle.route.specs.declared.picking.Picked.{Picked}
 use Rattle.route_walk.specs.Walk.{checksAt, subobjectChecks}
-use Rattle.route.specs.Routes.{rule12, rule13, rule15, wholeChecks, lastChecks, checksOf, countOf, judgeOf, pickOf, segmentOf}
+use Rattle.route.specs.Routes.{rule12, rule13, rule15, wholeChecks, lastChecks, checksOf, countOf, strayCount, acceptanceOf, judgeOf, pickOf, segmentOf}
+use Rattle.route.proofs.Strays.{none-stray}
 use Rattle.writer_spare.specs.Held.{Held}
 use Rattle.writer_layout.proofs.Laws.{nai-most, length-subobject}
 use Rattle.writer.specs.declared.state.Writer.{Writer}
@@ -35,7 +37,7 @@ use Rattle.readback.specs.Runs.AllHeld.{more}
 use Rattle.readback.proofs.Images.AllFit.{also}
 use Rattle.readback.proofs.Images.{Fit, AllFit, Image, image, length-object}
 use Rattle.readback.proofs.Stands.{Stands, stands-octet, stands-first}
-use Rattle.readback.proofs.Segments.{Plain, plain, there, stands-fixed, stands-bits, head-back, segment-back}
+use Rattle.readback.proofs.Segments.{Plain, plain, there, stands-fixed, stands-bits, head-back, segment-back, strays-back}
 
 -- the octets of a segment --------------------------------------------------------------------------------------
 
@@ -109,6 +111,7 @@ pub record Reads (ero : Bool) (s : List ℕ) (at : ℕ) (g : Segment) : Type 0 w
   pub r8 : rule8 (headOfSegment g) ≡ false
   pub r9 : rule9 (headOfSegment g) ≡ false
   pub r11 : rule11 (headOfSegment g) (bitsAt s at (headOfSegment g)) ≡ false
+  pub strays : straysAt s ero at ≡ noStrays
 
 -- Where no structure is there, nothing is summed.
 pub bits-off : (h : Head) (sum : ℕ) → hasStructure h ≡ false → rule11 h sum ≡ false
@@ -133,7 +136,14 @@ bits-back {s} {at} g t h n r false q = bits-off (headOfSegment g) (bitsAt s at (
 pub reads : {s : List ℕ} {at : ℕ} (ero : Bool) (g : Segment) → Stands s at (subobjectOf g) → Held g → Fit ero g → Reads ero s at g
 reads ero g t h f =
     let p = plain ero g (f .fit) in
-    record { head = head-back g t ero (p .flags); segment = segment-back g t ero h p; r8 = f .r8; r9 = f .r9; r11 = bits-back g t h (p .sided) (f .r11) (g .structured) refl }
+    record {
+      head = head-back g t ero (p .flags);
+      segment = segment-back g t ero h p;
+      r8 = f .r8;
+      r9 = f .r9;
+      r11 = bits-back g t h (p .sided) (f .r11) (g .structured) refl;
+      strays = strays-back g t ero h p;
+    }
 
 pub data AllRead (ero : Bool) (s : List ℕ) : List ℕ → List Segment → Type 0 where
   none : AllRead ero s [] []
@@ -192,6 +202,15 @@ module _ {ero : Bool} {s : List ℕ} where
   read-length none = refl
   read-length (next r a) = ap suc (read-length a)
 
+  clean-there : {ps : List ℕ} {gs : List Segment} → AllRead ero s ps gs → (i : ℕ) → i < length gs → straysAt s ero (getD ps i 0) ≡ noStrays
+  clean-there none i h = absurd (omega arith)
+  clean-there (next r a) ℕ.zero h = r .strays
+  clean-there (next r a) (ℕ.suc i) h = clean-there a i (omega arith)
+
+  clean-all : {ps : List ℕ} {gs : List Segment} → AllRead ero s ps gs → strayIn s ero ps ≡ 0
+  clean-all none = refl
+  clean-all (next r a) = rw (r .strays, clean-all a)
+
   read-there : {ps : List ℕ} {gs : List Segment} → AllRead ero s ps gs → (i : ℕ) → i < length gs → segmentAt s ero (getD ps i 0) ≡ getD gs i noSegment
   read-there none i h = absurd (omega arith)
   read-there (next r a) ℕ.zero h = r .segment
@@ -235,21 +254,30 @@ module _ (s : List ℕ) (ero : Bool) (ps : List ℕ) (gs : List Segment) (hd : h
   count-read : countOf s ≡ length gs
   count-read = rw stand (read-length a)
 
+  pub unstray : strayCount s ero ≡ 0
+  unstray = rw stand (clean-all a)
+
+  accepting : acceptanceOf s ero ≡ acceptedWith (length gs)
+  accepting =
+      let c = count-read in
+      let z = unstray in
+      λ i. carryingBoth (c i) (z i)
+
   pub judged : judgeOf s ero openSession srv6Setup ≡ acceptedWith (length gs)
   unfolding judgeOf
-  judged = none-first (checksOf s ero openSession srv6Setup) (acceptedWith (countOf s)) checks-all ∙ ap acceptedWith count-read
+  judged = none-first (checksOf s ero openSession srv6Setup) (acceptanceOf s ero) checks-all ∙ accepting
 
   picked : (i : ℕ) → i < length gs → pickOf s ero openSession srv6Setup i ≡ acceptedWith (length gs)
   unfolding pickOf rule15
   picked i h =
       let r15 : rule15 i (countOf s) ≡ false = rw (count-read, lt-ltb i (length gs) h) in
-      none-first (checksOf s ero openSession srv6Setup ++ (check 15 0 (rule15 i (countOf s)) ∷ [])) (acceptedWith (countOf s))
-      (none-append (checksOf s ero openSession srv6Setup) (check 15 0 (rule15 i (countOf s)) ∷ []) checks-all (r15, tt)) ∙ ap acceptedWith count-read
+      none-first (checksOf s ero openSession srv6Setup ++ (check 15 0 (rule15 i (countOf s)) ∷ [])) (acceptanceOf s ero)
+      (none-append (checksOf s ero openSession srv6Setup) (check 15 0 (rule15 i (countOf s)) ∷ []) checks-all (r15, tt)) ∙ accepting
 
   pub handed : (i : ℕ) → i < length gs
-      → segmentOf s ero openSession srv6Setup i ≡ record { verdict = acceptedWith (length gs); segment = getD gs i noSegment }
+      → segmentOf s ero openSession srv6Setup i ≡ record { verdict = acceptedWith (length gs); segment = getD gs i noSegment; strays = noStrays }
   unfolding segmentOf
-  handed i h = rw (picked i h, stand, read-there a i h)
+  handed i h = rw (picked i h, stand, read-there a i h, clean-there a i h)
 
 -- the whole object ---------------------------------------------------------------------------------------------
 
@@ -291,9 +319,18 @@ module _ (ero : Bool) (gs : List Segment) (b : List ℕ) (w : Writer) (held : Al
       (object-read ero gs held (m .fits)) (some-there gs (m .filled)))
 
   pub segments-back : (i : ℕ) → i < length gs → segmentOf (objectIn (writeRun b w ero gs)) ero openSession srv6Setup i
-      ≡ record { verdict = acceptedWith (length gs); segment = getD gs i noSegment }
+      ≡ record { verdict = acceptedWith (length gs); segment = getD gs i noSegment; strays = noStrays }
   segments-back i h =
       let m = image ero gs b w accepted in
       rw (m .object)
       (handed (objectOf ero gs) ero (placesFrom 4 gs) gs (object-headed ero gs (m .most) (m .fours)) (object-apart ero gs held)
       (object-read ero gs held (m .fits)) (some-there gs (m .filled)) i h)
+
+  -- In no session is one of them stray.
+  pub written-unstray : (session : Session) (pst : ℕ) → judgeOf (objectIn (writeRun b w ero gs)) ero session pst .stray ≡ 0
+  written-unstray session pst =
+      let m = image ero gs b w accepted in
+      rw (m .object)
+      (none-stray (objectOf ero gs) ero session pst
+      (unstray (objectOf ero gs) ero (placesFrom 4 gs) gs (object-headed ero gs (m .most) (m .fours)) (object-apart ero gs held)
+      (object-read ero gs held (m .fits)) (some-there gs (m .filled))))

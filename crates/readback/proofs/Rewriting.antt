@@ -10,7 +10,6 @@ use native.Mathlib.Omega.{arith}
 use borrow.Author.Tests.{eqb-true, eqb-false, eq-eqb, ne-eqb, le-ltb, lt-ltb, not-true, not-false}
 use Rattle.octets.specs.Octets.{octetOf, be16, part, hi, lo, over, placed}
 use Rattle.octets.proofs.Laws.{length-part, getD-part, length-over, length-placed}
-use Rattle.answers.specs.Verdicts.{acceptedWith}
 use Rattle.session.specs.declared.Session.{Session}
 use Rattle.subobject.specs.declared.head.Head.{Head}
 use Rattle.subobject.specs.declared.segment.Segment.{Segment}
@@ -22,7 +21,7 @@ use Rattle.frame.specs.Frames.{classOf, headed, fitsIn, Apart, apart, apartOf, 
 use Rattle.frame.proofs.Checks.{None, none-first, none-append, none-split}
 use Rattle.frame.proofs.Laws.{fits-true, headed-sized}
 use Rattle.route_walk.specs.Walk.{checksAt, subobjectChecks}
-use Rattle.route.specs.Routes.{lastChecks, checksOf, countOf, judgeOf, pickOf, segmentOf, rule15}
+use Rattle.route.specs.Routes.{lastChecks, checksOf, countOf, acceptanceOf, judgeOf, pickOf, segmentOf, rule15}
 use Rattle.route.proofs.Answer.{accepted-none, accepted-count, accepted-frame}
 use Rattle.writer_spare.specs.Held.{Held}
 use Rattle.writer_spare.specs.Spare.{zeros}
@@ -271,11 +270,11 @@ module _ {ero : Bool} {s : List ℕ} (h : Header ero s) (o : Octets s) where
 -- what the reader hands out ------------------------------------------------------------------------------------
 
 module _ (s : List ℕ) (ero : Bool) (session : Session) (pst : ℕ) (accepted : judgeOf s ero session pst .number ≡ 0) where
-  picked : (i : ℕ) → i < countOf s → pickOf s ero session pst i ≡ acceptedWith (countOf s)
+  picked : (i : ℕ) → i < countOf s → pickOf s ero session pst i ≡ acceptanceOf s ero
   unfolding pickOf rule15
   picked i h =
       let r : rule15 i (countOf s) ≡ false = rw (lt-ltb i (countOf s) h) in
-      none-first (checksOf s ero session pst ++ (check 15 0 (rule15 i (countOf s)) ∷ [])) (acceptedWith (countOf s))
+      none-first (checksOf s ero session pst ++ (check 15 0 (rule15 i (countOf s)) ∷ [])) (acceptanceOf s ero)
       (none-append (checksOf s ero session pst) (check 15 0 (rule15 i (countOf s)) ∷ []) (accepted-none s ero session pst accepted) (r, tt))
 
   handed : (i : ℕ) → i < countOf s → segmentOf s ero session pst i .segment ≡ segmentAt s ero (getD (placesOf s) i 0)

@@ -15,6 +15,7 @@ use Rattle.subobject.specs.declared.segment.Segment.{Segment}
 use Rattle.subobject.specs.Layout.{srv6Kind, naiLength, sidLength, structureThere, structureLength, expectedLength, kindOf, headOf, headAt}
 use Rattle.subobject.specs.Rules.{rule8, rule9, rule11, flagF, hasStructure, sumAt, bitsAt}
 use Rattle.subobject.specs.Segments.{segmentBy, segmentAt, headOfSegment, fixedOctets, structureOctets, subobjectOf, bitsOf, bit}
+use Rattle.subobject.specs.Strays.{strayFlags, structureFlags, reservedOctets, straysBy, straysAt, noStrays}
 use Rattle.writer_spare.specs.Held.{Held}
 use Rattle.writer_spare.specs.Spare.{zeros, tidyOf}
 use Rattle.writer_layout.proofs.Laws.{nt-known, nai-most, length-subobject, part-there, length-there, length-structure, four}
@@ -63,6 +64,12 @@ module _ (v t f s : ℕ) (hv : v ≤ 1) (ht : t ≤ 1) (hf : f ≤ 1) (hs : s �
 
   pub flag-v : (v * 8 + t * 4 + f * 2 + s) / 8 % 2 ≡ v
   flag-v = omega arith
+
+-- No flag but V, T, F and S.
+flags-none : (nt v t f s : ℕ) → v ≤ 1 → t ≤ 1 → f ≤ 1 → s ≤ 1 → (nt * 16 * 256 + (v * 8 + t * 4 + f * 2 + s)) % 4096 / 16 * 16 ≡ 0
+flags-none nt v t f s hv ht hf hs =
+    let e : (nt * 16 * 256 + (v * 8 + t * 4 + f * 2 + s)) % 4096 ≡ v * 8 + t * 4 + f * 2 + s = omega arith in
+    rw e (omega arith)
 
 -- the head -----------------------------------------------------------------------------------------------------
 
@@ -250,3 +257,48 @@ module _ {s : List ℕ} {at : ℕ} (g : Segment) (t : Stands s at (subobjectOf g
   pub segment-back : (ero : Bool) → Held g → Plain ero g → segmentAt s ero at ≡ g
   unfolding segmentAt
   segment-back ero h p = rw (head-back ero (p .flags)) (segment-by h (p .sided) (p .tidy))
+
+  -- what is set and ought to be 0 --------------------------------------------------------------------------------
+
+  flags-clean : strayFlags s at ≡ 0
+  unfolding strayFlags be16 fixedOctets octetOf headOfSegment
+  flags-clean =
+      let e2 = stands-octet (fixedPart g) stands-fixed 2 (omega arith) in
+      let e3 = stands-octet (fixedPart g) stands-fixed 3 (omega arith) in
+      rw (add-assoc at 2 1, e2, e3)
+      (flags-none (g .nt) (bit (g .verify)) (bit (g .structured)) (flagF (g .nt)) (bit (not (g .hassid))) (bit-most (g .verify)) (bit-most (g .structured))
+      (bit-most (eqb (g .nt) 0)) (bit-most (not (g .hassid))))
+
+  fixed-clean : (octetOf s (at + 4) ≡ 0) × (octetOf s (at + 4 + 1) ≡ 0)
+  unfolding fixedOctets
+  fixed-clean = (
+    stands-octet (fixedPart g) stands-fixed 4 (omega arith),
+    ap (octetOf s) (add-assoc at 4 1) ∙ stands-octet (fixedPart g) stands-fixed 5 (omega arith),
+  )
+
+  -- The last four octets of the structure stand behind the bit lengths.
+  stands-spare : Held g → g .structured ≡ true → (g .structured && not (g .hassid)) ≡ false
+      → Stands s (at + 8 + 16 + naiLength (g .nt) + 4) (0 ∷ 0 ∷ 0 ∷ 0 ∷ [])
+  stands-spare h e n =
+      let l : lastPart g ≡ structureOctets (g .structure) = rw (there g n, e) in
+      let k : sidLength (headOfSegment g .s) ≡ 16 = sid-there g ∙ rw (sided g e n) in
+      let f : length (take 4 (g .structure)) ≡ 4 = length-take-le 4 (g .structure) (omega (arith, h .structure)) in
+      rw f at (stands-right (take 4 (g .structure)) _ (rw (l, k) at (stands-last h)))
+
+  strays-by : Held g → (g .structured && not (g .hassid)) ≡ false → (b : Bool) → g .structured ≡ b → straysBy (headOfSegment g) s at ≡ noStrays
+  unfolding structureFlags reservedOctets headOfSegment
+  strays-by h n true e =
+      let t = stands-spare h e n in
+      let x : List ℕ = 0 ∷ 0 ∷ 0 ∷ 0 ∷ [] in
+      let there-now : hasStructure (headOfSegment g) ≡ true = there g n ∙ e in
+      let c = fixed-clean in
+      rw (there-now, flags-clean, c .0, c .1, stands-first x t (omega arith), stands-octet x t 1 (omega arith), stands-octet x t 2 (omega arith), stands-octet x t 3 (omega arith))
+  strays-by h n false e =
+      let there-now : hasStructure (headOfSegment g) ≡ false = there g n ∙ e in
+      let c = fixed-clean in
+      rw (there-now, flags-clean, c .0, c .1)
+
+  -- "Writing knows none: what is written has none."
+  pub strays-back : (ero : Bool) → Held g → Plain ero g → straysAt s ero at ≡ noStrays
+  unfolding straysAt
+  strays-back ero h p = rw (head-back ero (p .flags)) (strays-by h (p .sided) (g .structured) refl)

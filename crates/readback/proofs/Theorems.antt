@@ -1,33 +1,46 @@
--- The three theorems, over the definitions that the contracts of the writer and of the reader cite.
-use Prim.Native.Nat.{ℕ, _≤_, _<_}
-use mathlib.Core.Path.{_≡_}
-use mathlib.Core.Bool.{Bool, true}
+-- The theorems, over the definitions that the contracts of the writer and of the reader cite.
+use Prim.Native.Nat.{ℕ, _%_, _≤_, _<_}
+use mathlib.Core.Path.{_≡_, sym, _∙_, ap}
+use mathlib.Core.Bool.{Bool, true, not, _&&_}
 use mathlib.Core.List.{List}
+use lib.Dec.{eqb}
 use lib.ListN.{length, getD}
+use borrow.Author.Tests.{eqb-true, eq-eqb}
+use Rattle.answers.specs.declared.verdict.Verdict.{Verdict}
 use Rattle.answers.specs.Verdicts.{acceptedWith}
+use Rattle.octets.specs.Octets.{octetOf}
 use Rattle.session.specs.declared.Session.{Session}
 use Rattle.subobject.specs.declared.segment.Segment.{Segment}
 use Rattle.subobject.specs.Segments.{noSegment}
-use Rattle.route.specs.Routes.{judgeOf, segmentOf}
+use Rattle.subobject.specs.Strays.{noStrays, straysAt, isStray}
+use Rattle.frame.specs.Frames.{placesOf}
+use Rattle.route.specs.Routes.{strayCount, judgeOf, segmentOf}
+use Rattle.route.proofs.Answer.{accepted-count}
+use Rattle.route.proofs.Strays.{none-stray}
 use Rattle.writer_spare.specs.Spare.{zeros}
 use Rattle.writer.specs.declared.state.Writer.{Writer}
 use Rattle.readback.specs.Runs.{writeRun, Accepted, objectIn, AllHeld, openSession}
-use Rattle.objects.specs.Objects.{srv6Setup}
-use Rattle.readback.specs.Ignored.{Octets, ignoredOf, segmentsRead}
+use Rattle.objects.specs.Objects.{typePlace, typeWorth, srv6Setup}
+use Rattle.readback.specs.Ignored.{Octets, strayBitsAt, strayBitsIn, assignedIn, ignoredOf, segmentsRead}
 use Rattle.readback.proofs.Images as images
 use Rattle.readback.proofs.Reading as reading
 use Rattle.readback.proofs.Rewriting as rewriting
+use Rattle.readback.proofs.Strays as strays
 
 -- 1. Whatever list of segments begin, adds and finish accept, ERO or RRO, in any buffer and from any state: the finished object
--- is accepted in a session with SRv6 agreed, N set and no limit, under setup type 3, with that number of segments,
+-- is accepted in a session with SRv6 agreed, N set and no limit, under setup type 3, with that number of segments, none of them stray,
 module _ (ero : Bool) (gs : List Segment) (b : List ℕ) (w : Writer) (held : AllHeld gs) (accepted : Accepted (writeRun b w ero gs)) where
   pub read-back : judgeOf (objectIn (writeRun b w ero gs)) ero openSession srv6Setup ≡ acceptedWith (length gs)
   read-back = reading.read-back ero gs b w held accepted
 
   -- and segment i read is segment i given.
   pub segments-back : (i : ℕ) → i < length gs → segmentOf (objectIn (writeRun b w ero gs)) ero openSession srv6Setup i
-      ≡ record { verdict = acceptedWith (length gs); segment = getD gs i noSegment }
+      ≡ record { verdict = acceptedWith (length gs); segment = getD gs i noSegment; strays = noStrays }
   segments-back i h = reading.segments-back ero gs b w held accepted i h
+
+  -- In any session and under any setup type it carries no stray segment.
+  pub written-unstray : (session : Session) (pst : ℕ) → judgeOf (objectIn (writeRun b w ero gs)) ero session pst .stray ≡ 0
+  written-unstray session pst = reading.written-unstray ero gs b w held accepted session pst
 
 -- 2. Any two finished objects of the same kind and segments are equal octet for octet, whatever the buffers and the states were.
 pub one-object : (ero : Bool) (gs : List Segment) (b c : List ℕ) (v w : Writer) → Accepted (writeRun b v ero gs) → Accepted (writeRun c w ero gs)
@@ -49,3 +62,28 @@ module _ (s : List ℕ) (ero : Bool) (session : Session) (pst : ℕ) (octets : O
   -- and only if they were.
   pub rewritten-zero : objectIn (writeRun b w ero (segmentsRead s ero session pst)) ≡ s → zeros (ignoredOf s ero) ≡ true
   rewritten-zero e = rewriting.rewritten-zero s ero session pst octets accepted b w room e
+
+  -- What is rewritten octet for octet has no stray segment.
+  pub rewritten-unstray : objectIn (writeRun b w ero (segmentsRead s ero session pst)) ≡ s → judgeOf s ero session pst .stray ≡ 0
+  rewritten-unstray e = none-stray s ero session pst (strays.ignored-none s ero octets (rewritten-zero e))
+
+-- 4. An accepted route carries 0 exactly if every bit named in `strayBitsAt` is 0, in each of its subobjects.
+module _ (s : List ℕ) (ero : Bool) (session : Session) (pst : ℕ) (octets : Octets s) (accepted : judgeOf s ero session pst .number ≡ 0) where
+  pub unstray-zero : judgeOf s ero session pst .stray ≡ 0 → zeros (strayBitsIn s ero (placesOf s)) ≡ true
+  unstray-zero e =
+      sym (strays.strays-none s ero (placesOf s) octets)
+      ∙ eq-eqb (strayCount s ero) 0 (sym (ap (λ (v : Verdict). v .stray) (accepted-count s ero session pst accepted)) ∙ e)
+
+  pub zero-unstray : zeros (strayBitsIn s ero (placesOf s)) ≡ true → judgeOf s ero session pst .stray ≡ 0
+  zero-unstray e = none-stray s ero session pst (eqb-true (strayCount s ero) 0 (strays.strays-none s ero (placesOf s) octets ∙ e))
+
+-- Which of the ignored bits these are: all ignored bits are 0 exactly if the header's low bits are, the strays are, and so are the flags that are assigned and ignored,
+-- V of an RRO and T where S is 1. The header's bits and those flags make no segment stray.
+pub ignored-are : (s : List ℕ) (ero : Bool)
+    → zeros (ignoredOf s ero)
+    ≡ (eqb (octetOf s typePlace % typeWorth) 0 && (zeros (strayBitsIn s ero (placesOf s)) && zeros (assignedIn s ero (placesOf s))))
+ignored-are s ero = strays.ignored-are s ero
+
+-- A segment is stray exactly if one of its own is set.
+pub stray-bits : (s : List ℕ) (ero : Bool) (at : ℕ) → Octets s → isStray (straysAt s ero at) ≡ not (zeros (strayBitsAt s ero at))
+stray-bits s ero at o = strays.stray-bits s ero at o

@@ -10,7 +10,7 @@ use native.Mathlib.Omega.{arith}
 use borrow.Author.Tests.{eq-eqb, ne-eqb, lt-ltb, le-ltb, eqb-true, eqb-false, not-false}
 use Rattle.answers.specs.declared.verdict.Verdict.{Verdict}
 use Rattle.answers.specs.Numbers.{notAgreed, noSuchSegment}
-use Rattle.answers.specs.Verdicts.{refusedBy, acceptedWith}
+use Rattle.answers.specs.Verdicts.{refusedBy, acceptedWith, carryingBoth}
 use Rattle.session.specs.declared.Limit.{Limit}
 use Rattle.session.specs.declared.Session.{Session}
 use Rattle.octets.specs.Octets.{octetOf, be16}
@@ -20,6 +20,11 @@ use Rattle.objects.specs.Objects.{header, unit}
 use Rattle.subobject.specs.Layout.{srv6Kind, headOf, headAt, expectedAt}
 use Rattle.subobject.specs.Rules.{rule7, rule8, rule9}
 use Rattle.subobject.specs.Segments.{segmentAt, noSegment}
+use Rattle.subobject.specs.declared.strays.Strays.{Strays}
+use Rattle.subobject.specs.Strays.{straysAt, noStrays}
+use Rattle.subobject_read.specs.declared.answer.Reading.{Reading}
+use Rattle.subobject_read.specs.declared.answer.Reading.the-variants.{Whole, Refused}
+use Rattle.subobject_read.specs.Reader.{readOf}
 use Rattle.octets.proofs.Said.{both-true}
 use Rattle.subobject.proofs.Laws.{sound-length, sound-least}
 use Rattle.frame.specs.Checks.{Check, check, firstBroken}
@@ -29,8 +34,8 @@ use Rattle.frame.proofs.Laws.{Sized, headed-sized, fits-true}
 use Rattle.route.specs.declared.picking.Picked.{Picked}
 use Rattle.route_walk.specs.Walk.{checksAt, subobjectChecks, walkOf}
 use Rattle.route_walk.proofs.Laws.{head-size}
-use Rattle.route.specs.Parts.{refusalOr, limitedOf}
-use Rattle.route.specs.Routes.{rule13, wholeChecks, lastChecks, checksOf, countOf, judgeOf, rule15, pickOf, segmentOf}
+use Rattle.route.specs.Parts.{limitedOf, nothingWith}
+use Rattle.route.specs.Routes.{rule13, wholeChecks, lastChecks, checksOf, countOf, strayCount, acceptanceOf, judgeOf, rule15, pickOf, segmentOf}
 
 -- every check has a number -------------------------------------------------------------------------------------
 
@@ -74,7 +79,7 @@ module _ (s : List ℕ) (ero : Bool) (session : Session) (pst : ℕ) (f : Verdic
       (firstBroken
       (check notAgreed 0 (rule13 (session .agreed) pst)
       ∷ (subobjectChecks s ero (session .n) (placesOf s) ++ lastChecks (placesOf s) ero (session .limit) (countOf s)))
-      (acceptedWith (countOf s)))
+      (acceptanceOf s ero))
       refl (λ z. n (rw e z))
 
   pub frame-none : f .number ≡ 0 → None (frameChecks s ero srv6Kind)
@@ -96,13 +101,13 @@ module _ (s : List ℕ) (ero : Bool) (session : Session) (pst : ℕ) (h : None (
       (firstBroken
       (check notAgreed 0 (rule13 (session .agreed) pst)
       ∷ (subobjectChecks s ero (session .n) (placesOf s) ++ lastChecks (placesOf s) ero (session .limit) (countOf s)))
-      (acceptedWith (countOf s)))
+      (acceptanceOf s ero))
       h
       ∙ rw e)
 
   pub after-whole : rule13 (session .agreed) pst ≡ false
       → firstBroken (subobjectChecks s ero (session .n) (placesOf s))
-      (firstBroken (lastChecks (placesOf s) ero (session .limit) (countOf s)) (acceptedWith (countOf s)))
+      (firstBroken (lastChecks (placesOf s) ero (session .limit) (countOf s)) (acceptanceOf s ero))
       ≡ judgeOf s ero session pst
   unfolding judgeOf
   after-whole e =
@@ -111,10 +116,10 @@ module _ (s : List ℕ) (ero : Bool) (session : Session) (pst : ℕ) (h : None (
       (firstBroken
       (check notAgreed 0 (rule13 (session .agreed) pst)
       ∷ (subobjectChecks s ero (session .n) (placesOf s) ++ lastChecks (placesOf s) ero (session .limit) (countOf s)))
-      (acceptedWith (countOf s)))
+      (acceptanceOf s ero))
       h
       ∙ rw e
-      (first-append (subobjectChecks s ero (session .n) (placesOf s)) (lastChecks (placesOf s) ero (session .limit) (countOf s)) (acceptedWith (countOf s))))
+      (first-append (subobjectChecks s ero (session .n) (placesOf s)) (lastChecks (placesOf s) ero (session .limit) (countOf s)) (acceptanceOf s ero)))
 
   -- The walk's answer if it refuses,
   walk-stops : (w : Verdict) (count : ℕ) → rule13 (session .agreed) pst ≡ false → w ≡ walkOf s ero (session .n) count → (w .number ≡ 0 → ⊥)
@@ -122,30 +127,33 @@ module _ (s : List ℕ) (ero : Bool) (session : Session) (pst : ℕ) (h : None (
   unfolding walkOf
   walk-stops w count e q n =
       q
-      ∙ first-some (subobjectChecks s ero (session .n) (placesOf s)) (acceptedWith count)
-      (firstBroken (lastChecks (placesOf s) ero (session .limit) (countOf s)) (acceptedWith (countOf s))) refl (λ z. n (rw q z))
+      ∙ first-some (subobjectChecks s ero (session .n) (placesOf s)) (carryingBoth count (strayCount s ero))
+      (firstBroken (lastChecks (placesOf s) ero (session .limit) (countOf s)) (acceptanceOf s ero)) refl (λ z. n (rw q z))
       ∙ after-whole e
 
-  -- else 12's.
-  limit-ends : (w l : Verdict) (count : ℕ) → rule13 (session .agreed) pst ≡ false → w ≡ walkOf s ero (session .n) count → w .number ≡ 0
-      → count ≡ countOf s → l ≡ limitedOf s ero (session .limit) count → l ≡ judgeOf s ero session pst
-  unfolding walkOf limitedOf
-  limit-ends w l count e q z c r =
-      rw c at r
-      ∙ sym
+  -- else 12's: "last 12".
+  limit-ends : (w : Verdict) (count : ℕ) → rule13 (session .agreed) pst ≡ false → w ≡ walkOf s ero (session .n) count → w .number ≡ 0 → count ≡ countOf s
+      → firstBroken (lastChecks (placesOf s) ero (session .limit) (w .count)) w ≡ judgeOf s ero session pst
+  unfolding walkOf
+  limit-ends w count e q z c =
+      let passed =
+      first-none (subobjectChecks s ero (session .n) (placesOf s)) (carryingBoth count (strayCount s ero))
+      (numbered-subobjects s ero (session .n) (placesOf s)) (rw q at z) in
+      let v : w ≡ acceptanceOf s ero =
+      q ∙ none-first (subobjectChecks s ero (session .n) (placesOf s)) (carryingBoth count (strayCount s ero)) passed ∙ ap (λ (x : ℕ). carryingBoth x (strayCount s ero)) c in
+      rw v
+      (sym
       (none-first (subobjectChecks s ero (session .n) (placesOf s))
-      (firstBroken (lastChecks (placesOf s) ero (session .limit) (countOf s)) (acceptedWith (countOf s)))
-      (first-none (subobjectChecks s ero (session .n) (placesOf s)) (acceptedWith count)
-      (numbered-subobjects s ero (session .n) (placesOf s)) (rw q at z)))
-      ∙ after-whole e
+      (firstBroken (lastChecks (placesOf s) ero (session .limit) (countOf s)) (acceptanceOf s ero)) passed)
+      ∙ after-whole e)
 
-  -- The walk's answer, or else 12's: "last 12".
-  pub walk-then-limit : (w l r : Verdict) (count : ℕ) → rule13 (session .agreed) pst ≡ false → w ≡ walkOf s ero (session .n) count → count ≡ countOf s
-      → l ≡ limitedOf s ero (session .limit) count → r ≡ refusalOr w l → r ≡ judgeOf s ero session pst
-  walk-then-limit w l r count e q c p t = t ∙ go (eqb (w .number) 0) refl
+  pub walk-then-limit : (w r : Verdict) (count : ℕ) → rule13 (session .agreed) pst ≡ false → w ≡ walkOf s ero (session .n) count → count ≡ countOf s
+      → r ≡ limitedOf s ero (session .limit) w → r ≡ judgeOf s ero session pst
+  unfolding limitedOf
+  walk-then-limit w r count e q c p = p ∙ go (eqb (w .number) 0) refl
     where
-      go : (b : Bool) → eqb (w .number) 0 ≡ b → cond b l w ≡ judgeOf s ero session pst
-      go true z = limit-ends w l count e q (eqb-true (w .number) 0 z) c p
+      go : (b : Bool) → eqb (w .number) 0 ≡ b → cond b (firstBroken (lastChecks (placesOf s) ero (session .limit) (w .count)) w) w ≡ judgeOf s ero session pst
+      go true z = limit-ends w count e q (eqb-true (w .number) 0 z) c
       go false z = walk-stops w count e q (eqb-false (w .number) 0 z)
 
 -- 12 where there is no limit.
@@ -158,12 +166,12 @@ never-past false = refl
 -- No check is broken, and the count is that of the subobjects.
 pub accepted-none : (s : List ℕ) (ero : Bool) (session : Session) (pst : ℕ) → judgeOf s ero session pst .number ≡ 0 → None (checksOf s ero session pst)
 unfolding judgeOf
-accepted-none s ero session pst z = first-none (checksOf s ero session pst) (acceptedWith (countOf s)) (numbered-all s ero session pst) z
+accepted-none s ero session pst z = first-none (checksOf s ero session pst) (acceptanceOf s ero) (numbered-all s ero session pst) z
 
 pub accepted-count : (s : List ℕ) (ero : Bool) (session : Session) (pst : ℕ) → judgeOf s ero session pst .number ≡ 0
-    → judgeOf s ero session pst ≡ acceptedWith (countOf s)
+    → judgeOf s ero session pst ≡ acceptanceOf s ero
 unfolding judgeOf
-accepted-count s ero session pst z = none-first (checksOf s ero session pst) (acceptedWith (countOf s)) (accepted-none s ero session pst z)
+accepted-count s ero session pst z = none-first (checksOf s ero session pst) (acceptanceOf s ero) (accepted-none s ero session pst z)
 
 pub accepted-frame : (s : List ℕ) (ero : Bool) (session : Session) (pst : ℕ) → judgeOf s ero session pst .number ≡ 0
     → (headed s ero ≡ true) × (apartOf s .whole ≡ true)
@@ -253,45 +261,68 @@ accepted-body s ero session pst z =
 
 module _ (s : List ℕ) (ero : Bool) (session : Session) (pst i : ℕ) (v : Verdict) (e : v ≡ judgeOf s ero session pst) where
   picks : pickOf s ero session pst i
-      ≡ firstBroken (checksOf s ero session pst) (firstBroken (check noSuchSegment 0 (rule15 i (countOf s)) ∷ []) (acceptedWith (countOf s)))
+      ≡ firstBroken (checksOf s ero session pst) (firstBroken (check noSuchSegment 0 (rule15 i (countOf s)) ∷ []) (acceptanceOf s ero))
   unfolding pickOf
-  picks = first-append (checksOf s ero session pst) (check noSuchSegment 0 (rule15 i (countOf s)) ∷ []) (acceptedWith (countOf s))
+  picks = first-append (checksOf s ero session pst) (check noSuchSegment 0 (rule15 i (countOf s)) ∷ []) (acceptanceOf s ero)
 
-  pub pick-stops : {g : Segment} → (v .number ≡ 0 → ⊥) → g ≡ noSegment → _≡_ {A = Picked} (record { verdict = v; segment = g }) (segmentOf s ero session pst i)
+  pub pick-stops : {p : Picked} → (v .number ≡ 0 → ⊥) → p ≡ nothingWith v → p ≡ segmentOf s ero session pst i
   unfolding segmentOf judgeOf
   pick-stops n q =
       let p : pickOf s ero session pst i ≡ v =
       picks
       ∙ sym
       (e
-      ∙ first-some (checksOf s ero session pst) (acceptedWith (countOf s))
-      (firstBroken (check noSuchSegment 0 (rule15 i (countOf s)) ∷ []) (acceptedWith (countOf s))) refl (λ y. n (rw e y))) in
-      rw (p, ne-eqb (v .number) 0 n) (λ k. record { verdict = v; segment = q k })
+      ∙ first-some (checksOf s ero session pst) (acceptanceOf s ero)
+      (firstBroken (check noSuchSegment 0 (rule15 i (countOf s)) ∷ []) (acceptanceOf s ero)) refl (λ y. n (rw e y))) in
+      rw (p, ne-eqb (v .number) 0 n) q
 
   passing : v .number ≡ 0
-      → pickOf s ero session pst i ≡ firstBroken (check noSuchSegment 0 (rule15 i (countOf s)) ∷ []) (acceptedWith (countOf s))
+      → pickOf s ero session pst i ≡ firstBroken (check noSuchSegment 0 (rule15 i (countOf s)) ∷ []) (acceptanceOf s ero)
   passing z =
       picks
-      ∙ none-first (checksOf s ero session pst) (firstBroken (check noSuchSegment 0 (rule15 i (countOf s)) ∷ []) (acceptedWith (countOf s)))
+      ∙ none-first (checksOf s ero session pst) (firstBroken (check noSuchSegment 0 (rule15 i (countOf s)) ∷ []) (acceptanceOf s ero))
       (accepted-none s ero session pst (rw e at z))
 
   pub pick-count : v .number ≡ 0 → v .count ≡ countOf s
   pick-count z = ap (λ (x : Verdict). x .count) (e ∙ accepted-count s ero session pst (rw e at z))
 
-  pub pick-beyond : {r : Verdict} {g : Segment} → v .number ≡ 0 → v .count ≤ i → r ≡ refusedBy noSuchSegment 0 → g ≡ noSegment
-      → _≡_ {A = Picked} (record { verdict = r; segment = g }) (segmentOf s ero session pst i)
+  pub pick-beyond : {r : Verdict} {p : Picked} → v .number ≡ 0 → v .count ≤ i → r ≡ refusedBy noSuchSegment 0 → p ≡ nothingWith r
+      → p ≡ segmentOf s ero session pst i
   unfolding segmentOf rule15
-  pick-beyond z l p q =
+  pick-beyond z l d q =
       let m : countOf s ≤ i = rw (pick-count z) at l in
       let o : pickOf s ero session pst i ≡ refusedBy noSuchSegment 0 = passing z ∙ rw (le-ltb i (countOf s) m) in
-      rw o (λ k. record { verdict = p k; segment = q k })
+      rw o (rw d at q)
 
-  pub pick-there : {at : ℕ} {g : Segment} → v .number ≡ 0 → i < v .count → at ≡ getD (placesOf s) i 0 → g ≡ segmentAt s ero at
-      → _≡_ {A = Picked} (record { verdict = v; segment = g }) (segmentOf s ero session pst i)
+  pub pick-there : {at : ℕ} {g : Segment} {x : Strays} → v .number ≡ 0 → i < v .count → at ≡ getD (placesOf s) i 0 → g ≡ segmentAt s ero at
+      → x ≡ straysAt s ero at → _≡_ {A = Picked} (record { verdict = v; segment = g; strays = x }) (segmentOf s ero session pst i)
   unfolding segmentOf rule15
-  pick-there z l a q =
+  pick-there z l a q y =
       let m : i < countOf s = rw (pick-count z) at l in
-      let o : pickOf s ero session pst i ≡ acceptedWith (countOf s) = passing z ∙ rw (lt-ltb i (countOf s) m) in
-      let w : v ≡ acceptedWith (countOf s) = e ∙ accepted-count s ero session pst (rw e at z) in
+      let o : pickOf s ero session pst i ≡ acceptanceOf s ero = passing z ∙ rw (lt-ltb i (countOf s) m) in
+      let w : v ≡ acceptanceOf s ero = e ∙ accepted-count s ero session pst (rw e at z) in
       let r = rw a at q in
-      rw o (λ k. record { verdict = w k; segment = r k })
+      let t = rw a at y in
+      rw o (λ k. record { verdict = w k; segment = r k; strays = t k })
+
+-- The subobject reader's answer, where the route was accepted: the subobject is there whole.
+pub picked-whole : (s : List ℕ) (ero : Bool) (session : Session) (pst i at : ℕ) (r : Reading) → judgeOf s ero session pst .number ≡ 0 → i < countOf s
+    → at ≡ getD (placesOf s) i 0 → r ≡ readOf s ero at → r ≡ Whole (straysAt s ero at)
+unfolding readOf
+picked-whole s ero session pst i at r z l a e =
+    let lies = accepted-lying s ero session pst i z l .inside in
+    e ∙ rw (a, le-ltb (length s - getD (placesOf s) i 0) (expectedAt s ero (getD (placesOf s) i 0)) (omega arith))
+
+abbrev whole? : Reading → Bool
+whole? (Whole x) = true
+whole? (Refused n p) = false
+
+pub whole-not-refused : {x : Strays} {n p : ℕ} → Whole x ≡ Refused n p → ⊥
+whole-not-refused {x} {n} {p} e = let w : _≡_ {A = Bool} true false = ap whole? e in let v : _≡_ {A = ℕ} 0 1 = cc in omega arith
+
+pub whole-same : {x y : Strays} → Whole x ≡ Whole y → x ≡ y
+whole-same {x} e = ap straysIn e
+  where
+    straysIn : Reading → Strays
+    straysIn (Whole z) = z
+    straysIn (Refused n p) = x

@@ -2,3 +2,4 @@ pub mod Answer
 pub mod Numbers
 pub mod Order
 pub mod Theorems
+pub mod Strays

@@ -5,12 +5,12 @@ use mathlib.Core.Bool.{Bool, true, false, cond}
 use mathlib.Core.List.{List, [], _∷_, _++_}
 use Rattle.answers.specs.declared.verdict.Verdict.{Verdict}
 use Rattle.answers.specs.Numbers.{noSuchSegment}
-use Rattle.answers.specs.Verdicts.{refusedBy, acceptedWith}
+use Rattle.answers.specs.Verdicts.{refusedBy}
 use Rattle.session.specs.declared.Session.{Session}
 use Rattle.frame.specs.Checks.{Check, firstBroken}
 use Rattle.frame.specs.Frames.{placesOf}
 use Rattle.route_walk.specs.Walk.{subobjectChecks}
-use Rattle.route.specs.Routes.{lastChecks, checksOf, countOf, judgeOf}
+use Rattle.route.specs.Routes.{lastChecks, checksOf, countOf, acceptanceOf, judgeOf}
 
 abbrev Low : List Check → Type 0
 Low [] = Unit {0}
@@ -42,4 +42,4 @@ low-all s ero session pst =
 
 pub judge-low : (s : List ℕ) (ero : Bool) (session : Session) (pst : ℕ) → judgeOf s ero session pst .number < noSuchSegment
 unfolding judgeOf
-judge-low s ero session pst = low-first (checksOf s ero session pst) (acceptedWith (countOf s)) (low-all s ero session pst) (omega arith)
+judge-low s ero session pst = low-first (checksOf s ero session pst) (acceptanceOf s ero) (low-all s ero session pst) (omega arith)

@@ -7,7 +7,7 @@ use mathlib.Core.Bool.{Bool, true, false}
 use lib.ListN.{length}
 use native.Mathlib.Omega.{arith}
 use Rattle.answers.specs.declared.verdict.Verdict.{Verdict}
-use Rattle.answers.specs.Verdicts.{refusedBy, acceptedWith}
+use Rattle.answers.specs.Verdicts.{refusedBy}
 use Rattle.session.specs.declared.Limit.{Limit}
 use Rattle.session.specs.declared.Session.{Session}
 use Rattle.subobject.specs.declared.head.Head.{Head}
@@ -18,7 +18,7 @@ use Rattle.frame.specs.Checks.{Check, check}
 use Rattle.frame.proofs.Checks.{checkOf, First, Found, none-all, all-none, none-first, first-answer, answer-first}
 use Rattle.route.specs.declared.picking.Picked.{Picked}
 use Rattle.route_walk.specs.Walk.{checksAt}
-use Rattle.route.specs.Routes.{wholeChecks, rule12, checksOf, countOf, judgeOf, segmentOf}
+use Rattle.route.specs.Routes.{wholeChecks, rule12, checksOf, countOf, acceptanceOf, judgeOf, segmentOf}
 use Rattle.route.specs.Order.{Where, wholeCount, Among, Before, checkAt, FirstBroken}
 use Rattle.route.proofs.Answer.{accepted-none}
 use Rattle.route.proofs.Order.{rank, rank-within, before-lower, lower-before, Standing, standing, checks-length, rank-check}
@@ -32,10 +32,10 @@ module _ (s : List ℕ) (ero : Bool) (session : Session) (pst : ℕ) where
 
   -- and where no rule is broken, the route is accepted with the number of its subobjects.
   pub unbroken-accepted : ((w : Where) → Among (countOf s) w → checkAt s ero session pst w .broken ≡ false)
-      → judgeOf s ero session pst ≡ acceptedWith (countOf s)
+      → judgeOf s ero session pst ≡ acceptanceOf s ero
   unfolding judgeOf
   unbroken-accepted f =
-      none-first (checksOf s ero session pst) (acceptedWith (countOf s))
+      none-first (checksOf s ero session pst) (acceptanceOf s ero)
       (all-none (checksOf s ero session pst)
       (λ r h.
       let t = standing (countOf s) r (omega (arith, checks-length s ero session pst)) in
@@ -47,7 +47,7 @@ module _ (s : List ℕ) (ero : Bool) (session : Session) (pst : ℕ) where
   pub refused-first : (n p : ℕ) → 0 < n → judgeOf s ero session pst ≡ refusedBy n p → FirstBroken s ero session pst n p
   unfolding judgeOf
   refused-first n p pos e =
-      let r = answer-first (checksOf s ero session pst) (acceptedWith (countOf s)) n p (λ z. omega (arith, z)) e in
+      let r = answer-first (checksOf s ero session pst) (acceptanceOf s ero) n p (λ z. omega (arith, z)) e in
       let t = standing (countOf s) (r .rank) (omega (arith, checks-length s ero session pst, r .first .within)) in
       let q = ap (λ (x : ℕ). checkOf (checksOf s ero session pst) x) (sym (t .ranked)) ∙ rank-check s ero session pst (t .stands) (t .among) in
       record {
@@ -68,7 +68,7 @@ module _ (s : List ℕ) (ero : Bool) (session : Session) (pst : ℕ) where
   first-refused n p f =
       let q = rank-check s ero session pst (f .stands) (f .among) in
       let a =
-      first-answer (checksOf s ero session pst) (acceptedWith (countOf s)) (rank (countOf s) (f .stands))
+      first-answer (checksOf s ero session pst) (acceptanceOf s ero) (rank (countOf s) (f .stands))
       (record {
         within = omega (arith, checks-length s ero session pst, rank-within (countOf s) (f .stands) (f .among));
         here = ap (λ (c : Check). c .broken) q ∙ f .broken;

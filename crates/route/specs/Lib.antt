@@ -1,3 +1,4 @@
 pub mod Order
 pub mod Parts
 pub mod Routes
+pub mod Asked

@@ -4,16 +4,18 @@ use mathlib.Core.List.{List}
 use mathlib.Core.Bool.{Bool, cond}
 use lib.Dec.{eqb}
 use Rattle.answers.specs.declared.verdict.Verdict.{Verdict}
-use Rattle.answers.specs.Verdicts.{acceptedWith}
 use Rattle.session.specs.declared.Limit.{Limit}
 use Rattle.frame.specs.Checks.{firstBroken}
 use Rattle.frame.specs.Frames.{placesOf}
+use Rattle.subobject.specs.Segments.{noSegment}
+use Rattle.subobject.specs.Strays.{noStrays}
+use Rattle.route.specs.declared.picking.Picked.{Picked}
 use Rattle.route.specs.Routes.{lastChecks}
 
--- 12's part.
-unfoldable pub limitedOf : List ℕ → Bool → Limit → ℕ → Verdict
-limitedOf s ero limit count = firstBroken (lastChecks (placesOf s) ero limit count) (acceptedWith count)
+-- 12's part: of an acceptance of more segments than the limit.
+unfoldable pub limitedOf : List ℕ → Bool → Limit → Verdict → Verdict
+limitedOf s ero limit w = cond (eqb (w .number) 0) (firstBroken (lastChecks (placesOf s) ero limit (w .count)) w) w
 
--- Of two answers the first, unless it is an acceptance.
-abbrev pub refusalOr : Verdict → Verdict → Verdict
-refusalOr v w = cond (eqb (v .number) 0) w v
+-- What comes with a refusal.
+abbrev pub nothingWith : Verdict → Picked
+nothingWith v = record { verdict = v; segment = noSegment; strays = noStrays }

@@ -7,7 +7,7 @@ use lib.ListN.{length, getD}
 use lib.Dec.{eqb, ltb}
 use Rattle.answers.specs.declared.verdict.Verdict.{Verdict}
 use Rattle.answers.specs.Numbers.{tooManySegments, notAgreed, noSuchSegment}
-use Rattle.answers.specs.Verdicts.{acceptedWith}
+use Rattle.answers.specs.Verdicts.{carryingBoth}
 use Rattle.objects.specs.Objects.{srv6Setup}
 use Rattle.session.specs.declared.Limit.{Limit}
 use Rattle.session.specs.declared.Limit.the-variants.{Free, Most}
@@ -15,6 +15,7 @@ use Rattle.session.specs.declared.Session.{Session}
 use Rattle.subobject.specs.declared.segment.Segment.{Segment}
 use Rattle.subobject.specs.Layout.{srv6Kind}
 use Rattle.subobject.specs.Segments.{segmentAt, noSegment}
+use Rattle.subobject.specs.Strays.{straysAt, noStrays, strayIn}
 use Rattle.frame.specs.Checks.{Check, check, firstBroken}
 use Rattle.frame.specs.Frames.{placesOf, frameChecks}
 use Rattle.route_walk.specs.Walk.{subobjectChecks}
@@ -60,9 +61,16 @@ checksOf s ero session pst =
 abbrev pub countOf : List ℕ → ℕ
 countOf s = length (placesOf s)
 
--- The first broken rule with its place, or the number of segments.
+-- "An accepted route carries the number of segments with anything of the kind": of those that are stray (document 02, C-18).
+abbrev pub strayCount : List ℕ → Bool → ℕ
+strayCount s ero = strayIn s ero (placesOf s)
+
+abbrev pub acceptanceOf : List ℕ → Bool → Verdict
+acceptanceOf s ero = carryingBoth (countOf s) (strayCount s ero)
+
+-- The first broken rule with its place, or the number of segments and of the stray ones.
 unfoldable pub judgeOf : List ℕ → Bool → Session → ℕ → Verdict
-judgeOf s ero session pst = firstBroken (checksOf s ero session pst) (acceptedWith (countOf s))
+judgeOf s ero session pst = firstBroken (checksOf s ero session pst) (acceptanceOf s ero)
 
 -- 15: "no such segment".
 unfoldable pub rule15 : ℕ → ℕ → Bool
@@ -71,12 +79,13 @@ rule15 i count = not (ltb i count)
 -- "The same checks, then 15."
 unfoldable pub pickOf : List ℕ → Bool → Session → ℕ → ℕ → Verdict
 pickOf s ero session pst i =
-    firstBroken (checksOf s ero session pst ++ check noSuchSegment 0 (rule15 i (countOf s)) ∷ []) (acceptedWith (countOf s))
+    firstBroken (checksOf s ero session pst ++ check noSuchSegment 0 (rule15 i (countOf s)) ∷ []) (acceptanceOf s ero)
 
--- Segment i: the verdict, with what the octets of subobject i say. "Every refusal returns its number and place and no other content."
+-- Segment i: the verdict, with what the octets of subobject i say, and what is set in them that ought to be 0. "Every refusal returns its number and place and no other content."
 unfoldable pub segmentOf : List ℕ → Bool → Session → ℕ → ℕ → Picked
 segmentOf s ero session pst i =
     record {
       verdict = pickOf s ero session pst i;
       segment = cond (eqb (pickOf s ero session pst i .number) 0) (segmentAt s ero (getD (placesOf s) i 0)) noSegment;
+      strays = cond (eqb (pickOf s ero session pst i .number) 0) (straysAt s ero (getD (placesOf s) i 0)) noStrays;
     }

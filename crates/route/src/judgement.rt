@@ -6,7 +6,7 @@ ghost use lib.Dec.{ltb};
 ghost use lib.ListN.{length};
 ghost use Rattle.frame.specs.Frames.{apartOf};
 ghost use Rattle.objects.specs.Objects.{header};
-ghost use Rattle.route.specs.Parts.{refusalOr, limitedOf};
+ghost use Rattle.route.specs.Parts.{limitedOf};
 ghost use Rattle.route.specs.Routes.{judgeOf, rule13};
 use answers::Verdict;
 use session::Limit;
@@ -26,27 +26,23 @@ fn past(ero: bool, most: usize, count: usize) -> bool
     octets::both(ero, most < count)
 }
 
-// 12: more segments than the limit.
-fn limited(s: &[u8], ero: bool, limit: Limit, count: usize) -> Verdict
+// Last 12: of an acceptance of more segments than the limit.
+fn limited(s: &[u8], ero: bool, limit: Limit, w: Verdict) -> Verdict
     requires { ⌜ (header ≤ length (now s)) × (length (now s) < 65536) × (apartOf (now s) .whole ≡ true) ⌝ }
-    ensures limited { λ r. ⌜ r ≡ limitedOf (now (s .entry)) ero limit count ⌝ }
+    ensures limited { λ r. ⌜ r ≡ limitedOf (now (s .entry)) ero limit w ⌝ }
 {
+    if w.number != 0 {
+        return w;
+    }
     match limit {
-        Limit::Free => answers::accepted(count),
+        Limit::Free => w,
         Limit::Most(most) => {
-            if past(ero, most, count) {
+            if past(ero, most, w.count) {
                 return answers::refused(answers::TOO_MANY_SEGMENTS, frame::nth(s, most));
             }
-            answers::accepted(count)
+            w
         }
     }
-}
-
-// Of two answers the first, unless it is an acceptance.
-fn first(a: Verdict, b: Verdict) -> Verdict
-    ensures first { λ r. ⌜ r ≡ refusalOr a b ⌝ }
-{
-    if a.number != 0 { a } else { b }
 }
 
 // The verdict on a route under a session and a setup type.
@@ -62,6 +58,5 @@ pub fn judge(s: &[u8], ero: bool, session: Session, pst: u64) -> Verdict
     }
     let w = route_walk::walk(s, ero, session.n, f.count);
     let limit = session.limit;
-    let l = limited(s, ero, limit, f.count);
-    first(w, l)
+    limited(s, ero, limit, w)
 }

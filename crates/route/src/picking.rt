@@ -1,15 +1,30 @@
 // A segment of an accepted route.
 ghost use mathlib.Core.Path.{_≡_};
+ghost use Rattle.route.specs.Parts.{nothingWith};
 ghost use Rattle.route.specs.Routes.{segmentOf};
 use super::judgement::judge;
 use answers::Verdict;
 use session::Session;
 use subobject::Segment;
+use subobject::Strays;
+use subobject_read::Reading;
 
-// The verdict, with the segment if it is an acceptance, else with the segment of zeros.
+// The verdict, with the segment and its strays if it is an acceptance, else with the segment of zeros and no strays.
 pub struct Picked {
     pub verdict: Verdict,
     pub segment: Segment,
+    pub strays: Strays,
+}
+
+// What comes with a refusal.
+fn nothing(v: Verdict) -> Picked
+    ensures nothing { λ r. ⌜ r ≡ nothingWith v ⌝ }
+{
+    Picked {
+        verdict: v,
+        segment: subobject_read::no_segment(),
+        strays: subobject::no_strays(),
+    }
 }
 
 // Segment i, from 0, of a route under a session and a setup type.
@@ -18,20 +33,18 @@ pub fn segment(s: &[u8], ero: bool, session: Session, pst: u64, i: u64) -> Picke
 {
     let v = judge(s, ero, session, pst);
     if v.number != 0 {
-        return Picked {
-            verdict: v,
-            segment: subobject_read::no_segment(),
-        };
+        return nothing(v);
     }
     if i >= v.count as u64 {
-        return Picked {
-            verdict: answers::refused(answers::NO_SUCH_SEGMENT, 0),
-            segment: subobject_read::no_segment(),
-        };
+        return nothing(answers::refused(answers::NO_SUCH_SEGMENT, 0));
     }
     let at = frame::nth(s, i as usize);
-    Picked {
-        verdict: v,
-        segment: subobject_read::segment_at(s, at, ero),
+    match subobject_read::read_at(s, at, ero) {
+        Reading::Refused(number, place) => nothing(answers::refused(number, place)),
+        Reading::Whole(x) => Picked {
+            verdict: v,
+            segment: subobject_read::segment_at(s, at, ero),
+            strays: x,
+        },
     }
 }

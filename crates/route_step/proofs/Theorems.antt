@@ -148,7 +148,7 @@ module _ (s : List ℕ) (ero : Bool) where
     step-is-segment i h =
         let l : i < judgeOf s ero session pst .count = rw (accepted-count s ero session pst z) h in
         ap (λ (x : Stepped). x .segment) (along header (placesOf s) chain (omega arith) refl unbroken-at i h)
-        ∙ ap (λ (x : Picked). x .segment) (pick-there s ero session pst i (judgeOf s ero session pst) refl z l refl refl)
+        ∙ ap (λ (x : Picked). x .segment) (pick-there s ero session pst i (judgeOf s ero session pst) refl z l refl refl refl)
 
     -- and behind the last there is none.
     pub step-behind-the-last : stepOf s ero (stepsFrom s ero header (countOf s)) .verdict ≡ refusedBy noSuchSegment 0

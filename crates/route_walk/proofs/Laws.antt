@@ -7,15 +7,22 @@ use mathlib.Core.List.{List, [], _∷_, _++_}
 use mathlib.Core.Bool.{Bool, true, false, cond}
 use lib.ListN.{length, getD, drop}
 use lib.Seq.{drop-cons}
+use lib.Dec.{eqb}
 use native.Mathlib.Omega.{arith}
+use borrow.Author.Tests.{eqb-true, eqb-false}
+use native.Mathlib.Nat.{zero-add}
 use native.Mathlib.Numerals.{add-one}
 use Rattle.answers.specs.declared.verdict.Verdict.{Verdict}
-use Rattle.answers.specs.Verdicts.{refusedBy, acceptedWith}
+use Rattle.answers.specs.Verdicts.{refusedBy, carryingBoth}
 use Rattle.octets.specs.Octets.{octetOf}
 use Rattle.objects.specs.Objects.{header}
 use Rattle.subobject.specs.declared.head.Head.{Head}
-use Rattle.subobject.specs.Layout.{headOf, headAt}
+use Rattle.subobject.specs.Layout.{headOf, headAt, expectedLength}
 use Rattle.subobject.specs.Rules.{bitsAt, subjectAt, Row, rules, ruleCount, brokenBy}
+use Rattle.subobject.specs.Strays.{straysBy, straysAt, strayOne, strayIn}
+use Rattle.subobject.specs.Four.{markedAt, endingMarked}
+use Rattle.subobject.proofs.Laws.{sound-length}
+use Rattle.subobject.proofs.StrayLaws.{unmarked-none}
 use Rattle.frame.specs.Checks.{Check, check, firstBroken}
 use Rattle.frame.specs.Frames.{Apart, apartOf, placesOf}
 use Rattle.frame.proofs.Laws.{Over, over-starts, over-ends, over-as, sound-starts, sound-room, sound-next, next-by}
@@ -54,50 +61,96 @@ in-order = refl
 pub row-count : length rules ≡ ruleCount
 row-count = refl
 
--- The subobjects from `at` on, and then `after`, answer `whole`.
-pub record Left (broken : ℕ → ℕ → Bool) (s : List ℕ) (at : ℕ) (after whole : Verdict) : Type 0 where
+-- The subobjects from `at` on, and then what `after` makes of their places, answer `whole`.
+pub record Left (broken : ℕ → ℕ → Bool) (s : List ℕ) (at : ℕ) (after : List ℕ → Verdict) (whole : Verdict) : Type 0 where
   pub good : Over (λ a. a .whole) s at true
-  pub rest : Over (λ a. firstBroken (askedAll broken (a .places)) after) s at whole
+  pub rest : Over (λ a. firstBroken (askedAll broken (a .places)) (after (a .places))) s at whole
 
--- The checks of the subobject at `at` from the k-th on, then the subobjects from `next` on, and then `after`, answer `whole`.
-pub record Checking (broken : ℕ → ℕ → Bool) (s : List ℕ) (at next : ℕ) (after whole : Verdict) (k : ℕ) : Type 0 where
+-- The checks of the subobject at `at` before the k-th are not broken; those from it on, then the subobjects from `next` on, and then `after`,
+-- answer `whole`.
+pub record Checking (broken : ℕ → ℕ → Bool) (s : List ℕ) (at next : ℕ) (after : List ℕ → Verdict) (whole : Verdict) (k : ℕ) : Type 0 where
   pub good : Over (λ a. a .whole) s next true
-  pub rest : Over (λ a. firstBroken (askedAt (broken at) at (drop k order) ++ askedAll broken (a .places)) after) s next whole
+  pub past : (j : ℕ) → j < k → broken at (getD order j 0) ≡ false
+  pub rest : Over (λ a. firstBroken (askedAt (broken at) at (drop k order) ++ askedAll broken (a .places)) (after (at ∷ a .places))) s next whole
 
-pub left-starts : (broken : ℕ → ℕ → Bool) (s : List ℕ) (after : Verdict) → apartOf s .whole ≡ true
-    → Left broken s header after (firstBroken (askedAll broken (placesOf s)) after)
-left-starts broken s after e =
-    record { good = sound-starts s e; rest = over-starts (λ a. firstBroken (askedAll broken (a .places)) after) s }
+-- What the walk answers in the end, with `stray` counted: of the places that are left the stray ones too.
+abbrev pub ending : List ℕ → Bool → ℕ → ℕ → List ℕ → Verdict
+ending s ero count stray ps = carryingBoth count (stray + strayIn s ero ps)
+
+pub left-as : {broken : ℕ → ℕ → Bool} {s : List ℕ} {at : ℕ} {after : List ℕ → Verdict} {whole : Verdict} → Left broken s at after whole
+    → (then : List ℕ → Verdict) → ((ps : List ℕ) → after ps ≡ then ps) → Left broken s at then whole
+left-as {broken} l then e = record {
+  good = l .good;
+  rest =
+      over-as (l .rest) (λ a. firstBroken (askedAll broken (a .places)) (then (a .places)))
+      (λ a. ap (λ (v : Verdict). firstBroken (askedAll broken (a .places)) v) (e (a .places)));
+}
 
 pub walk-starts : (s : List ℕ) (ero n : Bool) (count : ℕ) → apartOf s .whole ≡ true
-    → Left (λ p. brokenBy (subjectAt s ero n p)) s header (acceptedWith count) (walkOf s ero n count)
+    → Left (λ p. brokenBy (subjectAt s ero n p)) s header (ending s ero count 0) (walkOf s ero n count)
 unfolding walkOf
-walk-starts s ero n count e = rw (← all-asked s ero n (placesOf s)) (left-starts (λ p. brokenBy (subjectAt s ero n p)) s (acceptedWith count) e)
+walk-starts s ero n count e =
+    let broken : ℕ → ℕ → Bool = λ p. brokenBy (subjectAt s ero n p) in
+    let after : List ℕ → Verdict = λ ps. carryingBoth count (strayIn s ero ps) in
+    rw (← all-asked s ero n (placesOf s))
+    (left-as {after = after} (record { good = sound-starts s e; rest = over-starts (λ a. firstBroken (askedAll broken (a .places)) (after (a .places))) s })
+    (ending s ero count 0) (λ ps. ap (λ (x : ℕ). carryingBoth count x) (sym (zero-add (strayIn s ero ps)))))
 
-module _ {broken : ℕ → ℕ → Bool} {s : List ℕ} {at : ℕ} {after whole : Verdict} (l : Left broken s at after whole) where
-  pub left-ends : at ≡ length s → after ≡ whole
+pub stray-ends : {count stray : ℕ} {whole : Verdict} → carryingBoth count (stray + 0) ≡ whole → carryingBoth count stray ≡ whole
+stray-ends {count} {stray} e = ap (λ (x : ℕ). carryingBoth count x) (omega arith) ∙ e
+
+module _ {broken : ℕ → ℕ → Bool} {s : List ℕ} {at : ℕ} {after : List ℕ → Verdict} {whole : Verdict} (l : Left broken s at after whole) where
+  pub left-ends : at ≡ length s → after [] ≡ whole
   left-ends e = over-ends (l .rest) e
 
   pub left-room : (at ≡ length s → ⊥) → (4 ≤ getD s (at + 1) 0) × (getD s (at + 1) 0 % 4 ≡ 0) × (getD s (at + 1) 0 ≤ length s - at)
   left-room n = sound-room (l .good) n
 
   pub begin : {len : ℕ} → at < length s → len ≡ getD s (at + 1) 0 → Checking broken s at (at + len) after whole 0
-  begin n e = record { good = sound-next (l .good) n e; rest = next-by (l .good) (l .rest) n e }
+  begin n e = record { good = sound-next (l .good) n e; past = λ j h. absurd (omega arith); rest = next-by (l .good) (l .rest) n e }
 
-module _ {broken : ℕ → ℕ → Bool} {s : List ℕ} {at next : ℕ} {after whole : Verdict} {k : ℕ} (l : Checking broken s at next after whole k) where
+module _ {broken : ℕ → ℕ → Bool} {s : List ℕ} {at next : ℕ} {after : List ℕ → Verdict} {whole : Verdict} {k : ℕ} (l : Checking broken s at next after whole k) where
   pub stops : k < ruleCount → broken at (getD order k 0) ≡ true → refusedBy (getD order k 0) at ≡ whole
   stops h e = over-as (l .rest) (λ a. refusedBy (getD order k 0) at) (λ a. rw (drop-cons order k (0) h, e)) .same
 
   pub passes : k < ruleCount → broken at (getD order k 0) ≡ false → Checking broken s at next after whole (k + 1)
   passes h e = record {
     good = l .good;
+    past = λ j q. go j q (eqb j k) refl;
     rest =
-        over-as (l .rest) (λ a. firstBroken (askedAt (broken at) at (drop (k + 1) order) ++ askedAll broken (a .places)) after)
+        over-as (l .rest) (λ a. firstBroken (askedAt (broken at) at (drop (k + 1) order) ++ askedAll broken (a .places)) (after (at ∷ a .places)))
         (λ a. rw (add-one k, drop-cons order k 0 h, e));
   }
+    where
+      go : (j : ℕ) → j < k + 1 → (b : Bool) → eqb j k ≡ b → broken at (getD order j 0) ≡ false
+      go j q true z = rw (eqb-true j k z) e
+      go j q false z = let d = eqb-false j k z in l .past j (omega arith)
 
-  pub done : k ≡ ruleCount → Left broken s next after whole
-  done e = record { good = l .good; rest = over-as (l .rest) (λ a. firstBroken (askedAll broken (a .places)) after) (λ a. rw e) }
+  pub done : k ≡ ruleCount → Left broken s next (λ ps. after (at ∷ ps)) whole
+  done e = record { good = l .good; rest = over-as (l .rest) (λ a. firstBroken (askedAll broken (a .places)) (after (at ∷ a .places))) (λ a. rw e) }
+
+module _ (ero n : Bool) (count stray : ℕ) {s : List ℕ} {at next : ℕ} {whole : Verdict} {k : ℕ}
+    (l : Checking (λ p. brokenBy (subjectAt s ero n p)) s at next (ending s ero count stray) whole k) where
+  -- A subobject that breaks no rule is of the expected length,
+  pub checked-length : (h : Head) → h ≡ headAt s ero at → k ≡ ruleCount → h .size ≡ expectedLength (h .nt) (h .s) (h .t)
+  unfolding brokenBy
+  checked-length h e z = rw e (sound-length (headAt s ero at) (l .past 2 (omega arith)))
+
+  -- and is counted if it is stray.
+  pub counted : (h : Head) (one : ℕ) → h ≡ headAt s ero at → one ≡ strayOne (straysBy h s at) → k ≡ ruleCount
+      → Left (λ p. brokenBy (subjectAt s ero n p)) s next (ending s ero count (stray + one)) whole
+  unfolding straysAt
+  counted h one e eo z =
+      let q : one ≡ strayOne (straysAt s ero at) = rw e at eo in
+      left-as (done l z) (ending s ero count (stray + one)) (λ ps. ap (λ (y : ℕ). carryingBoth count y) (omega (arith, q)))
+
+-- One in which nothing is marked is not.
+pub uncounted : (ero n : Bool) (count : ℕ) {s : List ℕ} {at next : ℕ} {whole : Verdict} {k : ℕ}
+    → Checking (λ p. brokenBy (subjectAt s ero n p)) s at next (ending s ero count 0) whole k → ((i : ℕ) → getD s i 0 < 256) → (h : Head) {m e : Bool}
+    → h ≡ headAt s ero at → m ≡ markedAt s at → m ≡ false → e ≡ endingMarked h s at → e ≡ false → k ≡ ruleCount
+    → Left (λ p. brokenBy (subjectAt s ero n p)) s next (ending s ero count 0) whole
+uncounted ero n count {s} {at} l small h eh em m ee e z =
+    counted ero n count 0 l h 0 eh (unmarked-none h s at small (checked-length ero n count 0 l h eh z) (sym em ∙ m) (sym ee ∙ e)) z
 
 -- The head that was read, and what is asked of it.
 pub head-size : (ero : Bool) (s : List ℕ) (at : ℕ) (h : Head) → h ≡ headAt s ero at → h .size ≡ getD s (at + 1) 0

@@ -4,8 +4,9 @@ use Prim.Native.Nat.{ℕ}
 use mathlib.Core.List.{List, [], _∷_, _++_}
 use mathlib.Core.Bool.{Bool}
 use Rattle.answers.specs.declared.verdict.Verdict.{Verdict}
-use Rattle.answers.specs.Verdicts.{acceptedWith}
+use Rattle.answers.specs.Verdicts.{carryingBoth}
 use Rattle.subobject.specs.Rules.{Subject, subjectAt, Row, rules}
+use Rattle.subobject.specs.Strays.{strayIn}
 use Rattle.frame.specs.Checks.{Check, check, firstBroken}
 use Rattle.frame.specs.Frames.{placesOf}
 
@@ -23,6 +24,6 @@ abbrev pub subobjectChecks : List ℕ → Bool → Bool → List ℕ → List Ch
 subobjectChecks s ero n [] = []
 subobjectChecks s ero n (p ∷ ps) = checksAt s ero n p ++ subobjectChecks s ero n ps
 
--- The first broken one, or `count` segments. "The walk stops at the first broken rule, even inside a subobject."
+-- The first broken one, or `count` segments and how many of them are stray. "The walk stops at the first broken rule, even inside a subobject."
 unfoldable pub walkOf : List ℕ → Bool → Bool → ℕ → Verdict
-walkOf s ero n count = firstBroken (subobjectChecks s ero n (placesOf s)) (acceptedWith count)
+walkOf s ero n count = firstBroken (subobjectChecks s ero n (placesOf s)) (carryingBoth count (strayIn s ero (placesOf s)))

@@ -9,6 +9,9 @@ use Rattle.subobject.specs.declared.segment.Segment.{Segment}
 use Rattle.subobject.specs.Layout.{kindOf, headAt, naiLength, expectedLength}
 use Rattle.subobject.specs.Rules.{hasStructure}
 use Rattle.subobject.specs.Segments.{headOfOutline, outlineOf}
+use Rattle.subobject.specs.declared.strays.Strays.{Strays}
+use Rattle.subobject.specs.Strays.{straysBy, noStrays, strayOne}
+use Rattle.subobject.specs.Four.{markedAt, endingMarked}
 
 pub kind-determined : (x : ℕ) (ero : Bool) (a b : ℕ) → a ≡ kindOf x ero → b ≡ kindOf x ero → a ≡ b
 kind-determined x ero a b e f = e ∙ sym f
@@ -30,3 +33,18 @@ expected-determined nt s t a b e f = e ∙ sym f
 
 pub outline-of-determined : (g : Segment) (a b : Outline) → a ≡ outlineOf g → b ≡ outlineOf g → a ≡ b
 outline-of-determined g a b e f = e ∙ sym f
+
+pub strays-at-determined : (h : Head) (s : List ℕ) (at : ℕ) (a b : Strays) → a ≡ straysBy h s at → b ≡ straysBy h s at → a ≡ b
+strays-at-determined h s at a b e f = e ∙ sym f
+
+pub no-strays-determined : (a b : Strays) → a ≡ noStrays → b ≡ noStrays → a ≡ b
+no-strays-determined a b e f = e ∙ sym f
+
+pub marked-determined : (s : List ℕ) (at : ℕ) (a b : Bool) → a ≡ markedAt s at → b ≡ markedAt s at → a ≡ b
+marked-determined s at a b e f = e ∙ sym f
+
+pub ending-marked-determined : (h : Head) (s : List ℕ) (at : ℕ) (a b : Bool) → a ≡ endingMarked h s at → b ≡ endingMarked h s at → a ≡ b
+ending-marked-determined h s at a b e f = e ∙ sym f
+
+pub stray-one-determined : (x : Strays) (a b : ℕ) → a ≡ strayOne x → b ≡ strayOne x → a ≡ b
+stray-one-determined x a b e f = e ∙ sym f

@@ -1,3 +1,5 @@
 pub mod Layout
 pub mod Rules
 pub mod Segments
+pub mod Strays
+pub mod Four

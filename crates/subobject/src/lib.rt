@@ -10,6 +10,7 @@
 mod head;
 mod parts;
 mod segment;
+mod strays;
 
 pub use head::Head;
 pub use head::head_at;
@@ -40,3 +41,9 @@ pub use parts::nai_length;
 pub use segment::Outline;
 pub use segment::Segment;
 pub use segment::outline_of;
+pub use strays::Strays;
+pub use strays::ending_marked;
+pub use strays::marked;
+pub use strays::no_strays;
+pub use strays::stray_one;
+pub use strays::strays_at;

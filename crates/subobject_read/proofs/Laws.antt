@@ -1,11 +1,13 @@
 -- Reading a segment part by part. Assumes nothing.
-use Prim.Native.Nat.{ℕ, _+_, _≤_}
-use mathlib.Core.Path.{_≡_, refl, _∙_}
+use Prim.Native.Nat.{ℕ, _+_, _-_, _≤_, _<_}
+use mathlib.Core.Path.{_≡_, refl, _∙_, ap}
 use mathlib.Core.List.{List}
 use mathlib.Core.Bool.{Bool, true, false, cond}
 use lib.Dec.{eqb}
 use lib.ListN.{length}
 use native.Mathlib.Omega.{arith}
+use borrow.Author.Tests.{lt-ltb, le-ltb}
+use Rattle.answers.specs.Numbers.{lengthWrong}
 use Rattle.octets.specs.Octets.{be16, part, partOf}
 use Rattle.subobject.specs.declared.head.Head.{Head}
 use Rattle.subobject.specs.declared.segment.Segment.{Segment}
@@ -13,7 +15,12 @@ use Rattle.subobject.specs.Layout.{fixedLength, behaviourPlace, sidSize, sidLen
 use Rattle.subobject.specs.Layout.{expectedLength, headAt, expectedAt}
 use Rattle.subobject.specs.Rules.{hasStructure}
 use Rattle.subobject.specs.Segments.{segmentAt}
+use Rattle.subobject.specs.declared.strays.Strays.{Strays}
+use Rattle.subobject.specs.Strays.{straysBy, straysAt}
 use Rattle.subobject.proofs.Laws.{there-sid}
+use Rattle.subobject_read.specs.declared.answer.Reading.{Reading}
+use Rattle.subobject_read.specs.declared.answer.Reading.the-variants.{Whole, Refused}
+use Rattle.subobject_read.specs.Reader.{readOf}
 
 -- A structure stands only behind a SID.
 sid-there : (h : Head) → hasStructure h ≡ true → eqb (h .s) 0 ≡ true
@@ -76,3 +83,25 @@ segment-made ero s at h there k n m b sid nai bits eh et ek en em eb es ei eq =
       structured = et i;
       structure = q i;
     })
+
+-- the reader's answer ------------------------------------------------------------------------------------------
+
+-- The octets end before the fixed part does,
+pub read-short : (s : List ℕ) (ero : Bool) (at : ℕ) → length s - at < fixedLength → Refused lengthWrong at ≡ readOf s ero at
+unfolding readOf expectedAt expectedLength
+read-short s ero at l = rw (lt-ltb (length s - at) (expectedAt s ero at) (omega arith))
+
+module _ (s : List ℕ) (ero : Bool) (at : ℕ) (h : Head) (n : ℕ) (eh : h ≡ headAt s ero at) (en : n ≡ expectedLength (h .nt) (h .s) (h .t)) where
+  expected-here : n ≡ expectedAt s ero at
+  unfolding expectedAt
+  expected-here = rw eh at en
+
+  -- or before the subobject does,
+  pub read-cut : length s - at < n → Refused lengthWrong at ≡ readOf s ero at
+  unfolding readOf
+  read-cut l = rw (lt-ltb (length s - at) (expectedAt s ero at) (omega (arith, expected-here)))
+
+  -- or it is there whole.
+  pub read-whole : (x : Strays) → n ≤ length s - at → x ≡ straysBy h s at → Whole x ≡ readOf s ero at
+  unfolding readOf straysAt
+  read-whole x l e = rw (le-ltb (length s - at) (expectedAt s ero at) (omega (arith, expected-here)), ← eh) (ap (λ (y : Strays). Whole y) e)

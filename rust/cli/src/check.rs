@@ -1,7 +1,7 @@
 //! A PCC OPEN, a PCE OPEN and an ERO, one behind the other, judged by the proved library as the checking program does: each cut by its own length
 //! field (too little left, or a length under 4: all the rest), setup type 3, octets behind the ERO ignored.
 
-use strundevi::{judge, read_open, segment, Kind, Refusal, Segment, Session};
+use strundevi::{judge, read_open, segment, Kind, Refusal, Segment, Session, Strays};
 
 const PST_SRV6: u64 = 3;
 
@@ -20,12 +20,13 @@ pub enum Checked<'a> {
 /// An accepted route.
 pub struct Route<'a> {
     pub count: usize,
+    pub stray: usize,
     ero: &'a [u8],
     session: Session,
 }
 
 impl Route<'_> {
-    pub fn segments(&self) -> impl Iterator<Item = Segment> + '_ {
+    pub fn segments(&self) -> impl Iterator<Item = (Segment, Strays)> + '_ {
         (0..self.count as u64).map_while(|i| segment(self.ero, Kind::Ero, &self.session, PST_SRV6, i).ok())
     }
 }
@@ -57,6 +58,6 @@ pub fn check(octets: &[u8]) -> Checked<'_> {
     let session = Session::agree(&pcc, &pce);
     match judge(ero, Kind::Ero, &session, PST_SRV6) {
         Err(refusal) => Checked::Refused(Object { name: "ERO", start: pce_start + pce_octets.len() }, refusal),
-        Ok(count) => Checked::Accepted(Route { count, ero, session }),
+        Ok(counts) => Checked::Accepted(Route { count: counts.segments, stray: counts.stray, ero, session }),
     }
 }

@@ -21,7 +21,7 @@ strundevi --help                     this text
 
 FILE     octets as they are, or text of hexadecimal digits with spaces and line ends; - is standard input. The first 65,536
          octets count, and what stands behind the ERO does not.
---plain  prints the line of the checking program: number, place, count
+--plain  prints the line of the checking program: number, place, count, stray segments
 --       what follows is a FILE or a NUMBER, whatever it begins with
 
 One line is written for each file, with its name; with --plain the line alone. Faults of the command and files that cannot be
@@ -125,8 +125,8 @@ fn answer(name: &str, checked: &Checked, form: Form, out: &mut impl Write) -> io
         Checked::Refused(..) => Ok(REFUSED),
         Checked::Accepted(route) => {
             if form == Form::Segments {
-                for (i, segment) in route.segments().enumerate() {
-                    writeln!(out, "  {i}: {}", text::segment(&segment))?;
+                for (i, (segment, strays)) in route.segments().enumerate() {
+                    writeln!(out, "  {i}: {}", text::segment(&segment, &strays))?;
                 }
             }
             Ok(ACCEPTED)

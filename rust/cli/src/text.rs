@@ -4,12 +4,12 @@ use crate::behaviour;
 use crate::check::{Checked, Object};
 use crate::numbers::{self, Pcerr, Row};
 use std::net::Ipv6Addr;
-use strundevi::{Nai, Refusal, Segment};
+use strundevi::{Nai, Refusal, Segment, Strays};
 
 /// One line: accepted with so many segments, or the rule, the place and the PCErr.
 pub fn verdict(checked: &Checked) -> String {
     match checked {
-        Checked::Accepted(route) => format!("accepted, {}", counted(route.count)),
+        Checked::Accepted(route) => format!("accepted, {}{}", counted(route.count), strayed(route.stray)),
         Checked::Refused(object, refusal) => refused(object, refusal),
     }
 }
@@ -17,8 +17,8 @@ pub fn verdict(checked: &Checked) -> String {
 /// The checking program's line.
 pub fn plain(checked: &Checked) -> String {
     match checked {
-        Checked::Accepted(route) => format!("0 0 {}", route.count),
-        Checked::Refused(_, refusal) => format!("{} {} 0", refusal.number as u64, refusal.place),
+        Checked::Accepted(route) => format!("0 0 {} {}", route.count, route.stray),
+        Checked::Refused(_, refusal) => format!("{} {} 0 0", refusal.number as u64, refusal.place),
     }
 }
 
@@ -26,6 +26,15 @@ fn counted(count: usize) -> String {
     match count {
         1 => "1 segment".to_string(),
         _ => format!("{count} segments"),
+    }
+}
+
+/// The segments with something set that ought to be 0, if there are any.
+fn strayed(stray: usize) -> String {
+    match stray {
+        0 => String::new(),
+        1 => ", 1 of them stray".to_string(),
+        _ => format!(", {stray} of them stray"),
     }
 }
 
@@ -45,7 +54,7 @@ fn refused(object: &Object, refusal: &Refusal) -> String {
 }
 
 /// A segment: what it has, and nothing of what it has not.
-pub fn segment(segment: &Segment) -> String {
+pub fn segment(segment: &Segment, strays: &Strays) -> String {
     let mut parts = Vec::new();
     match segment.sid() {
         Some(sid) => parts.push(format!("SID {}", Ipv6Addr::from(*sid))),
@@ -63,6 +72,15 @@ pub fn segment(segment: &Segment) -> String {
     }
     if segment.verify() {
         parts.push("to be verified (V)".to_string());
+    }
+    if strays.flags != 0 {
+        parts.push(format!("stray flags {:03X}", strays.flags));
+    }
+    if strays.structure != 0 {
+        parts.push(format!("stray flags {:02X} in the structure", strays.structure));
+    }
+    if strays.reserved {
+        parts.push("reserved octets set".to_string());
     }
     parts.join("; ")
 }

@@ -79,7 +79,7 @@ impl Pair {
             Step::Report { key, ero, session, pst } => {
                 let answer = self.theirs.report(&mut self.their_store[..n], *key, ero, session, *pst);
                 let ours = doors::report(door, &mut self.ours, &mut self.our_store[..n], *key, ero, session, *pst);
-                (Call::Report, plain::ours(ours), plain::theirs(&answer, |&count| count))
+                (Call::Report, plain::ours(ours), plain::their_counts(&answer))
             }
             Step::Remove { key } => {
                 let answer = self.theirs.remove(&self.their_store[..n], *key);
@@ -92,9 +92,9 @@ impl Pair {
             Step::Body { key } => {
                 let answer = self.theirs.body(&self.their_store[..n], *key);
                 let start = |body: &[u8]| body.as_ptr() as usize - self.their_store.as_ptr() as usize;
-                let theirs = answer.map_or_else(|e| (e.number as usize, 0, 0), |body| (0, start(body), body.len()));
+                let theirs = answer.map_or_else(|e| (e.number as usize, 0, 0, 0), |body| (0, start(body), body.len(), 0));
                 let part = doors::body(door, &mut self.ours, &mut self.our_store[..n], *key);
-                (Call::Body, (part.number, part.start, part.length), theirs)
+                (Call::Body, (part.number, part.start, part.length, 0), theirs)
             }
             Step::Next { s, w } => {
                 let theirs = handed(&self.theirs.next(&self.their_store[..n], *s, *w));
@@ -111,16 +111,16 @@ impl Pair {
                 if ours != theirs {
                     return Err(format!("library   {ours:?}\nreference {theirs:?} (number, kind, key, version, place, length)"));
                 }
-                (Call::Next, (ours.0, 0, 0), (theirs.0, 0, 0))
+                (Call::Next, (ours.0, 0, 0, 0), (theirs.0, 0, 0, 0))
             }
             Step::FreshMark => {
                 let (ours, theirs) = (doors::fresh_mark(door, &mut self.ours, &mut self.our_store[..n]), self.theirs.fresh_mark());
-                (Call::FreshMark, (0, ours.0 as usize, ours.1 as usize), (0, theirs.0 as usize, theirs.1 as usize))
+                (Call::FreshMark, (0, ours.0 as usize, ours.1 as usize, 0), (0, theirs.0 as usize, theirs.1 as usize, 0))
             }
             Step::Empty => {
                 self.theirs = Board::default();
                 doors::empty(door, &mut self.ours, &mut self.our_store[..n]);
-                (Call::Empty, (0, 0, 0), (0, 0, 0))
+                (Call::Empty, (0, 0, 0, 0), (0, 0, 0, 0))
             }
             Step::Set { part, at, value } => {
                 match part {
@@ -144,7 +144,7 @@ impl Pair {
             }
         };
         if ours != theirs {
-            return Err(format!("library   {ours:?}\nreference {theirs:?} (number, place or start, count or length)"));
+            return Err(format!("library   {ours:?}\nreference {theirs:?} (number, place or start, count or length, stray)"));
         }
         if self.ours != record(&self.theirs) {
             let (ours, theirs) = (numbers(&self.ours), numbers(&record(&self.theirs)));

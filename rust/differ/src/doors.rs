@@ -19,11 +19,15 @@ pub const DOORS: [Door; 3] = [Door::Archive, Door::Wrapper, Door::Header];
 const NEVER: usize = usize::MAX;
 
 fn refused(refusal: Refusal) -> raw::Verdict {
-    raw::Verdict { number: refusal.number as usize, place: refusal.place, count: 0 }
+    raw::Verdict { number: refusal.number as usize, place: refusal.place, count: 0, stray: 0 }
 }
 
 fn verdict(answer: strundevi::Result<usize>) -> raw::Verdict {
-    answer.map_or_else(refused, |count| raw::Verdict { number: 0, place: 0, count })
+    answer.map_or_else(refused, |count| raw::Verdict { number: 0, place: 0, count, stray: 0 })
+}
+
+fn counted(answer: strundevi::Result<strundevi::Counts>) -> raw::Verdict {
+    answer.map_or_else(refused, |counts| raw::Verdict { number: 0, place: 0, count: counts.segments, stray: counts.stray })
 }
 
 fn limits(limit: Option<usize>) -> (u8, usize) {
@@ -61,18 +65,24 @@ pub fn judge(door: Door, s: &[u8], ero: bool, session: &theirs::Session, pst: u6
     match door {
         Door::Archive => raw::judge(s, ero as u8, plain::session(session), pst),
         Door::Header => header::judge(s, ero as u8, plain::session(session), pst),
-        Door::Wrapper => verdict(strundevi::judge(s, plain::safe_kind(ero), &plain::safe_session(session), pst)),
+        Door::Wrapper => counted(strundevi::judge(s, plain::safe_kind(ero), &plain::safe_session(session), pst)),
     }
 }
 
-/// The wrapper hands out no count with a segment: it is the judgement's.
+/// The wrapper hands out no counts with a segment: they are the judgement's.
 pub fn segment(door: Door, s: &[u8], ero: bool, session: &theirs::Session, pst: u64, i: u64) -> raw::Picked {
     match door {
         Door::Archive => raw::segment(s, ero as u8, plain::session(session), pst, i),
         Door::Header => header::segment(s, ero as u8, plain::session(session), pst, i),
         Door::Wrapper => match strundevi::segment(s, plain::safe_kind(ero), &plain::safe_session(session), pst, i) {
-            Ok(segment) => raw::Picked { verdict: judge(door, s, ero, session, pst), segment: plain::told(&segment) },
-            Err(refusal) => raw::Picked { verdict: refused(refusal), segment: raw::Segment::ZERO },
+            Ok((segment, x)) => raw::Picked {
+                verdict: judge(door, s, ero, session, pst),
+                segment: plain::told(&segment),
+                flags: x.flags,
+                sflags: x.structure,
+                reserved: x.reserved as u8,
+            },
+            Err(refusal) => raw::Picked { verdict: refused(refusal), segment: raw::Segment::ZERO, flags: 0, sflags: 0, reserved: 0 },
         },
     }
 }
@@ -131,7 +141,7 @@ pub fn finish(door: Door, buffer: &mut [u8], writer: raw::Writer) -> raw::Writte
             let writer = state(&w);
             let verdict = match answer {
                 Ok(object) if object == (start, writer.at) => verdict(Ok(0)),
-                Ok(_) => raw::Verdict { number: NEVER, place: 0, count: 0 },
+                Ok(_) => raw::Verdict { number: NEVER, place: 0, count: 0, stray: 0 },
                 Err(refusal) => refused(refusal),
             };
             raw::Written { verdict, writer }
@@ -167,7 +177,7 @@ pub fn empty(door: Door, record: &mut raw::Record, store: &mut [u8]) {
 pub fn report(door: Door, b: &mut raw::Record, store: &mut [u8], key: u64, ero: &[u8], session: &theirs::Session, pst: u64) -> raw::Verdict {
     match (door, small(key)) {
         (Door::Header, _) => header::report(b, store, key, ero, plain::session(session), pst),
-        (Door::Wrapper, Some(key)) => with(b, store, |board| verdict(board.report(key, ero, &plain::safe_session(session), pst))),
+        (Door::Wrapper, Some(key)) => with(b, store, |board| counted(board.report(key, ero, &plain::safe_session(session), pst))),
         _ => raw::report(b, store, key, ero, plain::session(session), pst),
     }
 }

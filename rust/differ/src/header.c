@@ -82,12 +82,12 @@ strundevi_pcerr header_pcerr(size_t number, uint8_t ero) {
 
 /* Sizes of the records, each with the places of its fields. */
 static const size_t layout[] = {
-    sizeof(strundevi_verdict), AT(verdict, number), AT(verdict, place), AT(verdict, count),
+    sizeof(strundevi_verdict), AT(verdict, number), AT(verdict, place), AT(verdict, count), AT(verdict, stray),
     sizeof(strundevi_opened), AT(opened, number), AT(opened, srv6), AT(opened, n), AT(opened, limited), AT(opened, limit),
     sizeof(strundevi_session), AT(session, agreed), AT(session, n), AT(session, limited), AT(session, limit),
     sizeof(strundevi_segment), AT(segment, loose), AT(segment, verify), AT(segment, nt), AT(segment, behaviour), AT(segment, hassid),
     AT(segment, sid), AT(segment, nai), AT(segment, structured), AT(segment, structure),
-    sizeof(strundevi_picked), AT(picked, verdict), AT(picked, segment),
+    sizeof(strundevi_picked), AT(picked, verdict), AT(picked, segment), AT(picked, flags), AT(picked, sflags), AT(picked, reserved),
     sizeof(strundevi_stepped), AT(stepped, verdict), AT(stepped, segment), AT(stepped, next),
     sizeof(strundevi_writer), AT(writer, ero), AT(writer, at),
     sizeof(strundevi_written), AT(written, verdict), AT(written, writer),

@@ -127,11 +127,11 @@ fn layout() -> Vec<usize> {
         ($($record:ident: $($field:ident)*;)*) => { vec![$(size_of::<$record>(), $(offset_of!($record, $field),)*)*] };
     }
     rows! {
-        Verdict: number place count;
+        Verdict: number place count stray;
         Opened: number srv6 n limited limit;
         Session: agreed n limited limit;
         Segment: loose verify nt behaviour hassid sid nai structured structure;
-        Picked: verdict segment;
+        Picked: verdict segment flags sflags reserved;
         Stepped: verdict segment next;
         Writer: ero at;
         Written: verdict writer;

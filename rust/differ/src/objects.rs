@@ -117,6 +117,15 @@ fn subobject(r: &mut Random, ero: bool, faults: usize) -> Vec<u8> {
         octets.extend_from_slice(&bits);
         octets.extend(r.octets(4).into_iter().map(|o| o & ignored));
     }
+    // one bit alone that ought to be 0
+    if r.one_in(8) {
+        let mut places = vec![(2, 0x0f), (3, 0xf0), (4, 0xff), (5, 0xff)];
+        if t && !s {
+            places.extend((octets.len() - 4..octets.len()).map(|at| (at, 0xff)));
+        }
+        let (at, unassigned) = r.of(&places);
+        octets[at] |= (1u8 << r.below(8)) & unassigned;
+    }
     octets[1] = (octets.len() as i32 + length_off) as u8;
     if length_off != 0 && r.one_in(2) {
         octets.resize(octets[1] as usize, 0);

@@ -4,18 +4,24 @@ use reference as theirs;
 use std::net::Ipv6Addr;
 use strundevi::{raw, Nai};
 
-pub type Verdict = (usize, usize, usize);
+pub type Verdict = (usize, usize, usize, usize);
 
 pub fn ours(v: raw::Verdict) -> Verdict {
-    (v.number, v.place, v.count)
+    (v.number, v.place, v.count, v.stray)
 }
 
-/// A refusal has the count 0, an acceptance the place 0.
+/// A refusal has the counts 0, an acceptance the place 0, and no stray ones but in a route's.
 pub fn theirs<T>(answer: &theirs::Answer<T>, count: impl Fn(&T) -> usize) -> Verdict {
     match answer {
-        Ok(content) => (0, 0, count(content)),
-        Err(refusal) => (refusal.number as usize, refusal.place, 0),
+        Ok(content) => (0, 0, count(content), 0),
+        Err(refusal) => (refusal.number as usize, refusal.place, 0, 0),
     }
+}
+
+/// Of a route.
+pub fn their_counts(answer: &theirs::Answer<theirs::Counts>) -> Verdict {
+    let (number, place, count, _) = theirs(answer, |counts| counts.segments);
+    (number, place, count, answer.map_or(0, |counts| counts.stray))
 }
 
 pub fn session(s: &theirs::Session) -> raw::Session {

@@ -119,21 +119,25 @@ fn our_judge(s: &[u8], q: &Question) -> plain::Verdict {
 }
 
 fn their_judge(s: &[u8], q: &Question) -> plain::Verdict {
-    plain::theirs(&reference::judge(s, plain::kind(q.ero), &q.session, q.pst), |&count| count)
+    plain::their_counts(&reference::judge(s, plain::kind(q.ero), &q.session, q.pst))
 }
 
-type Picked = (plain::Verdict, Option<reference::Segment>);
+type Picked = (plain::Verdict, Option<reference::Segment>, (u16, u8, u8));
 
 fn our_segment(s: &[u8], q: &Question) -> Picked {
     let r = doors::segment(q.door, s, q.ero, &q.session, q.pst, q.i);
-    (plain::ours(r.verdict), plain::segment_back(&r.segment))
+    (plain::ours(r.verdict), plain::segment_back(&r.segment), (r.flags, r.sflags, r.reserved))
 }
 
-/// A refusal hands back the segment that says nothing; an acceptance carries the number of segments.
+/// A refusal hands back the segment that says nothing, and no strays; an acceptance carries the number of segments and of the stray ones.
 fn their_segment(s: &[u8], q: &Question) -> Picked {
     let r = reference::segment(s, plain::kind(q.ero), &q.session, q.pst, q.i);
-    let (_, _, count) = their_judge(s, q);
-    (plain::theirs(&r, |_| count), Some(r.unwrap_or_default()))
+    let (segment, x) = r.unwrap_or_default();
+    let verdict = match r {
+        Ok(_) => their_judge(s, q),
+        Err(_) => plain::theirs(&r, |_| 0),
+    };
+    (verdict, Some(segment), (x.flags, x.structure, x.reserved as u8))
 }
 
 fn shown(s: &[u8], q: &Question) -> String {
@@ -146,7 +150,7 @@ pub fn check_route(tally: &mut Tally, s: &[u8], q: &Question) -> Result<(), Stri
     if our_judge(s, q) != theirs {
         let small = shrink(s.to_vec(), |s| our_judge(s, q) != their_judge(s, q));
         let (ours, theirs) = (our_judge(&small, q), their_judge(&small, q));
-        return Err(format!("{}\nlibrary   {ours:?}\nreference {theirs:?} (number, place, count)", shown(&small, q)));
+        return Err(format!("{}\nlibrary   {ours:?}\nreference {theirs:?} (number, place, count, stray)", shown(&small, q)));
     }
     let picked = their_segment(s, q);
     tally.count(q.door, Call::Segment, picked.0 .0);
@@ -190,11 +194,11 @@ fn check_steps(tally: &mut Tally, s: &[u8], q: &Question, from: usize) -> Result
         handed.push(segment);
         at = next;
     }
-    let (number, _, count) = their_judge(s, q);
+    let (number, _, count, _) = their_judge(s, q);
     if from != strundevi::FIRST_PLACE || number != 0 {
         return Ok(());
     }
-    let asked = |i: usize| reference::segment(s, plain::kind(q.ero), &q.session, q.pst, i as u64).ok();
+    let asked = |i: usize| reference::segment(s, plain::kind(q.ero), &q.session, q.pst, i as u64).ok().map(|(segment, _)| segment);
     if at != s.len() || handed.len() != count || [0, q.i as usize % count, count - 1].iter().any(|&i| asked(i) != Some(handed[i])) {
         return Err(format!("the steps are not the segments: {}", shown(s, q)));
     }

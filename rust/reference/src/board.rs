@@ -6,7 +6,7 @@
 //! most 2^64-2, lengths of paths multiples of 4 from 24 to 384, all numbers of empty places 0.
 
 use crate::answer::*;
-use crate::route::{judge, Kind};
+use crate::route::{judge, Counts, Kind};
 use crate::session::Session;
 
 pub const PLACES: usize = 128;
@@ -125,11 +125,11 @@ impl Board {
         Ok(self.version + 1)
     }
 
-    /// The number of segments of the path reported.
-    pub fn report(&mut self, store: &mut [u8], key: u64, ero: &[u8], session: &Session, pst: u64) -> Answer<usize> {
+    /// The number of segments of the path reported, and of those that are stray.
+    pub fn report(&mut self, store: &mut [u8], key: u64, ero: &[u8], session: &Session, pst: u64) -> Answer<Counts> {
         self.check(store)?;
         let key = in_range(key)?;
-        let count = judge(ero, Kind::Ero, session, pst)?;
+        let counts = judge(ero, Kind::Ero, session, pst)?;
         let body = &ero[4..];
         if body.len() > PLACE_OCTETS {
             return refuse(BODY_TOO_LONG);
@@ -152,7 +152,7 @@ impl Board {
         self.versions[place] = version;
         self.lengths[place] = body.len() as u16;
         self.version = version;
-        Ok(count)
+        Ok(counts)
     }
 
     pub fn remove(&mut self, store: &[u8], key: u64) -> Answer<()> {

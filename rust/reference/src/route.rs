@@ -3,6 +3,9 @@
 //! octets, the behaviour (2), the SID (16, if S is 0), the NAI by NT, the SID structure (8, if T is 1 and S is 0).
 //!
 //! Refused with 4, 5, 6, 14, 13 for the whole, then in each subobject 8, 9, 7, 10, 11, last 12; for a segment then 15.
+//!
+//! An accepted route also carries how many of its segments are stray: a flag but V, T, F, S is set, or one of the structure's flags, or a reserved
+//! octet (4, 5, and three of the structure) is not 0.
 
 use crate::answer::*;
 use crate::session::Session;
@@ -57,6 +60,40 @@ pub struct Segment {
 impl Default for Segment {
     fn default() -> Segment {
         Segment { loose: false, verify: false, nt: 0, behaviour: 0, has_sid: false, sid: [0; 16], nai: [0; 40], structured: false, structure: [0; 4] }
+    }
+}
+
+/// What an accepted route carries.
+#[derive(Clone, Copy, Debug, PartialEq, Eq)]
+pub struct Counts {
+    pub segments: usize,
+    pub stray: usize,
+}
+
+/// What is set in a subobject and ought to be 0: the 12 flag bits with the assigned ones 0, the flag octet of the structure (0 without one), and
+/// whether a reserved octet is not 0.
+#[derive(Clone, Copy, Debug, Default, PartialEq, Eq)]
+pub struct Strays {
+    pub flags: u16,
+    pub structure: u8,
+    pub reserved: bool,
+}
+
+impl Strays {
+    pub fn any(&self) -> bool {
+        self.flags != 0 || self.structure != 0 || self.reserved
+    }
+
+    /// Of a subobject that broke no rule; the structure's 3 reserved octets and its flags are the last four.
+    #[inline]
+    fn of(sub: &[u8]) -> Strays {
+        let mut strays = Strays { flags: u16::from_be_bytes([sub[2], sub[3]]) & 0x0ff0, structure: 0, reserved: sub[4] != 0 || sub[5] != 0 };
+        if sub[3] & FLAG_T != 0 && sub[3] & FLAG_S == 0 {
+            let last = &sub[sub.len() - 4..];
+            strays.structure = last[3];
+            strays.reserved |= last[0] != 0 || last[1] != 0 || last[2] != 0;
+        }
+        strays
     }
 }
 
@@ -139,9 +176,9 @@ fn broken(sub: &[u8], sid_needed: bool) -> Option<u8> {
     None
 }
 
-/// The checks, with segment `wanted` looked up on the way: its octet, or 0.
+/// The checks, with segment `wanted` looked up on the way: its subobject, if it is there.
 #[inline]
-fn walk(s: &[u8], kind: Kind, session: &Session, pst: u64, wanted: u64) -> Answer<(usize, usize)> {
+fn walk<'a>(s: &'a [u8], kind: Kind, session: &Session, pst: u64, wanted: u64) -> Answer<(Counts, Option<&'a [u8]>)> {
     framed(s, kind)?;
     if pst != PST_SRV6 || !session.agreed {
         return refuse(NOT_AGREED);
@@ -152,7 +189,7 @@ fn walk(s: &[u8], kind: Kind, session: &Session, pst: u64, wanted: u64) -> Answe
         Some(limit) if ero => limit,
         _ => usize::MAX,
     };
-    let (mut count, mut over, mut found) = (0, 0, 0);
+    let (mut count, mut stray, mut over, mut found) = (0, 0, 0, None);
     let mut rest = &s[4..];
     while let Some(&length) = rest.get(1) {
         let at = s.len() - rest.len();
@@ -164,29 +201,29 @@ fn walk(s: &[u8], kind: Kind, session: &Session, pst: u64, wanted: u64) -> Answe
             over = at;
         }
         if count as u64 == wanted {
-            found = at;
+            found = Some(sub);
         }
         count += 1;
+        stray += Strays::of(sub).any() as usize;
         rest = behind;
     }
     if over != 0 {
         return refuse_at(TOO_MANY_SEGMENTS, over);
     }
-    Ok((count, found))
+    Ok((Counts { segments: count, stray }, found))
 }
 
-/// The number of segments of a good route.
-pub fn judge(s: &[u8], kind: Kind, session: &Session, pst: u64) -> Answer<usize> {
-    walk(s, kind, session, pst, u64::MAX).map(|(count, _)| count)
+/// The number of segments of a good route, and of those that are stray.
+pub fn judge(s: &[u8], kind: Kind, session: &Session, pst: u64) -> Answer<Counts> {
+    walk(s, kind, session, pst, u64::MAX).map(|(counts, _)| counts)
 }
 
-/// Segment `i`, from 0, of a good route.
-pub fn segment(s: &[u8], kind: Kind, session: &Session, pst: u64, i: u64) -> Answer<Segment> {
-    let (_, at) = walk(s, kind, session, pst, i)?;
-    if at == 0 {
-        return refuse(NO_SUCH_SEGMENT);
+/// Segment `i`, from 0, of a good route, and what is set in its octets and ought to be 0.
+pub fn segment(s: &[u8], kind: Kind, session: &Session, pst: u64, i: u64) -> Answer<(Segment, Strays)> {
+    match walk(s, kind, session, pst, i)? {
+        (_, Some(sub)) => Ok((read(sub, kind), Strays::of(sub))),
+        (_, None) => refuse(NO_SUCH_SEGMENT),
     }
-    Ok(read(&s[at..], kind))
 }
 
 /// The segment at a place, looked at by itself, and the place behind it: 15, 4, 14, then 8, 9, 7, 11.

@@ -91,6 +91,40 @@ fn last_padding_only_may_be_cut() {
     assert_eq!(open(&head[..8]), refused(2, 0));
 }
 
+/// So many segments, none of them stray.
+fn clean(segments: usize) -> Answer<Counts> {
+    Ok(Counts { segments, stray: 0 })
+}
+
+#[test]
+fn strays() {
+    let s = session();
+    let judged = |object: &[u8]| judge(object, Kind::Ero, &s, 3).unwrap();
+    let shown = |object: &[u8]| segment(object, Kind::Ero, &s, 3, 0).unwrap().1;
+    // each unassigned flag, each reserved octet; a segment counts once
+    for (at, value, flags, reserved) in
+        [(6, 0x01, 0x100, false), (6, 0x0f, 0xf00, false), (7, 0x12, 0x010, false), (7, 0xf2, 0x0f0, false), (8, 1, 0, true), (9, 0x80, 0, true)]
+    {
+        let object = with(E, at, value);
+        assert_eq!((judged(&object), shown(&object)), (Counts { segments: 1, stray: 1 }, Strays { flags, structure: 0, reserved }), "octet {at}");
+    }
+    let both = with(with(E, 6, 0x0f), 8, 1);
+    assert_eq!(judged(&both).stray, 1);
+    // of a structure the last four octets
+    for at in 28..36 {
+        let mut object = structured([0; 4]);
+        object[at] = 1;
+        let x = Strays { flags: 0, structure: (at == 35) as u8, reserved: (32..35).contains(&at) };
+        assert_eq!((judged(&object), shown(&object)), (Counts { segments: 1, stray: x.any() as usize }, x), "octet {at}");
+    }
+    // no strays: V, the header's low bits, T where S is 1, V in an RRO
+    assert_eq!(judged(&with(E, 7, 0x0a)).stray, 0);
+    assert_eq!(judged(&with(E, 1, 0x1f)).stray, 0);
+    let free = Session { agreed: true, n: true, limit: None };
+    assert_eq!(judge(&with(with(E, 6, 0x20), 7, 5), Kind::Ero, &free, 3), clean(1));
+    assert_eq!(judge(&with(with(E, 0, 8), 7, 0x0a), Kind::Rro, &free, 3), clean(1));
+}
+
 #[test]
 fn limits() {
     let limit = |flags: u8, pairs: &[u8]| {
@@ -133,22 +167,22 @@ fn limits() {
 fn routes() {
     let s = session();
     assert_eq!(s, Session { agreed: true, n: false, limit: Some(4) });
-    assert_eq!(judge(&E, Kind::Ero, &s, 3), Ok(1));
+    assert_eq!(judge(&E, Kind::Ero, &s, 3), clean(1));
     assert_eq!(judge(&E, Kind::Ero, &s, 1), refused(13, 0));
     assert_eq!(judge(&E, Kind::Ero, &Session::agree(&read_open(&O), &read_open(&with(O, 16, 0))), 3), refused(13, 0));
     assert_eq!(judge(&with(E, 7, 3), Kind::Ero, &s, 3), refused(9, 4));
     assert_eq!(judge(&with(E, 7, 6), Kind::Ero, &s, 3), refused(7, 4));
-    assert_eq!(judge(&structured([40, 24, 16, 48]), Kind::Ero, &s, 3), Ok(1));
+    assert_eq!(judge(&structured([40, 24, 16, 48]), Kind::Ero, &s, 3), clean(1));
     assert_eq!(judge(&structured([40, 24, 16, 49]), Kind::Ero, &s, 3), refused(11, 4));
     assert_eq!(judge(&structured([64; 4]), Kind::Ero, &s, 3), refused(11, 4));
-    assert_eq!(judge(&route(4), Kind::Ero, &s, 3), Ok(4));
+    assert_eq!(judge(&route(4), Kind::Ero, &s, 3), clean(4));
     assert_eq!(judge(&route(5), Kind::Ero, &s, 3), refused(12, 100));
     assert_eq!(judge(&E, Kind::Rro, &s, 3), refused(4, 0));
-    assert_eq!(judge(&with(E, 0, 8), Kind::Rro, &s, 3), Ok(1));
+    assert_eq!(judge(&with(E, 0, 8), Kind::Rro, &s, 3), clean(1));
     assert_eq!(judge(&with(with(E, 0, 8), 4, 0xA8), Kind::Rro, &s, 3), refused(14, 0));
     assert_eq!(judge(&with(E, 6, 0x10), Kind::Ero, &s, 3), refused(8, 4));
     assert_eq!(judge(&with(with(E, 6, 0x20), 7, 1), Kind::Ero, &s, 3), refused(10, 4));
-    assert_eq!(judge(&with(with(with(E, 0, 8), 6, 0x20), 7, 5), Kind::Rro, &s, 3), Ok(1));
+    assert_eq!(judge(&with(with(with(E, 0, 8), 6, 0x20), 7, 5), Kind::Rro, &s, 3), clean(1));
     assert_eq!(judge(&[7, 0x10, 0, 4], Kind::Ero, &s, 3), refused(5, 0));
     let mut mixed = route(3);
     mixed[52] = 1;
@@ -156,7 +190,7 @@ fn routes() {
     for n in 0..E.len() {
         assert_eq!(judge(&E[..n], Kind::Ero, &s, 3), refused(4, 0));
     }
-    let read = segment(&with(E, 4, 0xA8), Kind::Ero, &s, 3, 0).unwrap();
+    let (read, _) = segment(&with(E, 4, 0xA8), Kind::Ero, &s, 3, 0).unwrap();
     assert!(read.loose && !read.verify && read.has_sid && read.behaviour == 1 && read.sid == E[12..28]);
     assert_eq!(segment(&E, Kind::Ero, &s, 3, 1), refused(15, 0));
     assert_eq!(segment(&route(5), Kind::Ero, &s, 3, 0), refused(12, 100));
@@ -169,10 +203,10 @@ fn written_route_is_the_one_read() {
         let mut buffer = vec![0xEE; object.len() + 3];
         let mut writer = Writer::begin(&mut buffer, Kind::Ero).unwrap();
         assert_eq!(writer.finish(&mut buffer), refused(5, 0));
-        for i in 0..judge(&object, Kind::Ero, &s, 3).unwrap() {
-            writer = writer.add(&mut buffer, &segment(&object, Kind::Ero, &s, 3, i as u64).unwrap()).unwrap();
+        for i in 0..judge(&object, Kind::Ero, &s, 3).unwrap().segments {
+            writer = writer.add(&mut buffer, &segment(&object, Kind::Ero, &s, 3, i as u64).unwrap().0).unwrap();
         }
-        assert_eq!(writer.add(&mut buffer, &segment(&object, Kind::Ero, &s, 3, 0).unwrap()), refused(16, 0));
+        assert_eq!(writer.add(&mut buffer, &segment(&object, Kind::Ero, &s, 3, 0).unwrap().0), refused(16, 0));
         writer.finish(&mut buffer).unwrap();
         assert_eq!(buffer[..object.len()], object);
         assert_eq!(buffer[object.len()..], [0xEE; 3]);
@@ -186,8 +220,8 @@ fn the_worked_history() {
     let mut store = vec![0; STORE_OCTETS];
     let mut board = Board::default();
     let (a, b) = (11, 12);
-    assert_eq!(board.report(&mut store, a, &E, &s, 3), Ok(1));
-    assert_eq!(board.report(&mut store, b, &route(2), &s, 3), Ok(2));
+    assert_eq!(board.report(&mut store, a, &E, &s, 3), clean(1));
+    assert_eq!(board.report(&mut store, b, &route(2), &s, 3), clean(2));
     assert_eq!(board.remove(&store, a), Ok(()));
     let path_b = Change::Path { key: 12, version: 2, place: 1, length: 48 };
     assert_eq!(board.next(&store, 1, 1), Ok(path_b));
@@ -212,20 +246,20 @@ fn a_full_board() {
     let mut store = vec![0; STORE_OCTETS];
     let mut board = Board::default();
     for key in 1..=128 {
-        assert_eq!(board.report(&mut store, key, &E, &s, 3), Ok(1));
+        assert_eq!(board.report(&mut store, key, &E, &s, 3), clean(1));
     }
     assert_eq!(board.report(&mut store, 500, &E, &s, 3), refused(21, 0));
-    assert_eq!(board.report(&mut store, 5, &E, &s, 3), Ok(1));
+    assert_eq!(board.report(&mut store, 5, &E, &s, 3), clean(1));
     board.remove(&store, 77).unwrap();
     board.remove(&store, 33).unwrap();
     assert_eq!((board.version, board.floor), (131, 0));
-    assert_eq!(board.report(&mut store, 500, &E, &s, 3), Ok(1));
+    assert_eq!(board.report(&mut store, 500, &E, &s, 3), clean(1));
     assert_eq!((board.keys[76], board.version, board.floor), (500, 132, 130));
     assert_eq!(board.report(&mut store, 0, &E, &s, 3), refused(18, 0));
     assert_eq!(board.report(&mut store, 1_048_575, &[], &s, 3), refused(18, 0));
     assert_eq!(board.report(&mut store, 1_048_574, &with(E, 7, 3), &s, 3), refused(9, 4));
     let free = Session { limit: None, ..s };
-    assert_eq!(board.report(&mut store, 9, &route(16), &free, 3), Ok(16));
+    assert_eq!(board.report(&mut store, 9, &route(16), &free, 3), clean(16));
     assert_eq!(board.report(&mut store, 9, &route(17), &free, 3), refused(19, 0));
     board.version = u64::MAX - 1;
     assert_eq!(board.report(&mut store, 9, &E, &s, 3), refused(20, 0));

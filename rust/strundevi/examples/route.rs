@@ -25,8 +25,9 @@ fn main() -> Result<(), Refusal> {
     let route = writer.finish()?;
     println!("written: {} octets", route.len());
 
-    println!("judged: {} segments", judge(route, Kind::Ero, &session, PST_SRV6)?);
-    let last = segment(route, Kind::Ero, &session, PST_SRV6, 2)?;
+    let judged = judge(route, Kind::Ero, &session, PST_SRV6)?;
+    println!("judged: {} segments, {} of them stray", judged.segments, judged.stray);
+    let (last, _) = segment(route, Kind::Ero, &session, PST_SRV6, 2)?;
     println!("segment 2: last octet of the SID {:?}", last.sid().map(|sid| sid[15]));
     for (i, step) in segments(route, Kind::Ero, &session, PST_SRV6)?.enumerate() {
         println!("step {i}: last octet of the SID {:?}", step.sid().map(|sid| sid[15]));

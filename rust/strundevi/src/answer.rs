@@ -130,12 +130,21 @@ impl fmt::Display for Refusal {
 
 impl core::error::Error for Refusal {}
 
+/// What an accepted route carries.
+#[derive(Clone, Copy, Debug, PartialEq, Eq, Hash)]
+pub struct Counts {
+    /// How many segments it has.
+    pub segments: usize,
+    /// How many of them have something set that ought to be 0 ([`Strays`](crate::Strays)). They are good segments: the neighbour's box is odd.
+    pub stray: usize,
+}
+
 impl raw::Verdict {
-    /// The count of an acceptance.
+    /// The counts of an acceptance.
     #[inline]
-    pub(crate) fn count(self) -> Result<usize> {
+    pub(crate) fn counts(self) -> Result<Counts> {
         match self.number {
-            0 => Ok(self.count),
+            0 => Ok(Counts { segments: self.count, stray: self.stray }),
             number => Err(Refusal { number: Number::of(number), place: self.place }),
         }
     }

@@ -1,6 +1,6 @@
 //! The board of paths, with its store.
 
-use crate::answer::{answer, Result};
+use crate::answer::{answer, Counts, Result};
 use crate::open::Session;
 use crate::raw;
 
@@ -116,22 +116,22 @@ impl<S: AsRef<[u8]> + AsMut<[u8]>> Board<S> {
         self.record.floor
     }
 
-    /// Reports a path: the number of its segments. Refused with 17, 18, the route's numbers, 19, 20, 21.
+    /// Reports a path: the number of its segments, and of those that are stray. Refused with 17, 18, the route's numbers, 19, 20, 21.
     #[inline]
-    pub fn report(&mut self, key: u32, ero: &[u8], session: &Session, pst: u64) -> Result<usize> {
-        raw::report(&mut self.record, self.store.as_mut(), key.into(), ero, session.raw(), pst).count()
+    pub fn report(&mut self, key: u32, ero: &[u8], session: &Session, pst: u64) -> Result<Counts> {
+        raw::report(&mut self.record, self.store.as_mut(), key.into(), ero, session.raw(), pst).counts()
     }
 
     /// Removes a path; a mark of the removal stays. Refused with 17, 18, 22, 20.
     #[inline]
     pub fn remove(&mut self, key: u32) -> Result<()> {
-        raw::remove(&mut self.record, self.store.as_ref(), key.into()).count().map(|_| ())
+        raw::remove(&mut self.record, self.store.as_ref(), key.into()).counts().map(|_| ())
     }
 
     /// Drops the marks of removals with a version of at most `c`. Refused with 17, 24.
     #[inline]
     pub fn compact(&mut self, c: u64) -> Result<()> {
-        raw::compact(&mut self.record, self.store.as_ref(), c).count().map(|_| ())
+        raw::compact(&mut self.record, self.store.as_ref(), c).counts().map(|_| ())
     }
 
     /// The octets of a key's path. Refused with 17, 18, 22.

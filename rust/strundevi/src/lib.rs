@@ -17,7 +17,7 @@
 //! let mut writer = Writer::begin(&mut buffer, Kind::Ero)?;
 //! writer.add(&Segment::with_sid([0x20; 16], 1))?;
 //! let route = writer.finish()?;
-//! assert_eq!(judge(route, Kind::Ero, &session, PST_SRV6)?, 1);
+//! assert_eq!(judge(route, Kind::Ero, &session, PST_SRV6)?.segments, 1);
 //! # Ok::<(), strundevi::Refusal>(())
 //! ```
 #![no_std]
@@ -30,10 +30,10 @@ pub mod raw;
 mod route;
 mod writer;
 
-pub use answer::{Number, PcErr, Refusal, Result};
+pub use answer::{Counts, Number, PcErr, Refusal, Result};
 pub use board::{Board, Change, Mark, KEY_MOST, PLACES, PLACE_OCTETS, STORE_OCTETS, VERSION_MOST};
 pub use open::{read_open, Open, Session};
-pub use route::{judge, segment, segments, step, Kind, Nai, Segment, Segments, FIRST_PLACE, PST_SRV6};
+pub use route::{judge, segment, segments, step, Kind, Nai, Segment, Segments, Strays, FIRST_PLACE, PST_SRV6};
 pub use writer::{Writer, OBJECT_MOST};
 
 /// The version of this crate, which is that of the header.

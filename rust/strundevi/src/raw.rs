@@ -13,6 +13,7 @@ pub struct Verdict {
     pub number: usize,
     pub place: usize,
     pub count: usize,
+    pub stray: usize,
 }
 
 #[repr(C)]
@@ -59,6 +60,9 @@ impl Segment {
 pub struct Picked {
     pub verdict: Verdict,
     pub segment: Segment,
+    pub flags: u16,
+    pub sflags: u8,
+    pub reserved: u8,
 }
 
 #[repr(C)]

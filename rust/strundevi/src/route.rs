@@ -1,6 +1,6 @@
 //! Judging a route, and asking for its segments.
 
-use crate::answer::Result;
+use crate::answer::{Counts, Result};
 use crate::open::Session;
 use crate::raw;
 use core::net::Ipv6Addr;
@@ -181,17 +181,35 @@ impl Segment {
     }
 }
 
-/// The number of segments of a good route. Refused with 4, 5, 6, 14, 13; 8, 9, 7, 10, 11 segment by segment; 12.
-#[inline]
-pub fn judge(octets: &[u8], kind: Kind, session: &Session, pst: u64) -> Result<usize> {
-    raw::judge(octets, kind.raw(), session.raw(), pst).count()
+/// What is set in a segment's octets and ought to be 0.
+#[derive(Clone, Copy, Debug, Default, PartialEq, Eq, Hash)]
+pub struct Strays {
+    /// The 12 flag bits with the assigned ones, V, T, F and S, as 0.
+    pub flags: u16,
+    /// The flag octet of the SID structure; 0 without one.
+    pub structure: u8,
+    /// A reserved octet is not 0.
+    pub reserved: bool,
 }
 
-/// Segment `i`, from 0, of a good route. Refused as `judge` is, then with 15.
+impl Strays {
+    /// Whether anything is.
+    pub fn any(&self) -> bool {
+        self.flags != 0 || self.structure != 0 || self.reserved
+    }
+}
+
+/// The number of segments of a good route, and of those that are stray. Refused with 4, 5, 6, 14, 13; 8, 9, 7, 10, 11 segment by segment; 12.
 #[inline]
-pub fn segment(octets: &[u8], kind: Kind, session: &Session, pst: u64, i: u64) -> Result<Segment> {
+pub fn judge(octets: &[u8], kind: Kind, session: &Session, pst: u64) -> Result<Counts> {
+    raw::judge(octets, kind.raw(), session.raw(), pst).counts()
+}
+
+/// Segment `i`, from 0, of a good route, and what is set in its octets and ought to be 0. Refused as `judge` is, then with 15.
+#[inline]
+pub fn segment(octets: &[u8], kind: Kind, session: &Session, pst: u64, i: u64) -> Result<(Segment, Strays)> {
     let r = raw::segment(octets, kind.raw(), session.raw(), pst, i);
-    r.verdict.count().map(|_| Segment(r.segment))
+    r.verdict.counts().map(|_| (Segment(r.segment), Strays { flags: r.flags, structure: r.sflags, reserved: r.reserved != 0 }))
 }
 
 /// The segments of a good route, one after the other, in one pass over its octets.
@@ -219,7 +237,7 @@ pub struct Segments<'a> {
 /// The segments of a good route. Refused as `judge` is.
 #[inline]
 pub fn segments<'a>(octets: &'a [u8], kind: Kind, session: &Session, pst: u64) -> Result<Segments<'a>> {
-    let left = judge(octets, kind, session, pst)?;
+    let left = judge(octets, kind, session, pst)?.segments;
     Ok(Segments { octets, kind, at: FIRST_PLACE, left })
 }
 
@@ -231,7 +249,7 @@ pub const FIRST_PLACE: usize = 4;
 #[inline]
 pub fn step(octets: &[u8], kind: Kind, at: usize) -> Result<(Segment, usize)> {
     let r = raw::step(octets, kind.raw(), at);
-    r.verdict.count().map(|_| (Segment(r.segment), r.next))
+    r.verdict.counts().map(|_| (Segment(r.segment), r.next))
 }
 
 impl Iterator for Segments<'_> {

@@ -20,7 +20,7 @@ impl<'a> Writer<'a> {
     #[inline]
     pub fn begin(buffer: &'a mut [u8], kind: Kind) -> Result<Writer<'a>> {
         let r = raw::begin(buffer, raw::Writer { ero: kind.raw(), at: 0 }, kind.raw());
-        r.verdict.count()?;
+        r.verdict.counts()?;
         Ok(Writer { buffer, kind: Kind::of(r.writer.ero), at: r.writer.at })
     }
 
@@ -37,7 +37,7 @@ impl<'a> Writer<'a> {
     #[inline]
     fn take(&mut self, r: raw::Written) -> Result<()> {
         self.at = r.writer.at;
-        r.verdict.count().map(|_| ())
+        r.verdict.counts().map(|_| ())
     }
 
     /// Refused with 8, 9, 7, 11, 16.

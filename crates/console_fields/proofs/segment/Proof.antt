@@ -1,4 +1,4 @@
--- Nine pieces are laid one behind the other: `then` joins what each call ensures, and the end of each is bounded by that of the one before.
+-- Nine pieces, the last with the end of the line, are laid one behind the other: `then` joins what each call ensures, and the end of each is bounded by that of the one before.
 use Rattle.printing.proofs.Laws.{then}
 use native.Mathlib.Omega.{arith}
 use borrow.Author.Needs.{needs}
@@ -92,108 +92,105 @@ structure-field-requires c κs =
       before35 .before .before .before .before .pre,
     )
 
-slice-aggregate-push-2 : tie.Need-slice-aggregate-push-2
-slice-aggregate-push-2 c = search needs
-
-push-requires-2 : tie.Need-push-requires-2
-push-requires-2 c κs =
-    let before9 = c .before .before .before .before .before .before .before .before .before in
-    let before15 = before9 .before .before .before .before .before .before in
-    let before20 = before15 .before .before .before .before .before in
-    let before25 = before20 .before .before .before .before .before in
-    let before30 = before25 .before .before .before .before .before in
-    let before35 = before30 .before .before .before .before .before in
-    let before40 = before35 .before .before .before .before .before in
+strays-end-requires : tie.Need-strays-end-requires
+strays-end-requires c κs =
+    let before8 = c .before .before .before .before .before .before .before .before in
+    let before14 = before8 .before .before .before .before .before .before in
+    let before19 = before14 .before .before .before .before .before in
+    let before24 = before19 .before .before .before .before .before in
+    let before29 = before24 .before .before .before .before .before in
+    let before34 = before29 .before .before .before .before .before in
+    let before39 = before34 .before .before .before .before .before in
     omega (
       arith,
-      before40 .push .ensures .ends,
-      before40 .push .ensures .room,
-      before35 .field .ensures .1,
-      before35 .field .ensures .0 .room,
-      before30 .field2 .ensures .1,
-      before30 .field2 .ensures .0 .room,
-      before25 .field3 .ensures .1,
-      before25 .field3 .ensures .0 .room,
-      before20 .field4 .ensures .1,
-      before20 .field4 .ensures .0 .room,
-      before15 .sid-field .ensures .1,
-      before15 .sid-field .ensures .0 .room,
-      before9 .nai-field .ensures .1,
-      before9 .nai-field .ensures .0 .room,
-      c .before .before .before .before .structure-field .ensures .1,
-      c .before .before .before .before .structure-field .ensures .0 .room,
-      before40 .before .before .before .before .pre,
+      before39 .push .ensures .ends,
+      before39 .push .ensures .room,
+      before34 .field .ensures .1,
+      before34 .field .ensures .0 .room,
+      before29 .field2 .ensures .1,
+      before29 .field2 .ensures .0 .room,
+      before24 .field3 .ensures .1,
+      before24 .field3 .ensures .0 .room,
+      before19 .field4 .ensures .1,
+      before19 .field4 .ensures .0 .room,
+      before14 .sid-field .ensures .1,
+      before14 .sid-field .ensures .0 .room,
+      before8 .nai-field .ensures .1,
+      before8 .nai-field .ensures .0 .room,
+      c .before .before .before .structure-field .ensures .1,
+      c .before .before .before .structure-field .ensures .0 .room,
+      before39 .before .before .before .before .pre,
     )
 
 same-length : tie.Need-same-length
 same-length c =
-    let before7 = c .before .before .before .before .before .before .before in
-    let before12 = before7 .before .before .before .before .before in
-    let before18 = before12 .before .before .before .before .before .before in
-    let before23 = before18 .before .before .before .before .before in
-    let before28 = before23 .before .before .before .before .before in
-    let before33 = before28 .before .before .before .before .before in
-    let before38 = before33 .before .before .before .before .before in
+    let before6 = c .before .before .before .before .before .before in
+    let before11 = before6 .before .before .before .before .before in
+    let before17 = before11 .before .before .before .before .before .before in
+    let before22 = before17 .before .before .before .before .before in
+    let before27 = before22 .before .before .before .before .before in
+    let before32 = before27 .before .before .before .before .before in
+    let before37 = before32 .before .before .before .before .before in
     omega (
       arith,
-      before38 .before .before .before .before .before .push .ensures .ends,
-      before38 .before .before .before .before .before .push .ensures .room,
-      before38 .field .ensures .1,
-      before38 .field .ensures .0 .room,
-      before33 .field2 .ensures .1,
-      before33 .field2 .ensures .0 .room,
-      before28 .field3 .ensures .1,
-      before28 .field3 .ensures .0 .room,
-      before23 .field4 .ensures .1,
-      before23 .field4 .ensures .0 .room,
-      before18 .sid-field .ensures .1,
-      before18 .sid-field .ensures .0 .room,
-      before12 .nai-field .ensures .1,
-      before12 .nai-field .ensures .0 .room,
-      before7 .structure-field .ensures .1,
-      before7 .structure-field .ensures .0 .room,
-      c .before .before .push2 .ensures .ends,
-      c .before .before .push2 .ensures .room,
+      before37 .before .before .before .before .before .push .ensures .ends,
+      before37 .before .before .before .before .before .push .ensures .room,
+      before37 .field .ensures .1,
+      before37 .field .ensures .0 .room,
+      before32 .field2 .ensures .1,
+      before32 .field2 .ensures .0 .room,
+      before27 .field3 .ensures .1,
+      before27 .field3 .ensures .0 .room,
+      before22 .field4 .ensures .1,
+      before22 .field4 .ensures .0 .room,
+      before17 .sid-field .ensures .1,
+      before17 .sid-field .ensures .0 .room,
+      before11 .nai-field .ensures .1,
+      before11 .nai-field .ensures .0 .room,
+      before6 .structure-field .ensures .1,
+      before6 .structure-field .ensures .0 .room,
+      c .before .before .strays-end .ensures .1,
+      c .before .before .strays-end .ensures .0 .room,
     )
 
 returns : tie.Need-returns
 returns c =
-    let before7 = c .before .before .before .before .before .before .before in
-    let before12 = before7 .before .before .before .before .before in
-    let before18 = before12 .before .before .before .before .before .before in
-    let before23 = before18 .before .before .before .before .before in
-    let before28 = before23 .before .before .before .before .before in
-    let before33 = before28 .before .before .before .before .before in
-    let before38 = before33 .before .before .before .before .before in
-    let push-ensures = before38 .before .before .before .before .before .push .ensures in (
+    let before6 = c .before .before .before .before .before .before in
+    let before11 = before6 .before .before .before .before .before in
+    let before17 = before11 .before .before .before .before .before .before in
+    let before22 = before17 .before .before .before .before .before in
+    let before27 = before22 .before .before .before .before .before in
+    let before32 = before27 .before .before .before .before .before in
+    let before37 = before32 .before .before .before .before .before in
+    let push-ensures = before37 .before .before .before .before .before .push .ensures in (
       (then push-ensures
-          (then (rw (before38 .before .bit .ensures) at (before38 .field .ensures .0))
-          (then (rw (before33 .before .bit2 .ensures) at (before33 .field2 .ensures .0))
-          (then (before28 .field3 .ensures .0)
-          (then (before23 .field4 .ensures .0)
-          (then (before18 .sid-field .ensures .0)
-          (then (before12 .nai-field .ensures .0)
-          (then (before7 .structure-field .ensures .0) (c .before .before .push2 .ensures))))))))),
+          (then (rw (before37 .before .bit .ensures) at (before37 .field .ensures .0))
+          (then (rw (before32 .before .bit2 .ensures) at (before32 .field2 .ensures .0))
+          (then (before27 .field3 .ensures .0)
+          (then (before22 .field4 .ensures .0)
+          (then (before17 .sid-field .ensures .0)
+          (then (before11 .nai-field .ensures .0)
+          (then (before6 .structure-field .ensures .0) (c .before .before .strays-end .ensures .0))))))))),
       omega (
         arith,
         push-ensures .ends,
         push-ensures .room,
-        before38 .field .ensures .1,
-        before38 .field .ensures .0 .room,
-        before33 .field2 .ensures .1,
-        before33 .field2 .ensures .0 .room,
-        before28 .field3 .ensures .1,
-        before28 .field3 .ensures .0 .room,
-        before23 .field4 .ensures .1,
-        before23 .field4 .ensures .0 .room,
-        before18 .sid-field .ensures .1,
-        before18 .sid-field .ensures .0 .room,
-        before12 .nai-field .ensures .1,
-        before12 .nai-field .ensures .0 .room,
-        before7 .structure-field .ensures .1,
-        before7 .structure-field .ensures .0 .room,
-        c .before .before .push2 .ensures .ends,
-        c .before .before .push2 .ensures .room,
+        before37 .field .ensures .1,
+        before37 .field .ensures .0 .room,
+        before32 .field2 .ensures .1,
+        before32 .field2 .ensures .0 .room,
+        before27 .field3 .ensures .1,
+        before27 .field3 .ensures .0 .room,
+        before22 .field4 .ensures .1,
+        before22 .field4 .ensures .0 .room,
+        before17 .sid-field .ensures .1,
+        before17 .sid-field .ensures .0 .room,
+        before11 .nai-field .ensures .1,
+        before11 .nai-field .ensures .0 .room,
+        before6 .structure-field .ensures .1,
+        before6 .structure-field .ensures .0 .room,
+        c .before .before .strays-end .ensures .1,
+        c .before .before .strays-end .ensures .0 .room,
       ),
     )
 
@@ -215,7 +212,6 @@ segment-spec =
     cast-nai-field
     nai-field-requires
     structure-field-requires
-    slice-aggregate-push-2
-    push-requires-2
+    strays-end-requires
     same-length
     returns)

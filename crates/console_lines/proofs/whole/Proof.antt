@@ -13,6 +13,9 @@ field-requires c κs = search needs
 field-requires-2 : tie.Need-field-requires-2
 field-requires-2 c κs = search needs
 
+field-requires-3 : tie.Need-field-requires-3
+field-requires-3 c κs = search needs
+
 slice-aggregate-push : tie.Need-slice-aggregate-push
 slice-aggregate-push c = search needs
 
@@ -25,9 +28,10 @@ same-length c = search needs
 returns : tie.Need-returns
 returns c =
     let before7 = c .before .before .before .before .before .before .before in (
-      (then (before7 .before .before .before .before .before .before .before .before .number .ensures .0)
-          (then (before7 .before .before .before .before .field .ensures .0)
-          (then (before7 .field2 .ensures .0) (c .before .before .push .ensures)))),
+      (then (before7 .before .before .before .before .before .before .before .before .before .before .before .before .number .ensures .0)
+          (then (before7 .before .before .before .before .before .before .before .before .field .ensures .0)
+          (then (before7 .before .before .before .before .field2 .ensures .0)
+          (then (before7 .field3 .ensures .0) (c .before .before .push .ensures))))),
       omega (arith, c .before .before .push .ensures .ends),
     )
 
@@ -38,6 +42,7 @@ whole-spec =
     number-requires
     field-requires
     field-requires-2
+    field-requires-3
     slice-aggregate-push
     push-requires
     same-length

@@ -40,7 +40,7 @@ returns c =
     ∙ ap (λ (s : List ℕ). segmentOf s (a .ero) (a .session) (a .c .one) (a .c .two))
     (spelled _ _ (before7 .before .before .before .before .octets-at .ensures .0)) in
     rw (← e)
-    (told-refused (p .verdict) (segmentLine (p .segment)) (c .before .before .before .before .if1 .taken)
+    (told-refused (p .verdict) (segmentLine (p .segment) (p .strays)) (c .before .before .before .before .if1 .taken)
     (c .before .before .refusal .ensures .0))
 
 segment-requires-2 : tie.Need-segment-requires-2
@@ -55,14 +55,14 @@ same-length-4 c = search needs
 returns-2 : tie.Need-returns-2
 unfolding segmentAnswer pickedLine
 returns-2 c =
-    let before8 = c .before .before .before .before .before .before .before .before in
-    let p = before8 .segment .result in
-    let a = before8 .before .before .before .before .before .before .before .before .before .args in
-    let e = before8 .segment .ensures
+    let before9 = c .before .before .before .before .before .before .before .before .before in
+    let p = before9 .segment .result in
+    let a = before9 .before .before .before .before .before .before .before .before .before .args in
+    let e = before9 .segment .ensures
     ∙ ap (λ (s : List ℕ). segmentOf s (a .ero) (a .session) (a .c .one) (a .c .two))
-    (spelled _ _ (before8 .before .before .before .before .octets-at .ensures .0)) in
+    (spelled _ _ (before9 .before .before .before .before .octets-at .ensures .0)) in
     rw (← e)
-    (told-accepted (p .verdict) (segmentLine (p .segment)) (c .before .before .before .before .before .if1 .left)
+    (told-accepted (p .verdict) (segmentLine (p .segment) (p .strays)) (c .before .before .before .before .before .before .if1 .left)
     (c .before .before .segment2 .ensures .0))
 
 pub picked-spec : {M : Type 1} → statement M

@@ -1,7 +1,7 @@
 //! The checking program: a PCC OPEN, a PCE OPEN and an ERO from the first 65,536 octets of standard input, each cut by its own length field
-//! (too little left, or a length under 4: all the rest), PST 3. It prints the first refusal's or the ERO's number, place and count.
+//! (too little left, or a length under 4: all the rest), PST 3. It prints the first refusal's or the ERO's number, place, count and stray ones.
 
-use reference::{judge, read_open, Kind, Refusal, Session};
+use reference::{judge, read_open, Counts, Kind, Refusal, Session};
 use std::io::{self, Read};
 
 const MOST: u64 = 65_536;
@@ -17,7 +17,7 @@ fn cut(octets: &[u8]) -> (&[u8], &[u8]) {
     octets.split_at(size)
 }
 
-fn check(octets: &[u8]) -> Result<usize, Refusal> {
+fn check(octets: &[u8]) -> Result<Counts, Refusal> {
     let (pcc, rest) = cut(octets);
     let (pce, rest) = cut(rest);
     let (ero, _) = cut(rest);
@@ -32,8 +32,8 @@ fn main() -> io::Result<()> {
     let mut octets = Vec::new();
     io::stdin().lock().take(MOST).read_to_end(&mut octets)?;
     match check(&octets) {
-        Ok(count) => println!("0 0 {count}"),
-        Err(refusal) => println!("{} {} 0", refusal.number, refusal.place),
+        Ok(counts) => println!("0 0 {} {}", counts.segments, counts.stray),
+        Err(refusal) => println!("{} {} 0 0", refusal.number, refusal.place),
     }
     Ok(())
 }

@@ -1,6 +1,8 @@
 //! The console over the reference: one command to a line of standard input, one line of answer for each.
 
-use reference::{judge, read_open, segment, Answer, Board, Change, Kind, Open, Refusal, Segment, Session, Writer, PLACE_OCTETS, STORE_OCTETS};
+use reference::{
+    judge, read_open, segment, Answer, Board, Change, Counts, Kind, Open, Refusal, Segment, Session, Strays, Writer, PLACE_OCTETS, STORE_OCTETS,
+};
 use std::fmt::Write as _;
 use std::io::{self, Read, Write};
 
@@ -79,6 +81,14 @@ fn show_segment(s: &Segment) -> String {
     format!(" {} {} {} {} {} {} {}", s.loose as u8, s.verify as u8, s.nt, s.behaviour, sid, show(nai), structure)
 }
 
+fn show_strays(x: &Strays) -> String {
+    format!(" {} {} {}", x.flags, x.structure, x.reserved as u8)
+}
+
+fn show_counts(counts: &Counts) -> String {
+    format!(" {} {}", counts.segments, counts.stray)
+}
+
 fn show_open(open: &Open) -> String {
     let limit = open.limit.map_or("-".to_string(), |n| n.to_string());
     format!(" {} {} {}", open.srv6 as u8, open.n as u8, limit)
@@ -122,10 +132,11 @@ impl Console {
                 self.pce.map(|o| show_open(&o))
             }
             [name @ ("ero" | "rro"), pst, given] => {
-                judge(&octets(given)?, kind(name)?, &self.session(), number(pst)?).map(|count| format!(" {count}"))
+                judge(&octets(given)?, kind(name)?, &self.session(), number(pst)?).map(|counts| show_counts(&counts))
             }
             [name @ ("ero-segment" | "rro-segment"), pst, i, given] => {
-                segment(&octets(given)?, kind(&name[..3])?, &self.session(), number(pst)?, number(i)?).map(|s| show_segment(&s))
+                segment(&octets(given)?, kind(&name[..3])?, &self.session(), number(pst)?, number(i)?)
+                    .map(|(s, x)| show_segment(&s) + &show_strays(&x))
             }
             ["begin", name, size] => {
                 let kind = kind(name)?;
@@ -168,7 +179,7 @@ impl Console {
             ["report", key, pst, given] => {
                 let (key, pst, given) = (number(key)?, number(pst)?, octets(given)?);
                 let session = self.session();
-                self.board.report(&mut self.store, key, &given, &session, pst).map(|count| format!(" {count}"))
+                self.board.report(&mut self.store, key, &given, &session, pst).map(|counts| show_counts(&counts))
             }
             ["remove", key] => self.board.remove(&self.store, number(key)?).map(|()| String::new()),
             ["compact", c] => self.board.compact(&self.store, number(c)?).map(|()| String::new()),

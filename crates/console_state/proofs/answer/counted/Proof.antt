@@ -1,5 +1,5 @@
 use Rattle.console_state.proofs.Laws.{told-refused, told-accepted}
-use Rattle.console_lines.specs.Lines.{oneLine}
+use Rattle.console_lines.specs.Lines.{twoLine}
 use Rattle.console_state.specs.Answers.{countLine}
 use borrow.Author.Needs.{needs}
 use Rattle.console_state.proofs.answer.counted.Statement.{statement}
@@ -15,11 +15,11 @@ returns : tie.Need-returns
 unfolding countLine
 returns c =
     let v = c .before .before .before .before .before .before .before .args .v in
-    told-refused v (oneLine (v .count)) (c .before .before .before .before .if1 .taken)
+    told-refused v (twoLine (v .count) (v .stray)) (c .before .before .before .before .if1 .taken)
     (c .before .before .refusal .ensures .0)
 
-one-requires : tie.Need-one-requires
-one-requires c κs = search needs
+two-requires : tie.Need-two-requires
+two-requires c κs = search needs
 
 same-length-2 : tie.Need-same-length-2
 same-length-2 c = search needs
@@ -28,9 +28,9 @@ returns-2 : tie.Need-returns-2
 unfolding countLine
 returns-2 c =
     let v = c .before .before .before .before .before .before .before .args .v in
-    told-accepted v (oneLine (v .count)) (c .before .before .before .before .if1 .left)
-    (c .before .before .one .ensures .0)
+    told-accepted v (twoLine (v .count) (v .stray)) (c .before .before .before .before .if1 .left)
+    (c .before .before .two .ensures .0)
 
 pub counted-spec : {M : Type 1} → statement M
 counted-spec =
-    tie.close (tie.spec refusal-requires same-length returns one-requires same-length-2 returns-2)
+    tie.close (tie.spec refusal-requires same-length returns two-requires same-length-2 returns-2)

@@ -47,19 +47,16 @@ limited-requires c κs =
     (c .before .before .before .if1 .left) .0) (omega (arith, before5 .before .shared-slice-known .given 2))
     (omega (arith, before5 .before .shared-slice-known .given 3))
 
-first-requires : tie.Need-first-requires
-first-requires c κs = search needs
-
 returns-3 : tie.Need-returns-3
 returns-3 c =
-    let before4 = c .before .before .before .before in
-    let framed = before4 .before .before .before .framed .ensures in
-    let args = before4 .before .before .before .before .before .args in
-    let passed = before4 .before .if1 .left in
+    let before3 = c .before .before .before in
+    let framed = before3 .before .before .before .framed .ensures in
+    let args = before3 .before .before .before .before .before .args in
+    let passed = before3 .before .if1 .left in
     walk-then-limit (args .s .now) (args .ero) (args .session) (args .pst)
-    (frame-none (args .s .now) (args .ero) (args .session) (args .pst) _ framed passed) _ _ _ _
-    (sym (before4 .not-agreed .ensures) ∙ c .before .before .before .if2 .left) (c .before .before .walk .ensures)
-    (frame-count (args .s .now) (args .ero) (args .session) (args .pst) _ framed passed) (c .before .limited .ensures) (c .first .ensures)
+    (frame-none (args .s .now) (args .ero) (args .session) (args .pst) _ framed passed) _ _ _
+    (sym (before3 .not-agreed .ensures) ∙ c .before .before .if2 .left) (c .before .walk .ensures)
+    (frame-count (args .s .now) (args .ero) (args .session) (args .pst) _ framed passed) (c .limited .ensures)
 
 pub judge-spec : {M : Type 1} → statement M
 judge-spec =
@@ -72,5 +69,4 @@ judge-spec =
     returns-2
     walk-requires
     limited-requires
-    first-requires
     returns-3)

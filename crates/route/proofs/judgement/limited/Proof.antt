@@ -1,16 +1,18 @@
 use mathlib.Core.Path.{_≡_, sym, _∙_}
+use borrow.Author.Needs.{needs}
+use borrow.Author.Tests.{eq-eqb, ne-eqb}
 use Rattle.route.specs.Parts.{limitedOf}
 use Rattle.route.specs.Routes.{rule12}
 use Rattle.route.proofs.Answer.{never-past}
-use borrow.Author.Needs.{needs}
 use Rattle.route.proofs.judgement.limited.Statement.{statement}
 use Rattle.route.proofs.judgement.limited.Tie as tie
 
+returns : tie.Need-returns
+unfolding limitedOf
+returns c = rw (ne-eqb _ _ (c .if1 .taken))
+
 enum-told : tie.Need-enum-told
 enum-told c = search needs
-
-accepted-requires : tie.Need-accepted-requires
-accepted-requires c κs = search needs
 
 enum-known-limit : tie.Need-enum-known-limit
 enum-known-limit c = search needs
@@ -24,32 +26,36 @@ nth-requires c κs = search needs
 refused-requires : tie.Need-refused-requires
 refused-requires c κs = search needs
 
-returns : tie.Need-returns
-unfolding limitedOf rule12
-returns c = c .refused .ensures ∙ rw (c .before .before .before .before .before .limit .given .1, ← c .before .before .before .past .ensures, c .before .before .if1 .taken, c .before .nth .ensures)
-
-accepted-requires-2 : tie.Need-accepted-requires-2
-accepted-requires-2 c κs = search needs
-
 returns-2 : tie.Need-returns-2
 unfolding limitedOf rule12
-returns-2 c = c .accepted .ensures ∙ rw (c .before .enum-told .given .1, never-past (c .before .before .before .before .args .ero))
+returns-2 c =
+    c .refused .ensures
+    ∙ rw (
+      eq-eqb _ _ (c .before .before .before .before .before .before .before .if1 .left),
+      c .before .before .before .before .before .limit .given .1,
+      ← c .before .before .before .past .ensures,
+      c .before .before .if2 .taken,
+      c .before .nth .ensures,
+    )
 
 returns-3 : tie.Need-returns-3
 unfolding limitedOf rule12
-returns-3 c = c .accepted2 .ensures ∙ rw (c .before .before .before .before .limit .given .1, ← c .before .before .past .ensures, c .before .if1 .left)
+returns-3 c = rw (eq-eqb _ _ (c .before .before .if1 .left), c .enum-told .given .1, never-past (c .before .before .before .before .before .args .ero))
+
+returns-4 : tie.Need-returns-4
+unfolding limitedOf rule12
+returns-4 c = rw (eq-eqb _ _ (c .before .before .before .before .before .if1 .left), c .before .before .before .limit .given .1, ← c .before .past .ensures, c .if2 .left)
 
 pub limited-spec : {M : Type 1} → statement M
 limited-spec =
     tie.close
     (tie.spec
+    returns
     enum-told
-    accepted-requires
     enum-known-limit
     past-requires
     nth-requires
     refused-requires
-    returns
-    accepted-requires-2
     returns-2
-    returns-3)
+    returns-3
+    returns-4)

@@ -1,0 +1,19 @@
+use native.Mathlib.Omega.{arith}
+use borrow.Author.Tests.{eq-eqb, ne-eqb}
+use Rattle.subobject.proofs.strays.stray_one.Statement.{statement}
+use Rattle.subobject.proofs.strays.stray_one.Tie as tie
+
+returns : tie.Need-returns
+returns c = (rw (ne-eqb _ _ (c .if1 .taken)), omega arith)
+
+returns-2 : tie.Need-returns-2
+returns-2 c = (rw (eq-eqb _ _ (c .before .before .if1 .left), ne-eqb _ _ (c .if2 .taken)), omega arith)
+
+returns-3 : tie.Need-returns-3
+returns-3 c = (rw (eq-eqb _ _ (c .before .before .before .if1 .left), eq-eqb _ _ (c .before .if2 .left), c .if3 .taken), omega arith)
+
+returns-4 : tie.Need-returns-4
+returns-4 c = (rw (eq-eqb _ _ (c .before .before .before .if1 .left), eq-eqb _ _ (c .before .if2 .left), c .if3 .left), omega arith)
+
+pub stray-one-spec : {M : Type 1} → statement M
+stray-one-spec = tie.close (tie.spec returns returns-2 returns-3 returns-4)

@@ -1,0 +1,38 @@
+use native.Mathlib.Omega.{arith}
+use borrow.Author.Needs.{needs}
+use Rattle.subobject_read.proofs.Laws.{read-short, read-cut, read-whole}
+use Rattle.subobject_read.proofs.answer.read_at.Statement.{statement}
+use Rattle.subobject_read.proofs.answer.read_at.Tie as tie
+
+sub-room : tie.Need-sub-room
+sub-room c = search needs
+
+returns : tie.Need-returns
+returns c = search read-short
+
+head-at-requires : tie.Need-head-at-requires
+head-at-requires c κs = search needs
+
+expected-requires : tie.Need-expected-requires
+expected-requires c κs = search needs
+
+returns-2 : tie.Need-returns-2
+returns-2 c = search read-cut
+
+strays-at-requires : tie.Need-strays-at-requires
+strays-at-requires c κs = search needs
+
+returns-3 : tie.Need-returns-3
+returns-3 c = search read-whole
+
+pub read-at-spec : {M : Type 1} → statement M
+read-at-spec =
+    tie.close
+    (tie.spec
+    sub-room
+    returns
+    head-at-requires
+    expected-requires
+    returns-2
+    strays-at-requires
+    returns-3)
