@@ -7,4 +7,5 @@ pub mod Reading
 pub mod Parts
 pub mod Subobjects
 pub mod Rewriting
+pub mod Mixed
 pub mod Strays

@@ -34,10 +34,13 @@ use Rattle.writer.specs.Writing.{headerOf}
 use Rattle.readback.specs.Runs.{Run, writeRun, Accepted, objectIn, bodyOf, objectOf, AllHeld, openSession}
 use Rattle.objects.specs.Objects.{srv6Setup}
 use Rattle.readback.specs.Runs.AllHeld.{more}
+use Rattle.writer_spare.specs.Spare.{zeros}
+use Rattle.readback.specs.Ignored.{ignoredAt, ignoredIn, ignoredOf}
+use Rattle.readback.proofs.Parts.{zeros-append, zeros-cons}
 use Rattle.readback.proofs.Images.AllFit.{also}
 use Rattle.readback.proofs.Images.{Fit, AllFit, Image, image, length-object}
 use Rattle.readback.proofs.Stands.{Stands, stands-octet, stands-first}
-use Rattle.readback.proofs.Segments.{Plain, plain, there, stands-fixed, stands-bits, head-back, segment-back, strays-back}
+use Rattle.readback.proofs.Segments.{Plain, plain, there, stands-fixed, stands-bits, head-back, segment-back, strays-back, ignored-back}
 
 -- the octets of a segment --------------------------------------------------------------------------------------
 
@@ -112,6 +115,7 @@ pub record Reads (ero : Bool) (s : List ℕ) (at : ℕ) (g : Segment) : Type 0 w
   pub r9 : rule9 (headOfSegment g) ≡ false
   pub r11 : rule11 (headOfSegment g) (bitsAt s at (headOfSegment g)) ≡ false
   pub strays : straysAt s ero at ≡ noStrays
+  pub ignored : zeros (ignoredAt s ero at) ≡ true
 
 -- Where no structure is there, nothing is summed.
 pub bits-off : (h : Head) (sum : ℕ) → hasStructure h ≡ false → rule11 h sum ≡ false
@@ -143,6 +147,7 @@ reads ero g t h f =
       r9 = f .r9;
       r11 = bits-back g t h (p .sided) (f .r11) (g .structured) refl;
       strays = strays-back g t ero h p;
+      ignored = ignored-back g t ero h p;
     }
 
 pub data AllRead (ero : Bool) (s : List ℕ) : List ℕ → List Segment → Type 0 where
@@ -206,6 +211,10 @@ module _ {ero : Bool} {s : List ℕ} where
   clean-there none i h = absurd (omega arith)
   clean-there (next r a) ℕ.zero h = r .strays
   clean-there (next r a) (ℕ.suc i) h = clean-there a i (omega arith)
+
+  ignored-all : {ps : List ℕ} {gs : List Segment} → AllRead ero s ps gs → zeros (ignoredIn s ero ps) ≡ true
+  ignored-all none = refl
+  ignored-all (next {p} {ps} r a) = zeros-append (ignoredAt s ero p) (ignoredIn s ero ps) (r .ignored) (ignored-all a)
 
   clean-all : {ps : List ℕ} {gs : List Segment} → AllRead ero s ps gs → strayIn s ero ps ≡ 0
   clean-all none = refl
@@ -308,6 +317,11 @@ some-there : (gs : List Segment) → (length (bodyOf gs) ≡ 0 → ⊥) → leng
 some-there [] h e = h refl
 some-there (g ∷ gs) h e = absurd (omega arith)
 
+-- The header's low bits are 0.
+header-zero : (ero : Bool) (gs : List Segment) → octetOf (objectOf ero gs) 1 % 16 ≡ 0
+unfolding octetOf objectOf headerOf
+header-zero ero gs = refl
+
 -- Whatever list of segments begin, adds and finish accept, the finished object is accepted, with that number of segments,
 -- in a session with SRv6 agreed, N set and no limit, under setup type 3; and segment i read is segment i given.
 module _ (ero : Bool) (gs : List Segment) (b : List ℕ) (w : Writer) (held : AllHeld gs) (accepted : Accepted (writeRun b w ero gs)) where
@@ -334,3 +348,10 @@ module _ (ero : Bool) (gs : List Segment) (b : List ℕ) (w : Writer) (held : Al
       (none-stray (objectOf ero gs) ero session pst
       (unstray (objectOf ero gs) ero (placesFrom 4 gs) gs (object-headed ero gs (m .most) (m .fours)) (object-apart ero gs held)
       (object-read ero gs held (m .fits)) (some-there gs (m .filled))))
+
+  pub written-zero : zeros (ignoredOf (objectIn (writeRun b w ero gs)) ero) ≡ true
+  written-zero =
+      let m = image ero gs b w accepted in
+      let places : placesOf (objectOf ero gs) ≡ placesFrom 4 gs = ap (λ (a : Apart). a .places) (object-apart ero gs held) in
+      let inside : zeros (ignoredIn (objectOf ero gs) ero (placesOf (objectOf ero gs))) ≡ true = rw places (ignored-all (object-read ero gs held (m .fits))) in
+      rw (m .object) (zeros-cons (octetOf (objectOf ero gs) 1 % 16) (ignoredIn (objectOf ero gs) ero (placesOf (objectOf ero gs))) (header-zero ero gs) inside)

@@ -21,6 +21,8 @@ use Rattle.writer_spare.specs.Spare.{zeros, tidyOf}
 use Rattle.writer_layout.proofs.Laws.{nt-known, nai-most, length-subobject, part-there, length-there, length-structure, four}
 use Rattle.octets.proofs.Said.{both-true, either-false, cond-most}
 use Rattle.writer_rules.specs.Refusals.{unfit}
+use Rattle.readback.specs.Ignored.{unassignedAt, assignedAt, endingAt, ignoredAt}
+use Rattle.readback.proofs.Parts.{zeros-append, zeros-cons}
 use Rattle.readback.proofs.Images.{Fit}
 use Rattle.readback.proofs.Stands.{Stands, stands-octet, stands-first, stands-left, stands-right, stands-part, padded-back}
 
@@ -302,3 +304,52 @@ module _ {s : List ℕ} {at : ℕ} (g : Segment) (t : Stands s at (subobjectOf g
   pub strays-back : (ero : Bool) → Held g → Plain ero g → straysAt s ero at ≡ noStrays
   unfolding straysAt
   strays-back ero h p = rw (head-back ero (p .flags)) (strays-by h (p .sided) (g .structured) refl)
+
+  -- Every ignored bit of a segment that was written is 0: those, V in an RRO, and T where there is no SID.
+  flags-octet : octetOf s (at + 3) ≡ bit (g .verify) * 8 + bit (g .structured) * 4 + flagF (g .nt) * 2 + bit (not (g .hassid))
+  unfolding fixedOctets headOfSegment
+  flags-octet = stands-octet (fixedPart g) stands-fixed 3 (omega arith)
+
+  unassigned-zero : zeros (unassignedAt s at) ≡ true
+  unfolding fixedOctets headOfSegment
+  unassigned-zero =
+      let e2 = stands-octet (fixedPart g) stands-fixed 2 (omega arith) in
+      let e4 = stands-octet (fixedPart g) stands-fixed 4 (omega arith) in
+      let e5 = stands-octet (fixedPart g) stands-fixed 5 (omega arith) in
+      let a = bit-most (g .verify) in
+      let b = bit-most (g .structured) in
+      let c = bit-most (eqb (g .nt) 0) in
+      let d = bit-most (not (g .hassid)) in
+      let low : octetOf s (at + 2) % 16 ≡ 0 = rw e2 (omega arith) in
+      let high : octetOf s (at + 3) / 16 ≡ 0 = rw flags-octet (omega (arith, a, b, c, d)) in
+      rw (low, high, e4, e5)
+
+  assigned-zero : (ero : Bool) → Plain ero g → zeros (assignedAt s ero at) ≡ true
+  unfolding headOfSegment
+  assigned-zero ero p = rw (head-back ero (p .flags), verified ero (p .flags), unstructured (g .hassid) (g .structured) (p .sided))
+    where
+      verified : (e : Bool) → (not e && (g .loose || g .verify)) ≡ false → cond e 0 (octetOf s (at + 3) / 8 % 2) ≡ 0
+      verified true q = refl
+      verified false q =
+          let v : g .verify ≡ false = either-false (g .loose) (g .verify) q .1 in
+          let o : octetOf s (at + 3) ≡ 0 * 8 + bit (g .structured) * 4 + flagF (g .nt) * 2 + bit (not (g .hassid)) = flags-octet ∙ rw v in
+          rw o (omega (arith, bit-most (g .structured), bit-most (eqb (g .nt) 0), bit-most (not (g .hassid))))
+
+      unstructured : (h t : Bool) → (t && not h) ≡ false → cond (eqb (bit (not h)) 0) 0 (bit t) ≡ 0
+      unstructured true t q = refl
+      unstructured false false q = refl
+      unstructured false true q = absurd (let w : _≡_ {A = ℕ} 0 1 = cc in omega arith)
+
+  ending-zero : (ero : Bool) → Held g → Plain ero g → (b : Bool) → g .structured ≡ b → zeros (endingAt s ero at) ≡ true
+  unfolding headOfSegment
+  ending-zero ero h p true e =
+      let there-now : hasStructure (headOfSegment g) ≡ true = there g (p .sided) ∙ e in
+      rw (head-back ero (p .flags), there-now, stands-part (0 ∷ 0 ∷ 0 ∷ 0 ∷ []) (stands-spare h e (p .sided)))
+  ending-zero ero h p false e =
+      let there-now : hasStructure (headOfSegment g) ≡ false = there g (p .sided) ∙ e in
+      rw (head-back ero (p .flags), there-now)
+
+  pub ignored-back : (ero : Bool) → Held g → Plain ero g → zeros (ignoredAt s ero at) ≡ true
+  ignored-back ero h p =
+      zeros-append (unassignedAt s at) (assignedAt s ero at ++ endingAt s ero at) unassigned-zero
+      (zeros-append (assignedAt s ero at) (endingAt s ero at) (assigned-zero ero p) (ending-zero ero h p (g .structured) refl))

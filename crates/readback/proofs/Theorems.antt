@@ -1,4 +1,4 @@
--- The theorems, over the definitions that the contracts of the writer and of the reader cite.
+-- The theorems of writing and reading, over the definitions that the contracts of the writer and of the reader cite.
 use Prim.Native.Nat.{ℕ, _%_, _≤_, _<_}
 use mathlib.Core.Path.{_≡_, sym, _∙_, ap}
 use mathlib.Core.Bool.{Bool, true, not, _&&_}
@@ -19,13 +19,14 @@ use Rattle.route.proofs.Answer.{accepted-count}
 use Rattle.route.proofs.Strays.{none-stray}
 use Rattle.writer_spare.specs.Spare.{zeros}
 use Rattle.writer.specs.declared.state.Writer.{Writer}
-use Rattle.readback.specs.Runs.{writeRun, Accepted, objectIn, AllHeld, openSession}
+use Rattle.readback.specs.Runs.{Act, writeRun, anyRun, takenIn, Accepted, objectIn, AllHeld, openSession}
 use Rattle.objects.specs.Objects.{typePlace, typeWorth, srv6Setup}
 use Rattle.readback.specs.Ignored.{Octets, strayBitsAt, strayBitsIn, assignedIn, ignoredOf, segmentsRead}
 use Rattle.readback.proofs.Images as images
 use Rattle.readback.proofs.Reading as reading
 use Rattle.readback.proofs.Rewriting as rewriting
 use Rattle.readback.proofs.Strays as strays
+use Rattle.readback.proofs.Mixed as mixed
 
 -- 1. Whatever list of segments begin, adds and finish accept, ERO or RRO, in any buffer and from any state: the finished object
 -- is accepted in a session with SRv6 agreed, N set and no limit, under setup type 3, with that number of segments, none of them stray,
@@ -37,6 +38,10 @@ module _ (ero : Bool) (gs : List Segment) (b : List ℕ) (w : Writer) (held : Al
   pub segments-back : (i : ℕ) → i < length gs → segmentOf (objectIn (writeRun b w ero gs)) ero openSession srv6Setup i
       ≡ record { verdict = acceptedWith (length gs); segment = getD gs i noSegment; strays = noStrays }
   segments-back i h = reading.segments-back ero gs b w held accepted i h
+
+  -- Every ignored bit of it is 0.
+  pub written-zero : zeros (ignoredOf (objectIn (writeRun b w ero gs)) ero) ≡ true
+  written-zero = reading.written-zero ero gs b w held accepted
 
   -- In any session and under any setup type it carries no stray segment.
   pub written-unstray : (session : Session) (pst : ℕ) → judgeOf (objectIn (writeRun b w ero gs)) ero session pst .stray ≡ 0
@@ -63,11 +68,24 @@ module _ (s : List ℕ) (ero : Bool) (session : Session) (pst : ℕ) (octets : O
   pub rewritten-zero : objectIn (writeRun b w ero (segmentsRead s ero session pst)) ≡ s → zeros (ignoredOf s ero) ≡ true
   rewritten-zero e = rewriting.rewritten-zero s ero session pst octets accepted b w room e
 
+  -- Every accepted object whose ignored bits were 0 is the written one of its segments, whoever wrote it and wherever.
+  pub the-written : zeros (ignoredOf s ero) ≡ true → (gs : List Segment) → segmentsRead s ero session pst ≡ gs
+      → (c : List ℕ) (v : Writer) → Accepted (writeRun c v ero gs) → objectIn (writeRun c v ero gs) ≡ s
+  the-written e gs q c v p =
+      let r = segmentsRead s ero session pst in
+      let p′ : Accepted (writeRun c v ero r) = rw (← q) at p in
+      rw (← q) (one-object ero r c b v w p′ rewritten) ∙ rewritten-same e
+
   -- What is rewritten octet for octet has no stray segment.
   pub rewritten-unstray : objectIn (writeRun b w ero (segmentsRead s ero session pst)) ≡ s → judgeOf s ero session pst .stray ≡ 0
   rewritten-unstray e = none-stray s ero session pst (strays.ignored-none s ero octets (rewritten-zero e))
 
--- 4. An accepted route carries 0 exactly if every bit named in `strayBitsAt` is 0, in each of its subobjects.
+-- 4. Adds that are refused, and finishes in between, change nothing: begin, adds and finishes in any order and then a finish that is
+-- accepted end, state and buffer, as begin, the adds that were accepted, and finish. So 1, 2 and 3 hold of such runs too.
+pub any-run : (b : List ℕ) (w : Writer) (ero : Bool) (cs : List Act) → Accepted (anyRun b w ero cs) → anyRun b w ero cs ≡ writeRun b w ero (takenIn b w ero cs)
+any-run b w ero cs e = mixed.any-run b w ero cs e
+
+-- 5. An accepted route carries 0 exactly if every bit named in `strayBitsAt` is 0, in each of its subobjects.
 module _ (s : List ℕ) (ero : Bool) (session : Session) (pst : ℕ) (octets : Octets s) (accepted : judgeOf s ero session pst .number ≡ 0) where
   pub unstray-zero : judgeOf s ero session pst .stray ≡ 0 → zeros (strayBitsIn s ero (placesOf s)) ≡ true
   unstray-zero e =

@@ -53,6 +53,31 @@ Accepted r = r .written .verdict .number ≡ 0
 abbrev pub objectIn : Run → List ℕ
 objectIn r = take (r .written .writer .at) (r .buffer)
 
+-- Calls in any order behind a begin: adds, refused ones too, and finishes in between.
+pub data Act : Type 0 where
+  adding : Segment → Act
+  finishing : Act
+
+-- Each call gets what the last one left, whether it was refused or not; a finish stands at the end.
+unfoldable pub actsRun : List ℕ → Writer → List Act → Run
+actsRun b w [] = finishRun b w
+actsRun b w (adding g ∷ cs) = actsRun (addBuffer b w g) (addAnswer b w g .writer) cs
+actsRun b w (finishing ∷ cs) = actsRun (finishBuffer b w) (finishAnswer b w .writer) cs
+
+unfoldable pub anyRun : List ℕ → Writer → Bool → List Act → Run
+anyRun b w ero cs = onward (beginRun b w ero) (λ b′ w′. actsRun b′ w′ cs)
+
+-- The segments of the adds that were accepted.
+unfoldable pub takenFrom : List ℕ → Writer → List Act → List Segment
+takenFrom b w [] = []
+takenFrom b w (adding g ∷ cs) =
+    kept (addAnswer b w g .verdict .number) (takenFrom (addBuffer b w g) (addAnswer b w g .writer) cs)
+    (g ∷ takenFrom (addBuffer b w g) (addAnswer b w g .writer) cs)
+takenFrom b w (finishing ∷ cs) = takenFrom (finishBuffer b w) (finishAnswer b w .writer) cs
+
+unfoldable pub takenIn : List ℕ → Writer → Bool → List Act → List Segment
+takenIn b w ero cs = takenFrom (beginBuffer b w ero) (beginAnswer b w ero .writer) cs
+
 -- what stands in it --------------------------------------------------------------------------------------------
 
 -- The octets of segments, one behind the other, and the object that holds them.
