@@ -16,7 +16,7 @@ use Rattle.board_record.specs.Sizes.{places, room, storeSize}
 use Rattle.board_record.specs.Table.{Table, keyAt, versionAt, lengthAt}
 use Rattle.board_record.specs.Search.{placeOf, nextOf}
 use Rattle.board_record.specs.Proper.{properB}
-use Rattle.board_record.proofs.Logic.{and-true}
+use Rattle.octets.proofs.Said.{both-true}
 use Rattle.board_record.proofs.Proper.{properB-sound}
 use Rattle.board_rules.specs.declared.answer.Change.{Change}
 use Rattle.board_rules.specs.declared.answer.Octets.{Octets}
@@ -56,7 +56,7 @@ module _ (b : Table) (store : List ℕ) (k : ℕ) where
       let h = rule-passed (not (isBoard b (length store))) 16 0 _ (ap (λ (y : Verdict). y .number) (sym e) ∙ z) in
       let g = rule-passed (not (inRange k)) 17 0 _ (h .1) in
       let f = rule-passed (not (ltb (placeOf b k) places && not (eqb (lengthAt b (placeOf b k)) 0))) 21 0 _ (g .1) in
-      ltb-true (placeOf b k) places (and-true (ltb (placeOf b k) places) _ (not-false (ltb (placeOf b k) places && not (eqb (lengthAt b (placeOf b k)) 0)) (f .0)) .0)
+      ltb-true (placeOf b k) places (both-true (ltb (placeOf b k) places) _ (not-false (ltb (placeOf b k) places && not (eqb (lengthAt b (placeOf b k)) 0)) (f .0)) .0)
 
   length-here : (at n : ℕ) → at < places → n ≡ lengthIn (b .lengths) at → n ≡ lengthAt b at
   unfolding lengthIn

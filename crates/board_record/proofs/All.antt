@@ -13,7 +13,8 @@ use borrow.Author.Tests.{eq-eqb, ne-eqb, eqb-true, eqb-false, not-true, not-fals
 use borrow.Author.Count.{below-more}
 use Rattle.board_record.specs.Sizes.{places}
 use Rattle.board_record.specs.Proper.{allBelow, freshB, newB, distinctB}
-use Rattle.board_record.proofs.Logic.{and-true, and-false, or-true, same?, from?}
+use Rattle.octets.proofs.Said.{both-true}
+use Rattle.board_record.proofs.Logic.{and-false, or-true, same?, from?}
 
 -- ---- every number below n passes
 pub all-none : (t : ℕ → Bool) → allBelow t 0 ≡ true
@@ -36,7 +37,7 @@ all-of t (suc n) h = rw (all-of t n (λ i l. h i (omega arith)), h n (omega arit
 pub all-at : (t : ℕ → Bool) (n : ℕ) → allBelow t n ≡ true → (i : ℕ) → i < n → t i ≡ true
 unfolding allBelow
 all-at t zero e i l = absurd (omega arith)
-all-at t (suc n) e i l = below-more (λ k. t k ≡ true) n (all-at t n (and-true (allBelow t n) (t n) e .0)) (and-true (allBelow t n) (t n) e .1) i (omega arith)
+all-at t (suc n) e i l = below-more (λ k. t k ≡ true) n (all-at t n (both-true (allBelow t n) (t n) e .0)) (both-true (allBelow t n) (t n) e .1) i (omega arith)
 
 -- ---- distinct, as a proposition, both ways
 distinct-apart : (xs : List ℕ) → distinctB xs ≡ true → (i j : ℕ) → j < i → i < places → (getD xs i 0 ≡ 0 → ⊥) → getD xs j 0 ≡ getD xs i 0 → ⊥

@@ -7,7 +7,8 @@ use mathlib.Core.List.{List}
 use mathlib.Core.Logic.{_⊎_, inl, inr, ⊎-elim}
 use lib.ListN.{getD, set, length, length-set}
 use lib.Seq.{getD-set-same, getD-set-other}
-use Rattle.board_record.specs.Sizes.{places, room, keyLeast, keyMost, versionMost, unit, bodyLeast}
+use Rattle.objects.specs.Objects.{unit}
+use Rattle.board_record.specs.Sizes.{places, room, keyLeast, keyMost, versionMost, bodyLeast}
 use Rattle.board_record.specs.Table.{Table, Sized, keyAt, versionAt, lengthAt, entryAt, Entry, Used, RemovalAt, changed}
 use Rattle.board_record.specs.Proper.{Proper}
 use Rattle.board_record.proofs.Logic.{same?}

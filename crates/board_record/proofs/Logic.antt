@@ -13,10 +13,6 @@ use borrow.Author.Tests.{eqb-true, eqb-false, leb-true, leb-false}
 pub true≢false : true ≡ false → ⊥
 true≢false p = let z : _≡_ {A = ℕ} 0 1 = cc in omega arith
 
-pub and-true : (a b : Bool) → a && b ≡ true → (a ≡ true) × (b ≡ true)
-and-true true b e = (refl, e)
-and-true false b e = absurd (true≢false (sym e))
-
 pub and-false : (b : Bool) → b && false ≡ false
 and-false true = refl
 and-false false = refl

@@ -9,10 +9,12 @@ use mathlib.Core.Logic.{_⊎_, inl, inr, ⊎-elim}
 use lib.ListN.{getD, replicate, length-replicate, getD-replicate}
 use lib.Dec.{eqb, ltb, leb}
 use borrow.Author.Tests.{eqb-true, eqb-false, leb-true, leb-false, ltb-true, ltb-false, eq-eqb, ne-eqb, lt-ltb, le-leb, not-true, not-false}
-use Rattle.board_record.specs.Sizes.{places, room, keyLeast, keyMost, versionMost, unit, bodyLeast}
+use Rattle.objects.specs.Objects.{unit}
+use Rattle.board_record.specs.Sizes.{places, room, keyLeast, keyMost, versionMost, bodyLeast}
 use Rattle.board_record.specs.Table.{Table, emptyTable, Sized, Entry, keyAt, versionAt, lengthAt, entryAt, Empty, Used, RemovalAt, PathAt}
 use Rattle.board_record.specs.Proper.{Proper, allBelow, placeOk, soundB, distinctB, properB}
-use Rattle.board_record.proofs.Logic.{and-true, same?, test-is}
+use Rattle.octets.proofs.Said.{both-true}
+use Rattle.board_record.proofs.Logic.{same?, test-is}
 use Rattle.board_record.proofs.All.{all-at, all-of, distinct-one, one-distinct}
 
 -- ---- one place
@@ -56,8 +58,8 @@ module _ (e : Entry) (top floor : ℕ) where
             four = omega arith;
           }
       size false q n a b c h =
-          let p = and-true _ _ h in
-          let r = and-true _ _ (p .0) in
+          let p = both-true _ _ h in
+          let r = both-true _ _ (p .0) in
           let z = eqb-false (e .length) 0 q in
           record {
             none = λ y. absurd (n y);
@@ -72,7 +74,7 @@ module _ (e : Entry) (top floor : ℕ) where
 
       go : (x : Bool) → eqb (e .key) 0 ≡ x → place? x ≡ true → Sound e top floor
       go true q h =
-          let p = and-true _ _ h in
+          let p = both-true _ _ h in
           let z = eqb-true (e .key) 0 q in
           let a = eqb-true (e .version) 0 (p .1) in
           let b = eqb-true (e .length) 0 (p .0) in
@@ -87,9 +89,9 @@ module _ (e : Entry) (top floor : ℕ) where
             four = omega arith;
           }
       go false q h =
-          let p = and-true _ _ h in
-          let r = and-true _ _ (p .0) in
-          let s = and-true _ _ (r .0) in
+          let p = both-true _ _ h in
+          let r = both-true _ _ (p .0) in
+          let s = both-true _ _ (r .0) in
           size (eqb (e .length) 0) refl (eqb-false (e .key) 0 q) (leb-true (e .key) keyMost (s .0)) (leb-true 1 (e .version) (s .1)) (leb-true (e .version) top (r .1)) (p .1)
 
   pub is-sound : Sound e top floor → placeOk e top floor ≡ true
@@ -134,18 +136,18 @@ sound-proper b f t at ks vs =
 pub properB-sound : (b : Table) → properB b ≡ true → (i : ℕ) → i < places → Sound (entryAt b i) (b .version) (b .floor)
 unfolding properB soundB
 properB-sound b e i l =
-    let p = and-true (leb (b .floor) (b .version) && leb (b .version) versionMost && allBelow (soundB b) places && distinctB (b .keys)) _ e in
-    let q = and-true (leb (b .floor) (b .version) && leb (b .version) versionMost && allBelow (soundB b) places) _ (p .0) in
-    let r = and-true (leb (b .floor) (b .version) && leb (b .version) versionMost) _ (q .0) in
+    let p = both-true (leb (b .floor) (b .version) && leb (b .version) versionMost && allBelow (soundB b) places && distinctB (b .keys)) _ e in
+    let q = both-true (leb (b .floor) (b .version) && leb (b .version) versionMost && allBelow (soundB b) places) _ (p .0) in
+    let r = both-true (leb (b .floor) (b .version) && leb (b .version) versionMost) _ (q .0) in
     sound (entryAt b i) (b .version) (b .floor) (all-at (soundB b) places (r .1) i l)
 
 pub proper-is : (b : Table) → properB b ≡ true → Proper b
 unfolding properB
 proper-is b e =
-    let p = and-true (leb (b .floor) (b .version) && leb (b .version) versionMost && allBelow (soundB b) places && distinctB (b .keys)) _ e in
-    let q = and-true (leb (b .floor) (b .version) && leb (b .version) versionMost && allBelow (soundB b) places) _ (p .0) in
-    let r = and-true (leb (b .floor) (b .version) && leb (b .version) versionMost) _ (q .0) in
-    let s = and-true (leb (b .floor) (b .version)) _ (r .0) in
+    let p = both-true (leb (b .floor) (b .version) && leb (b .version) versionMost && allBelow (soundB b) places && distinctB (b .keys)) _ e in
+    let q = both-true (leb (b .floor) (b .version) && leb (b .version) versionMost && allBelow (soundB b) places) _ (p .0) in
+    let r = both-true (leb (b .floor) (b .version) && leb (b .version) versionMost) _ (q .0) in
+    let s = both-true (leb (b .floor) (b .version)) _ (r .0) in
     let at : (i : ℕ) → i < places → Sound (entryAt b i) (b .version) (b .floor) = properB-sound b e in
     sound-proper b (leb-true (b .floor) (b .version) (s .0)) (leb-true (b .version) versionMost (s .1)) at
     (λ i j l m u y. distinct-one (b .keys) (q .1) i j l m u y)

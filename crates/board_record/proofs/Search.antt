@@ -16,7 +16,8 @@ use Rattle.board_record.specs.Table.{Table, keyAt, versionAt, lengthAt, 
 use Rattle.board_record.specs.Search.{firstWhere, leastWhere, KeyPlace, placeIn, placeOf, LowestEmpty, emptyOf, OldestRemoval, oldestOf}
 use Rattle.board_record.specs.Search.{ReportPlace, keeps, takes, drops, targetOf, floorAfter, Wanted, path, removal, NextChange, wantedB, nextOf}
 use Rattle.board_record.specs.Proper.{Proper}
-use Rattle.board_record.proofs.Logic.{true≢false, and-true, same?, from?}
+use Rattle.octets.proofs.Said.{both-true}
+use Rattle.board_record.proofs.Logic.{true≢false, same?, from?}
 
 -- ---- the first that passes
 pub data IsFirst (t : ℕ → Bool) (n i : ℕ) : Type 0 where
@@ -87,7 +88,7 @@ least-is t v (suc n) l = least-step t v n (leastWhere t v n) (omega arith) (leas
 pub removal-is : (b : Table) (i : ℕ) → removalB b i ≡ true → RemovalAt b i
 unfolding removalB
 removal-is b i e =
-    let p = and-true (not (eqb (keyAt b i) 0)) (eqb (lengthAt b i) 0) e in
+    let p = both-true (not (eqb (keyAt b i) 0)) (eqb (lengthAt b i) 0) e in
     record { used = eqb-false (keyAt b i) 0 (not-true (eqb (keyAt b i) 0) (p .0)); bare = eqb-true (lengthAt b i) 0 (p .1) }
 
 pub is-removal : (b : Table) (i : ℕ) → RemovalAt b i → removalB b i ≡ true
@@ -99,10 +100,10 @@ unfolding wantedB
 wanted-is b s w i e = go (eqb (lengthAt b i) 0) refl (p .1)
   where
     p : (not (eqb (keyAt b i) 0) && ltb w (versionAt b i) ≡ true) × ((not (eqb (lengthAt b i) 0) || ltb s (versionAt b i)) ≡ true)
-    p = and-true (not (eqb (keyAt b i) 0) && ltb w (versionAt b i)) (not (eqb (lengthAt b i) 0) || ltb s (versionAt b i)) e
+    p = both-true (not (eqb (keyAt b i) 0) && ltb w (versionAt b i)) (not (eqb (lengthAt b i) 0) || ltb s (versionAt b i)) e
 
     q : (not (eqb (keyAt b i) 0) ≡ true) × (ltb w (versionAt b i) ≡ true)
-    q = and-true (not (eqb (keyAt b i) 0)) (ltb w (versionAt b i)) (p .0)
+    q = both-true (not (eqb (keyAt b i) 0)) (ltb w (versionAt b i)) (p .0)
 
     used : Used b i
     used = eqb-false (keyAt b i) 0 (not-true (eqb (keyAt b i) 0) (q .0))

@@ -7,7 +7,8 @@ use mathlib.Core.Bool.{Bool, true, false, not, cond, _&&_, _||_}
 use mathlib.Core.List.{List}
 use lib.ListN.{getD}
 use lib.Dec.{eqb, ltb, leb}
-use Rattle.board_record.specs.Sizes.{places, room, keyLeast, keyMost, versionMost, unit, bodyLeast}
+use Rattle.objects.specs.Objects.{unit}
+use Rattle.board_record.specs.Sizes.{places, room, keyLeast, keyMost, versionMost, bodyLeast}
 use Rattle.board_record.specs.Table.{Table, Entry, keyAt, versionAt, lengthAt, entryAt, Empty, Used, RemovalAt, PathAt}
 
 -- the parts by name; of two places with one key or one version it is enough to say that they are the same place

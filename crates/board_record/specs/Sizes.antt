@@ -24,13 +24,6 @@ keyMost = 1048574
 abbrev pub versionMost : ℕ
 versionMost = 18446744073709551614
 
--- "path lengths multiples of 4 from 24 to 384"
-abbrev pub unit : ℕ
-unit = 4
-
+-- "path lengths multiples of 4 from 24 to 384" (the 4 is Objects.unit)
 abbrev pub bodyLeast : ℕ
 bodyLeast = 24
-
--- octets of an ERO before its body: "a path body (the ERO after its header)"
-abbrev pub header : ℕ
-header = 4

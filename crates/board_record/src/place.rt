@@ -4,7 +4,7 @@ ghost use Rattle.board_record.specs.Proper.{placeOk};
 
 const KEY_MOST: u32 = super::size::KEY_MOST as u32;
 
-const UNIT: u16 = super::size::UNIT as u16;
+const UNIT: u16 = objects::UNIT as u16;
 
 const BODY_LEAST: u16 = super::size::BODY_LEAST as u16;
 

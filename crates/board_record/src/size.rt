@@ -17,10 +17,5 @@ pub const KEY_MOST: u64 = 1048574;
 // the version is at most 2^64-2
 pub const VERSION_MOST: u64 = 18446744073709551614;
 
-// path lengths are multiples of 4 from 24 to ROOM
-pub const UNIT: usize = 4;
-
+// path lengths are multiples of 4 (objects::UNIT) from 24 to ROOM
 pub const BODY_LEAST: usize = 24;
-
-// octets of an ERO before its body
-pub const HEADER: usize = 4;

@@ -15,7 +15,7 @@ use Rattle.board_record.specs.Sizes.{places, storeSize, keyLeast, keyMost, vers
 use Rattle.board_record.specs.Table.{Table, tableOf}
 use Rattle.board_record.specs.Search.{placeOf}
 use Rattle.board_record.specs.Proper.{properB}
-use Rattle.board_record.proofs.Logic.{and-true}
+use Rattle.octets.proofs.Said.{both-true}
 use Rattle.board_record.proofs.Search.{key-place-is}
 use Rattle.board_record.proofs.Proper.{proper-is}
 use Rattle.board_rules.specs.Rules.{Outcome, isBoard, inRange, lengthIn, outcomeOf}
@@ -59,7 +59,7 @@ unfolding removeRules
 remove-place k at n top v e z =
     let h = rule-passed (not (inRange k)) 17 0 _ (ap (λ (y : Verdict). y .number) (sym e) ∙ z) in
     let g = rule-passed (not (ltb at places && not (eqb n 0))) 21 0 _ (h .1) in
-    ltb-true at places (and-true (ltb at places) (not (eqb n 0)) (not-false (ltb at places && not (eqb n 0)) (g .0)) .0)
+    ltb-true at places (both-true (ltb at places) (not (eqb n 0)) (not-false (ltb at places && not (eqb n 0)) (g .0)) .0)
 
 -- ---- compact
 module _ (b : Table) (store : List ℕ) (m : ℕ) where

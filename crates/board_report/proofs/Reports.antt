@@ -16,7 +16,8 @@ use Rattle.octets.proofs.Laws.{rest-lent}
 use Rattle.session.specs.declared.Session.{Session}
 use Rattle.route.specs.Routes.{judgeOf}
 use Rattle.route.proofs.Answer.{accepted-body}
-use Rattle.board_record.specs.Sizes.{places, room, storeSize, keyMost, versionMost, header}
+use Rattle.objects.specs.Objects.{header}
+use Rattle.board_record.specs.Sizes.{places, room, storeSize, keyMost, versionMost}
 use Rattle.board_record.specs.Table.{Table, tableOf}
 use Rattle.board_record.specs.Search.{targetOf, floorAfter}
 use Rattle.board_record.specs.Proper.{properB}

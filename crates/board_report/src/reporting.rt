@@ -3,19 +3,19 @@
 // removal's version. The body, which is the ERO after its header, is written at the place's start.
 ghost use mathlib.Core.Path.{_≡_};
 ghost use Prim.Native.Nat.{_-_};
-ghost use Rattle.board_record.specs.Sizes.{header};
+ghost use Rattle.objects.specs.Objects.{header};
 ghost use Rattle.board_record.specs.Table.{tableOf};
 ghost use Rattle.board_rules.specs.Rules.{outcomeOf};
 ghost use Rattle.board_rules.specs.Report.{reportAnswer, reportStore};
 use answers::NOT_A_BOARD;
 use answers::Verdict;
 use answers::refused;
-use board_record::HEADER;
 use board_rules::is_board;
 use board_rules::report_rules;
 use board_rules::start_of;
 use board_search::floor_after;
 use board_search::target;
+use objects::HEADER;
 use octets::lay;
 use route::judge;
 use session::Session;

@@ -16,11 +16,13 @@ use Rattle.answers.specs.Verdicts.{kept}
 use Rattle.session.specs.declared.Session.{Session}
 use Rattle.route.specs.Routes.{judgeOf}
 use Rattle.route.proofs.Answer.{accepted-body}
-use Rattle.board_record.specs.Sizes.{places, room, unit, bodyLeast, versionMost}
+use Rattle.objects.specs.Objects.{unit}
+use Rattle.board_record.specs.Sizes.{places, room, bodyLeast, versionMost}
 use Rattle.board_record.specs.Table.{Table, tableOf, Sized, keyAt, versionAt, lengthAt, Empty, Used, RemovalAt, bearing, entryAt, changed, removalB}
 use Rattle.board_record.specs.Search.{KeyPlace, placeOf, LowestEmpty, OldestRemoval, ReportPlace, keeps, takes, drops, targetOf, floorAfter}
 use Rattle.board_record.specs.Proper.{Proper}
-use Rattle.board_record.proofs.Logic.{true≢false, and-true, same?}
+use Rattle.octets.proofs.Said.{both-true}
+use Rattle.board_record.proofs.Logic.{true≢false, same?}
 use Rattle.board_record.proofs.Search.{removal-is, is-removal, report-place-is, floor-keeps, floor-takes, floor-drops}
 use Rattle.board_record.proofs.Proper.{Sound, proper-sound, sound-proper}
 use Rattle.board_record.proofs.Changed.{Storable, Fitting, changed-sized, changed-proper}
@@ -158,7 +160,7 @@ module _ (b : Table) (m : ℕ) where
 
   dropped-is : (i : ℕ) → dropped b m i ≡ true → RemovalAt b i × (versionAt b i ≤ m)
   unfolding dropped
-  dropped-is i e = let p = and-true (removalB b i) (leb (versionAt b i) m) e in (removal-is b i (p .0), leb-true (versionAt b i) m (p .1))
+  dropped-is i e = let p = both-true (removalB b i) (leb (versionAt b i) m) e in (removal-is b i (p .0), leb-true (versionAt b i) m (p .1))
 
   kept-above : (i : ℕ) → dropped b m i ≡ false → RemovalAt b i → m < versionAt b i
   unfolding dropped

@@ -8,7 +8,7 @@ use Rattle.answers.specs.declared.verdict.Verdict.{Verdict}
 use Rattle.board_record.specs.Sizes.{storeSize, versionMost}
 use Rattle.board_record.specs.Table.{Table}
 use Rattle.board_record.specs.Proper.{properB}
-use Rattle.board_record.proofs.Logic.{and-true}
+use Rattle.octets.proofs.Said.{both-true}
 use Rattle.board_record.proofs.Proper.{proper-is}
 use Rattle.board_rules.specs.Rules.{Outcome, isBoard, outcomeOf}
 
@@ -21,11 +21,11 @@ board-is b n r e t = sym e ∙ not-false r t
 
 pub board-room : (b : Table) (n : ℕ) → isBoard b n ≡ true → storeSize ≤ n
 unfolding isBoard
-board-room b n e = leb-true storeSize n (and-true (leb storeSize n) (properB b) e .0)
+board-room b n e = leb-true storeSize n (both-true (leb storeSize n) (properB b) e .0)
 
 pub board-proper : (b : Table) (n : ℕ) → isBoard b n ≡ true → properB b ≡ true
 unfolding isBoard
-board-proper b n e = and-true (leb storeSize n) (properB b) e .1
+board-proper b n e = both-true (leb storeSize n) (properB b) e .1
 
 pub version-room : (b : Table) (n : ℕ) (r : Bool) → r ≡ isBoard b n → not r ≡ false → b .version ≤ versionMost
 version-room b n r e t = proper-is b (board-proper b n (board-is b n r e t)) .version-in

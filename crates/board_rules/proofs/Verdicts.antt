@@ -17,7 +17,8 @@ use Rattle.board_record.specs.Sizes.{places, room, storeSize, keyLeast, keyMost
 use Rattle.board_record.specs.Table.{Table, lengthAt, PathAt}
 use Rattle.board_record.specs.Search.{placeOf, KeyPlace, targetOf}
 use Rattle.board_record.specs.Proper.{Proper, properB}
-use Rattle.board_record.proofs.Logic.{true≢false, and-true, and-false, from?}
+use Rattle.octets.proofs.Said.{both-true}
+use Rattle.board_record.proofs.Logic.{true≢false, and-false, from?}
 use Rattle.board_record.proofs.Search.{key-place-is, Full, full-is, is-full}
 use Rattle.board_record.proofs.Proper.{proper-is, is-proper}
 use Rattle.board_rules.specs.Rules.{isBoard, inRange, hasPath}
@@ -51,7 +52,7 @@ route-passed route x e = go (eqb (route .number) 0) refl e
 pub range-passed : (k : ℕ) → not (inRange k) ≡ false → (keyLeast ≤ k) × (k ≤ keyMost)
 unfolding inRange
 range-passed k e =
-    let p = and-true (leb keyLeast k) (leb k keyMost) (not-false (leb keyLeast k && leb k keyMost) e) in
+    let p = both-true (leb keyLeast k) (leb k keyMost) (not-false (leb keyLeast k && leb k keyMost) e) in
     (leb-true keyLeast k (p .0), leb-true k keyMost (p .1))
 
 -- ---- 17: "exactly if the store is shorter than 49,152 octets or the record isn't proper"
@@ -62,7 +63,7 @@ pub record Whole (b : Table) (n : ℕ) : Type 0 where
 pub board-whole : (b : Table) (n : ℕ) → isBoard b n ≡ true → Whole b n
 unfolding isBoard
 board-whole b n e =
-    let p = and-true (leb storeSize n) (properB b) e in
+    let p = both-true (leb storeSize n) (properB b) e in
     record { store = leb-true storeSize n (p .0); proper = proper-is b (p .1) }
 
 pub whole-board : (b : Table) (n : ℕ) → Whole b n → isBoard b n ≡ true
@@ -141,7 +142,7 @@ pub record RemovePassed (b : Table) (store : List ℕ) (k : ℕ) : Type 0 where
 pub path-there : (b : Table) (k : ℕ) → not (hasPath b k) ≡ false → KeyPlace b k (placeOf b k) × (lengthAt b (placeOf b k) ≡ 0 → ⊥)
 unfolding hasPath
 path-there b k e =
-    let p = and-true (ltb (placeOf b k) places) (not (eqb (lengthAt b (placeOf b k)) 0)) (not-false (ltb (placeOf b k) places && not (eqb (lengthAt b (placeOf b k)) 0)) e) in
+    let p = both-true (ltb (placeOf b k) places) (not (eqb (lengthAt b (placeOf b k)) 0)) (not-false (ltb (placeOf b k) places && not (eqb (lengthAt b (placeOf b k)) 0)) e) in
     (key-place-is b k (ltb-true (placeOf b k) places (p .0)), eqb-false (lengthAt b (placeOf b k)) 0 (not-true (eqb (lengthAt b (placeOf b k)) 0) (p .1)))
 
 pub remove-passed : (b : Table) (store : List ℕ) (k : ℕ) → removeVerdict b store k .number ≡ 0 → RemovePassed b store k

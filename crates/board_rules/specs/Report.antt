@@ -10,7 +10,8 @@ use Rattle.answers.specs.Verdicts.{refusedBy, kept}
 use Rattle.octets.specs.Octets.{placed}
 use Rattle.session.specs.declared.Session.{Session}
 use Rattle.route.specs.Routes.{judgeOf}
-use Rattle.board_record.specs.Sizes.{places, room, versionMost, header}
+use Rattle.objects.specs.Objects.{header}
+use Rattle.board_record.specs.Sizes.{places, room, versionMost}
 use Rattle.board_record.specs.Table.{Table, bearing, changed}
 use Rattle.board_record.specs.Search.{targetOf, floorAfter}
 use Rattle.board_rules.specs.Rules.{Outcome, isBoard, inRange}

@@ -7,6 +7,7 @@ use lib.Dec.{eqb, ltb}
 use lib.ListN.{take, getD}
 use native.Mathlib.Omega.{arith}
 use borrow.Author.Tests.{lt-ltb}
+use Rattle.octets.proofs.Said.{both-true}
 use Rattle.answers.specs.declared.verdict.Verdict.{Verdict}
 use Rattle.session.specs.declared.Limit.{Limit}
 use Rattle.session.specs.declared.Limit.the-variants.{Free, Most}
@@ -50,10 +51,6 @@ pub record OneLine (text : List ℕ) : Type 0 where
 
 -- ## Octets
 
-and-true : (a b : Bool) → (a && b) ≡ true → (a ≡ true) × (b ≡ true)
-and-true true b e = (refl, e)
-and-true false b e = absurd (let z : _≡_ {A = ℕ} 0 1 = cc in omega arith)
-
 clear-cons : (c : ℕ) (cs : List ℕ) → 31 < c → clear cs ≡ true → clear (c ∷ cs) ≡ true
 unfolding clear
 clear-cons c cs h e = rw (lt-ltb 31 c h) e
@@ -61,7 +58,7 @@ clear-cons c cs h e = rw (lt-ltb 31 c h) e
 clear-append : (a b : List ℕ) → clear a ≡ true → clear b ≡ true → clear (a ++ b) ≡ true
 unfolding clear
 clear-append [] b p q = q
-clear-append (c ∷ cs) b p q = let h = and-true (ltb 31 c) (clear cs) p in rw (h .0) (clear-append cs b (h .1) q)
+clear-append (c ∷ cs) b p q = let h = both-true (ltb 31 c) (clear cs) p in rw (h .0) (clear-append cs b (h .1) q)
 
 clear-none : clear [] ≡ true
 unfolding clear
@@ -123,7 +120,7 @@ pub line-one : (ws : List (List ℕ)) (w : List ℕ) → clear w ≡ true → al
 unfolding allClear
 line-one [] w h a = record { line = w; bare = h; same = refl }
 line-one (x ∷ ws) w h a =
-    let b = and-true (clear x) (allClear ws) a in
+    let b = both-true (clear x) (allClear ws) a in
     let r = line-one ws (w ++ (space ∷ x)) (clear-append w (space ∷ x) h (clear-cons space x (omega arith) (b .0))) (b .1) in
     record { line = r .line; bare = r .bare; same = sym (append-assoc w (space ∷ x) _) ∙ r .same }
 

@@ -7,6 +7,7 @@ use lib.Dec.{eqb, ltb}
 use lib.ListN.{length}
 use native.Mathlib.Omega.{arith}
 use borrow.Author.Tests.{eqb-true, leb-true}
+use Rattle.octets.proofs.Said.{both-true}
 use Rattle.words.specs.Words.{space, dash, wordOf, wordsIn, sameOf}
 use Rattle.decimal.specs.Decimal.{isAtMost, isNumber, isNone, decimalValue}
 use Rattle.hexadecimal.specs.Hexadecimal.{octetsOf, isOctets, isSid, isNai}
@@ -18,32 +19,28 @@ use Rattle.command.specs.declared.Command.{Command}
 use Rattle.command.specs.Commands.{skipped, longest, bareCommand, commanded, commandOf}
 use Rattle.console_writer.specs.Composing.{AddForm}
 
-and-true : (a b : Bool) → (a && b) ≡ true → (a ≡ true) × (b ≡ true)
-and-true true b e = (refl, e)
-and-true false b e = absurd (let z : _≡_ {A = ℕ} 0 1 = cc in omega arith)
-
 -- ## Words
 
 at-most : (most : ℕ) (w : List ℕ) → isAtMost most w ≡ true → decimalValue w ≤ most
 unfolding isAtMost
-at-most most w e = leb-true (decimalValue w) most (and-true (isNumber w) _ e .1)
+at-most most w e = leb-true (decimalValue w) most (both-true (isNumber w) _ e .1)
 
 none-empty : (w : List ℕ) → sameOf w (dash ∷ []) ≡ true → length (octetsOf w) ≤ 16
 unfolding sameOf octetsOf
 none-empty [] e = omega arith
 none-empty (a ∷ []) e = omega arith
-none-empty (a ∷ b ∷ r) e = absurd (let f = and-true (eqb a dash) false e .1 in let z : _≡_ {A = ℕ} 0 1 = cc in omega arith)
+none-empty (a ∷ b ∷ r) e = absurd (let f = both-true (eqb a dash) false e .1 in let z : _≡_ {A = ℕ} 0 1 = cc in omega arith)
 
 sid-short : (w : List ℕ) → isSid w ≡ true → length (octetsOf w) ≤ 16
 unfolding isSid isNone
-sid-short w e = go (sameOf w (dash ∷ [])) refl (and-true (isOctets w) _ e .1) where
+sid-short w e = go (sameOf w (dash ∷ [])) refl (both-true (isOctets w) _ e .1) where
   go : (b : Bool) → sameOf w (dash ∷ []) ≡ b → (b || eqb (length (octetsOf w)) 16) ≡ true → length (octetsOf w) ≤ 16
   go true h f = none-empty w h
   go false h f = let k = eqb-true (length (octetsOf w)) 16 f in omega arith
 
 nai-short : (w : List ℕ) → isNai w ≡ true → length (octetsOf w) ≤ 40
 unfolding isNai
-nai-short w e = leb-true (length (octetsOf w)) 40 (and-true (isOctets w) _ e .1)
+nai-short w e = leb-true (length (octetsOf w)) 40 (both-true (isOctets w) _ e .1)
 
 -- ## Commands
 
@@ -70,10 +67,10 @@ in-form line w p q e =
 
 fit-words : (ks : List Kind) (line : List ℕ) → formed ks line ≡ true → fitFrom ks line 1 ≡ true
 unfolding formed
-fit-words ks line e = and-true (eqb (wordsIn space line) (suc (length ks))) (fitFrom ks line 1) e .1
+fit-words ks line e = both-true (eqb (wordsIn space line) (suc (length ks))) (fitFrom ks line 1) e .1
 
 fit-word : (k : Kind) (ks : List Kind) (line : List ℕ) (i : ℕ) → fitFrom (k ∷ ks) line i ≡ true → (fits k (wordOf space line i) ≡ true) × (fitFrom ks line (suc i) ≡ true)
-fit-word k ks line i e = and-true (fits k (wordOf space line i)) (fitFrom ks line (suc i)) e
+fit-word k ks line i e = both-true (fits k (wordOf space line i)) (fitFrom ks line (suc i)) e
 
 begin-at : (line : List ℕ) → formed (kindsOf v.Begin) line ≡ true → decimalValue (wordOf space line 2) ≤ mostSize
 begin-at line e =

@@ -10,7 +10,7 @@ use lib.Dec.{leb}
 use borrow.Author.Tests.{leb-true}
 use Rattle.board_record.specs.Sizes.{places}
 use Rattle.board_record.specs.Table.{Table, keyAt, versionAt, lengthAt, Used, RemovalAt, removalB}
-use Rattle.board_record.proofs.Logic.{and-true}
+use Rattle.octets.proofs.Said.{both-true}
 use Rattle.board_record.proofs.Search.{removal-is}
 use Rattle.board_rules.specs.Body.{octetsAt}
 use Rattle.board_rules.proofs.Keeps.{length-row, compacted-key, compacted-version, compacted-proper}
@@ -23,7 +23,7 @@ use Rattle.follow.proofs.Table.{Stands}
 
 drop-means : (b : Table) (c i : ℕ) → dropped b c i ≡ true → RemovalAt b i × (versionAt b i ≤ c)
 unfolding dropped
-drop-means b c i e = let p = and-true (removalB b i) (leb (versionAt b i) c) e in (removal-is b i (p .0), leb-true (versionAt b i) c (p .1))
+drop-means b c i e = let p = both-true (removalB b i) (leb (versionAt b i) c) e in (removal-is b i (p .0), leb-true (versionAt b i) c (p .1))
 
 drop-dec : (b : Table) (c i : ℕ) → (dropped b c i ≡ true) ⊎ (dropped b c i ≡ false)
 drop-dec b c i = go (dropped b c i) refl

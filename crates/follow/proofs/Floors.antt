@@ -12,7 +12,8 @@ use borrow.Author.Tests.{eq-eqb, ne-eqb, eqb-true, eqb-false, lt-ltb, le-ltb, lt
 use borrow.Author.Count.{below-more}
 use Rattle.board_record.specs.Table.{Table, keyAt, versionAt, lengthAt}
 use Rattle.board_record.specs.Search.{ReportPlace, keeps, takes, drops, floorAfter}
-use Rattle.board_record.proofs.Logic.{true≢false, and-true, same?, test-is}
+use Rattle.octets.proofs.Said.{both-true}
+use Rattle.board_record.proofs.Logic.{true≢false, same?, test-is}
 use Rattle.board_record.proofs.Proper.{proper-sound}
 use Rattle.board_record.proofs.Search.{floor-keeps, floor-takes, floor-drops}
 use Rattle.follow.specs.Story.{Body, Story, held, last}
@@ -175,7 +176,7 @@ module _ (b : Table) (store : List ℕ) (h : Story) (r : Stands b store h) (k i 
       let t : mark? (keyAt b i) ≡ true = rw (place-stands b store h r i l u, g .1, octets-mark b store i e) in
       least-value mark? (last h) mark-pos keyEnd (keyAt b i) (omega (arith, proper-sound b (r .proper) i l .key)) t
       (λ j m q.
-      let p = and-true (standing h (b .floor) j) _ q in
+      let p = both-true (standing h (b .floor) j) _ q in
       let y = stands-place b store h r j (p .0) in
       let v : keyAt b (y .0) ≡ 0 → ⊥ = λ z. stands-not-zero b store h r j (p .0) (sym (y .2) ∙ z) in
       let d = r .here (y .0) (y .1) v in
