@@ -368,29 +368,29 @@ def follow(out, s, w, turns):
 
 
 def trial_board():
-    out = ["# the empty board", "board", "mark", "body 1", "remove 1", "next 0 0", "next 1 0", "next 0 1", "compact 0", "compact 1", "report 1 3 " + hexes(E)]
+    out = ["# the empty board", "board", "mark", "chain", "body 1", "remove 1", "next 0 0", "next 1 0", "next 0 1", "compact 0", "compact 1", "report 1 3 " + hexes(E)]
     out += ["pcc " + hexes(opened(setup([3], srv6(2, [])))), "pce " + hexes(O)]
     A, B = hexes(E), hexes(route([sub(nt=2), sub()]))
-    out += ["# report A, report B, remove A; mark (1, 1); compact 3", "report 10 3 " + A, "report 20 3 " + B, "remove 10", "board", "next 1 1", "next 1 2", "next 1 3", "mark", "next 3 0", "next 3 2",
-            "compact 3", "board", "next 2 2", "next 3 3", "next 3 0", "next 3 2", "next 2 3", "next 0 3", "next 3 4", "next 4 3", "compact 2", "board", "compact 4"]
+    out += ["# report A, report B, remove A; mark (1, 1); compact 3", "report 10 3 " + A, "chain", "report 20 3 " + B, "chain", "remove 10", "chain", "board", "next 1 1", "next 1 2", "next 1 3", "mark", "next 3 0", "next 3 2",
+            "compact 3", "chain", "board", "next 2 2", "next 3 3", "next 3 0", "next 3 2", "next 2 3", "next 0 3", "next 3 4", "next 4 3", "compact 2", "board", "compact 4"]
     out.append("# keys, and the order of the numbers")
     for key in (0, 1, 1048574, 1048575, 2**32 + 1, ALL64):
         out += ["report %d 3 %s" % (key, A), "report %d 1 %s" % (key, A), "body %d" % key, "remove %d" % key, "body %d" % key, "remove %d" % key]
     out.append("# refused routes with their places, and a body of 384 octets and more")
     for b in (E[:27], route([]), route([sub(), sub(nt=3)]), route([sub(), sub(s=1)]), route([sub()] * 16), route([sub()] * 17), route([sub(nt=6, t=1)] * 5 + [sub()]), route([sub(nt=6, t=1)] * 5 + [sub(nt=2)])):
         out += ["report 30 3 " + hexes(b), "body 30", "board"]
-    out += ["report 30 3 " + A, "body 30", "report 30 3 " + A, "body 30", "board", "# a removal's key keeps its place", "remove 30", "report 30 3 " + B, "body 30", "board"]
+    out += ["report 30 3 " + A, "body 30", "report 30 3 " + A, "body 30", "board", "# a removal's key keeps its place", "remove 30", "report 30 3 " + B, "body 30", "board", "chain"]
     out.append("# all places: 127 paths and a removal, then 128 paths")
     for k in range(100, 225):
         out.append("report %d 3 %s" % (k, hexes(route([sub(behaviour=k)]))))
-    out += ["board", "report 300 3 " + A, "report 301 3 " + A, "report 302 3 " + A, "report 303 3 " + A, "board", "body 300", "body 301", "remove 150", "board", "report 304 3 " + B, "board", "body 150", "body 304", "remove 160", "remove 151", "remove 155",
+    out += ["board", "report 300 3 " + A, "report 301 3 " + A, "report 302 3 " + A, "report 303 3 " + A, "board", "chain", "body 300", "body 301", "remove 150", "board", "chain", "report 304 3 " + B, "board", "chain", "body 150", "body 304", "remove 160", "remove 151", "remove 155",
             "report 305 3 " + A, "board", "report 151 3 " + A, "board", "report 306 3 " + A, "board", "report 307 3 " + A, "report 307 3 " + E[:27].hex(), "board"]
     out.append("# what followers are handed, from the empty one, from a mark, and after compaction")
     follow(out, 0, 0, 1)
     r = random.Random(1)
     for _ in range(60):
         out.append("next %d %d" % (r.randrange(0, 160), r.randrange(0, 160)))
-    out += ["compact 145", "board", "next 144 144", "next 145 0", "next 145 145", "next 0 145"]
+    out += ["compact 145", "board", "chain", "next 144 144", "next 145 0", "next 145 145", "next 0 145"]
     out.append("# a longer history")
     r = random.Random(7)
     version, keys = 145, list(range(1, 150))
@@ -408,7 +408,7 @@ def trial_board():
         elif roll < 0.80:
             out.append("body %d" % key)
         elif roll < 0.82:
-            out += ["board", "mark"]
+            out += ["board", "mark", "chain"]
         else:
             s = r.randrange(max(0, version - 200), version + 3)
             out.append("next %d %d" % (s, max(0, s + r.randrange(-60, 60))))
@@ -419,7 +419,7 @@ def trial_board():
 
 
 def console():
-    out = ["", "# the start: an empty board, both OPENs refused, the writer at place 0 of an ERO with no buffer", "board", "mark", "lent", "finish", "ero 3 " + hexes(E), "ero 3 -", "",
+    out = ["", "# the start: an empty board, both OPENs refused, the writer at place 0 of an ERO with no buffer", "board", "mark", "chain", "lent", "finish", "ero 3 " + hexes(E), "ero 3 -", "",
            "pcc " + hexes(O), "pce " + hexes(O).lower(), "ero 3 " + hexes(E), "ero 03 " + hexes(E).lower(), "rro 3 " + hexes(E), "ero-segment 3 0 " + hexes(E)]
     odd = E[:6] + b"\x0f\xf2\x01\x00" + E[10:]
     out += ["# a flag and a reserved octet that ought to be 0", "ero 3 " + hexes(odd), "ero-segment 3 0 " + hexes(odd), "report 99 3 " + hexes(odd), "remove 99", "compact 2"]
@@ -436,7 +436,7 @@ def console():
             "add 0 0 0 1 " + sid + " - 1, 2,3,4", "add 0 0 0 1 " + sid + " - 1;2;3;4", "add 0 0 0 1 " + sid + " - --", "add 0 0 0 1 " + sid + " - 0001,2,3,4", "add 0 0 0 1 " + sid + " -", "add 0 0 0 1 " + sid + " - - -", "add 0 0 0 1 - - -", "add 1 1 2 65535 - " + "ab" * 16 + " -", "add 00 01 002 0001 " + sid + " " + "Cd" * 16 + " -", "finish", "lent",
             "finish ", "finish 1", "lent ", "lent 0", "begin rro 4", "lent"]
     out += ["# form goes before meaning", "report 0 3 0", "report 0 x " + hexes(E), "report 0 3 " + hexes(E), "ero-segment 1 x " + hexes(E), "ero-segment 1 0 " + hexes(E)]
-    out += ["# the board's words", "report", "report 1", "report 1 3", "report 1 3 " + hexes(E) + " 1", "remove", "remove ", "remove 1 1", "remove x", "compact", "compact -", "body", "body 1", "next", "next 0", "next 0 0 0", "next 0 0", "mark 0", "mark", "board 0",
+    out += ["# the board's words", "report", "report 1", "report 1 3", "report 1 3 " + hexes(E) + " 1", "remove", "remove ", "remove 1 1", "remove x", "compact", "compact -", "body", "body 1", "next", "next 0", "next 0 0 0", "next 0 0", "mark 0", "mark", "chain 0", "chain -", "chains", "Chain", "board 0",
             "report 1 3 " + hexes(E), "body 1", "next 0 0", "remove 0001", "next 1 1", "mark"]
     text = "\n".join(out) + "\n"
     text += "#" + "x" * 131300 + "\n"

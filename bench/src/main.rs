@@ -3,7 +3,7 @@
 //!     bench [ROUNDS]
 //!
 //! A line is a duty, the nanoseconds of each side, and the library's divided by the reference's. The first table is what a box does, the second
-//! how it grows with segments and with places in use. A call's content is checked before it is timed.
+//! how it grows with segments, with places in use and with the distance of a follower's mark. A call's content is checked before it is timed.
 
 use std::hint::black_box;
 use std::time::Instant;
@@ -73,6 +73,11 @@ fn random_keys() -> Vec<u64> {
         }
     }
     keys
+}
+
+/// The record of a board, which keeps its places in order.
+fn record(b: &reference::Board) -> raw::Record {
+    raw::Record { keys: b.keys, versions: b.versions, lengths: b.lengths, version: b.version, floor: b.floor, order: b.order() }
 }
 
 struct Bench {
@@ -231,8 +236,7 @@ impl Bench {
         for &key in &keys[..used] {
             board.report(&mut store, key, &ero, &other, PST).unwrap();
         }
-        let record = raw::Record { keys: board.keys, versions: board.versions, lengths: board.lengths, version: board.version, floor: board.floor };
-        let start = (record, store.clone(), board, store);
+        let start = (record(&board), store.clone(), board, store);
 
         let (mut r, mut rs, mut b, mut bs) = start.clone();
         self.time(
@@ -292,6 +296,65 @@ impl Bench {
             },
         );
     }
+
+    /// A follower's next calls on a full board: one whose mark lies so many changes behind, one that is handed the first path behind so many
+    /// removals that it does not want, and all from fresh to level.
+    fn follow(&mut self) {
+        let other = reference::Session { agreed: true, n: true, limit: None };
+        let ero = plain_route(4);
+        let keys = random_keys();
+        let mut store = vec![0; reference::STORE_OCTETS];
+        let mut full = reference::Board::default();
+        for &key in &keys {
+            full.report(&mut store, key, &ero, &other, PST).unwrap();
+        }
+        let mut next = |duty: &str, b: &reference::Board, s: u64, w: u64| {
+            let r = record(b);
+            self.time(
+                duty,
+                |_| {
+                    assert_eq!(black_box(raw::next(black_box(&r), &store, black_box(s), black_box(w))).kind, 1);
+                },
+                |_| {
+                    assert!(matches!(black_box(black_box(b).next(&store, black_box(s), black_box(w))), Ok(reference::Change::Path { .. })));
+                },
+            );
+        };
+        for behind in [1, 32, 64, 96, 128] {
+            let mark = PLACES as u64 - behind;
+            next(&format!("next, mark behind by {behind}"), &full, mark, mark);
+        }
+        for removals in [0, 32, 64, 96, 127] {
+            let mut b = full;
+            for &key in &keys[..removals] {
+                b.remove(&store, key).unwrap();
+            }
+            b.report(&mut store.clone(), keys[127], &ero, &other, PST).unwrap();
+            next(&format!("next, unwanted removals: {removals}"), &b, b.version, PLACES as u64);
+        }
+        let r = record(&full);
+        self.time(
+            "fresh to level, full board",
+            |_| {
+                let (s, mut w, mut calls) = (black_box(&r).version, 0, 1);
+                loop {
+                    let handed = raw::next(black_box(&r), &store, s, w);
+                    if handed.kind == 3 {
+                        break;
+                    }
+                    (w, calls) = (handed.version, calls + 1);
+                }
+                assert_eq!(calls, PLACES + 1);
+            },
+            |_| {
+                let (s, mut w, mut calls) = (black_box(&full).version, 0, 1);
+                while let Ok(reference::Change::Path { version, .. }) = black_box(&full).next(&store, s, w) {
+                    (w, calls) = (version, calls + 1);
+                }
+                assert_eq!(calls, PLACES + 1);
+            },
+        );
+    }
 }
 
 fn main() {
@@ -346,6 +409,7 @@ fn main() {
     for used in [1, 32, 64, 96] {
         bench.board(used, &format!("places: {used}"), &random_keys());
     }
+    bench.follow();
     let in_a_row: Vec<u64> = (1..=PLACES as u64).collect();
     bench.board(PLACES, "full, keys in a row", &in_a_row);
 }

@@ -29,12 +29,14 @@ pub fn report(
     let mut lengths = b.lengths;
     let mut version = b.version;
     let mut floor = b.floor;
+    let mut order = b.order;
     let verdict = board_report::report(
         &mut keys,
         &mut versions,
         &mut lengths,
         &mut version,
         &mut floor,
+        &mut order,
         store,
         key,
         ero,
@@ -47,6 +49,7 @@ pub fn report(
         lengths: lengths,
         version: version,
         floor: floor,
+        order: order,
     };
     Answer {
         verdict: verdict,
@@ -62,12 +65,14 @@ pub fn remove(b: Board, store: &[u8], key: u64) -> Answer
     let mut versions = b.versions;
     let mut lengths = b.lengths;
     let mut version = b.version;
+    let mut order = b.order;
     let verdict = board_remove::remove(
         &keys,
         &mut versions,
         &mut lengths,
         &mut version,
         b.floor,
+        &mut order,
         store,
         key,
     );
@@ -77,6 +82,7 @@ pub fn remove(b: Board, store: &[u8], key: u64) -> Answer
         lengths: lengths,
         version: version,
         floor: b.floor,
+        order: order,
     };
     Answer {
         verdict: verdict,
@@ -92,12 +98,14 @@ pub fn compact(b: Board, store: &[u8], c: u64) -> Answer
     let mut versions = b.versions;
     let lengths = b.lengths;
     let mut floor = b.floor;
+    let mut order = b.order;
     let verdict = board_remove::compact(
         &mut keys,
         &mut versions,
         &lengths,
         b.version,
         &mut floor,
+        &mut order,
         store,
         c,
     );
@@ -107,6 +115,7 @@ pub fn compact(b: Board, store: &[u8], c: u64) -> Answer
         lengths: lengths,
         version: b.version,
         floor: floor,
+        order: order,
     };
     Answer {
         verdict: verdict,
@@ -124,6 +133,7 @@ pub fn body_number(b: Board, store: &[u8], key: u64) -> Verdict
         &b.lengths,
         b.version,
         b.floor,
+        &b.order,
         store,
         key,
     )
@@ -139,6 +149,7 @@ pub fn body<'a>(b: Board, store: &'a [u8], key: u64) -> &'a [u8]
         &b.lengths,
         b.version,
         b.floor,
+        &b.order,
         store,
         key,
     )
@@ -154,6 +165,7 @@ pub fn next(b: Board, store: &[u8], s: u64, w: u64) -> Handed
         &b.lengths,
         b.version,
         b.floor,
+        &b.order,
         store,
         s,
         w,

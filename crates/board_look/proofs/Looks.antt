@@ -13,6 +13,8 @@ use Rattle.answers.specs.Numbers.{notABoard}
 use Rattle.answers.specs.Verdicts.{refusedBy, kept}
 use Rattle.octets.specs.Octets.{part}
 use Rattle.board_record.specs.Sizes.{places, room, storeSize}
+use Rattle.board_record.specs.declared.record.Board.{Board}
+use Rattle.board_record.specs.Record.{tableIn, orderly}
 use Rattle.board_record.specs.Table.{Table, keyAt, versionAt, lengthAt}
 use Rattle.board_record.specs.Search.{placeOf, nextOf}
 use Rattle.board_record.specs.Proper.{properB}
@@ -25,6 +27,8 @@ use Rattle.board_rules.specs.declared.answer.Handed.the-variants.{Refused, Path
 use Rattle.board_rules.specs.Rules.{isBoard, inRange, lengthIn, hasPath}
 use Rattle.board_rules.specs.Body.{bodyRules, bodyNumber, octetsAt, bodyOf}
 use Rattle.board_rules.specs.Next.{nextRules, nextVerdict, changeAt, handedAt, nextAnswer}
+use Rattle.board_rules.specs.OnRecord.{bodyNumberOn, bodyOn, nextOn}
+use Rattle.board_rules.proofs.OnRecord.{number-order}
 use Rattle.board_rules.proofs.Shared.{path-test}
 use Rattle.board_rules.proofs.Verdicts.{kept-old, kept-new, rule-passed}
 use Rattle.board_rules.proofs.Told.{board-not, board-is, board-room, board-proper}
@@ -109,3 +113,23 @@ module _ (b : Table) (store : List ℕ) (s w : ℕ) where
       → Path (record { key = key; version = versionAt b at }) (record { place = at; length = n }) ≡ nextAnswer b store s w
   unfolding nextAnswer handedAt changeAt
   next-path v at key n e z p l q f y = rw (← e, eq-eqb (v .number) 0 z, handedAt, ← p, lt-ltb at 128 l, changeAt, ← f, ne-eqb n 0 y, q)
+
+-- ---- on a record: what the calls know of its table
+module _ (b : Board) (store : List ℕ) (k : ℕ) where
+  pub body-none-on : (v : Verdict) → v ≡ bodyNumberOn b store k → (v .number ≡ 0 → ⊥) → [] ≡ bodyOn b store k
+  unfolding bodyNumberOn bodyOn
+  body-none-on v e d = go (orderly b) e
+    where
+      go : (x : Bool) → v ≡ cond x (bodyNumber (tableIn b) store k) (refusedBy notABoard 0) → [] ≡ cond x (bodyOf (tableIn b) store k) []
+      go true q = body-none (tableIn b) store k v q d
+      go false q = refl
+
+  pub body-taken : (v : Verdict) → v ≡ bodyNumberOn b store k → v .number ≡ 0 → (orderly b ≡ true) × (v ≡ bodyNumber (tableIn b) store k)
+  unfolding bodyNumberOn
+  body-taken v e z =
+      let h = number-order b store k (ap (λ (y : Verdict). y .number) (sym e) ∙ z) in
+      (h, rw h at e)
+
+  pub body-on : (octets : List ℕ) → orderly b ≡ true → octets ≡ bodyOf (tableIn b) store k → octets ≡ bodyOn b store k
+  unfolding bodyOn
+  body-on octets h e = rw h e

@@ -3,8 +3,8 @@
 // above the version; 23 exactly if the floor is above the larger of s and w; otherwise a change, or level.
 ghost use mathlib.Core.Path.{_≡_};
 ghost use Rattle.board_record.specs.Table.{tableOf};
-ghost use Rattle.board_rules.specs.Body.{bodyNumber, bodyOf};
-ghost use Rattle.board_rules.specs.Next.{nextAnswer};
+ghost use Rattle.board_record.specs.Record.{withOrder};
+ghost use Rattle.board_rules.specs.OnRecord.{bodyNumberOn, bodyOn, nextOn};
 use answers::NOT_A_BOARD;
 use answers::Verdict;
 use answers::refused;
@@ -29,12 +29,15 @@ pub fn body_number<'a>(
     lengths: &'a [u16; 128],
     version: u64,
     floor: u64,
+    order: &'a [u8; 128],
     store: &[u8],
     key: u64,
 ) -> Verdict
-    ensures number { λ r. ⌜ r ≡ bodyNumber (tableOf (now (keys .entry)) (now (versions .entry)) (now (lengths .entry)) version floor) (now (store .entry)) key ⌝ }
+    ensures number { λ r.
+        let b = tableOf (now (keys .entry)) (now (versions .entry)) (now (lengths .entry)) version floor in
+        ⌜ r ≡ bodyNumberOn (withOrder b (now (order .entry))) (now (store .entry)) key ⌝ }
 {
-    if !is_board(store.len(), keys, versions, lengths, version, floor) {
+    if !is_board(store.len(), keys, versions, lengths, version, floor, order) {
         return refused(NOT_A_BOARD, 0);
     }
     let at = place_of(keys, key);
@@ -48,12 +51,15 @@ pub fn body<'a, 'b>(
     lengths: &'a [u16; 128],
     version: u64,
     floor: u64,
+    order: &'a [u8; 128],
     store: &'b [u8],
     key: u64,
 ) -> &'b [u8]
-    ensures body { λ r. ⌜ now r ≡ bodyOf (tableOf (now (keys .entry)) (now (versions .entry)) (now (lengths .entry)) version floor) (now (store .entry)) key ⌝ }
+    ensures body { λ r.
+        let b = tableOf (now (keys .entry)) (now (versions .entry)) (now (lengths .entry)) version floor in
+        ⌜ now r ≡ bodyOn (withOrder b (now (order .entry))) (now (store .entry)) key ⌝ }
 {
-    let verdict = body_number(keys, versions, lengths, version, floor, store, key);
+    let verdict = body_number(keys, versions, lengths, version, floor, order, store, key);
     if verdict.number != 0 {
         return &store[0..0];
     }
@@ -70,20 +76,23 @@ pub fn next<'a>(
     lengths: &'a [u16; 128],
     version: u64,
     floor: u64,
+    order: &'a [u8; 128],
     store: &[u8],
     s: u64,
     w: u64,
 ) -> Handed
-    ensures next { λ r. ⌜ r ≡ nextAnswer (tableOf (now (keys .entry)) (now (versions .entry)) (now (lengths .entry)) version floor) (now (store .entry)) s w ⌝ }
+    ensures next { λ r.
+        let b = tableOf (now (keys .entry)) (now (versions .entry)) (now (lengths .entry)) version floor in
+        ⌜ r ≡ nextOn (withOrder b (now (order .entry))) (now (store .entry)) s w ⌝ }
 {
-    if !is_board(store.len(), keys, versions, lengths, version, floor) {
+    if !is_board(store.len(), keys, versions, lengths, version, floor, order) {
         return Handed::Refused(refused(NOT_A_BOARD, 0));
     }
     let verdict = next_rules(s, w, version, floor);
     if verdict.number != 0 {
         return Handed::Refused(verdict);
     }
-    let at = next_place(keys, versions, lengths, version, floor, s, w);
+    let at = next_place(keys, versions, lengths, version, floor, order, s, w);
     if PLACES <= at {
         return Handed::Level(version);
     }

@@ -1,8 +1,11 @@
 -- Two answers that fit the contract of `is_proper` are equal. Assumes nothing.
+use Prim.Native.Nat.{ℕ}
 use mathlib.Core.Path.{_≡_, sym, _∙_}
-use mathlib.Core.Bool.{Bool}
+use mathlib.Core.Bool.{Bool, _&&_}
+use mathlib.Core.List.{List}
 use Rattle.board_record.specs.Table.{Table}
 use Rattle.board_record.specs.Proper.{properB}
+use Rattle.board_record.specs.Order.{inOrder}
 
-pub proper-determined : (b : Table) (x y : Bool) → x ≡ properB b → y ≡ properB b → x ≡ y
-proper-determined b x y p q = p ∙ sym q
+pub proper-determined : (b : Table) (order : List ℕ) (x y : Bool) → x ≡ (properB b && inOrder b order) → y ≡ (properB b && inOrder b order) → x ≡ y
+proper-determined b order x y p q = p ∙ sym q

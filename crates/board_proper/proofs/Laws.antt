@@ -1,23 +1,28 @@
--- The laws of the chains, and of the pass over the places. A walk of a number's chain meets every place below that has its hash, so it meets the number
--- if that came before (`Walking`); one place more keeps the chains (`Chained`); and the pass ends with the test of properness. Assumes nothing.
+-- The laws of the chains. A walk of a key's chain meets every place below that has its hash, so it meets the key if that came before (`Walking`); one place more
+-- keeps the chains (`Hashed`). Assumes nothing.
 use Prim.Native.Nat.{ℕ, zero, suc, _+_, _-_, _<_, _≤_}
 use native.Mathlib.Numerals.{add-one}
 use native.Mathlib.Nat.{add-sub-cancel}
 use native.Mathlib.Omega.{arith}
 use mathlib.Core.Path.{_≡_, refl, sym, ap, _∙_, subst}
-use mathlib.Core.Bool.{Bool, true, false, not, _&&_, _||_}
+use mathlib.Core.Bool.{Bool, true, false, not, _||_}
 use mathlib.Core.List.{List}
 use mathlib.Core.Logic.{_⊎_, inl, inr, ⊎-elim}
 use lib.ListN.{getD, set, length, length-set, replicate, length-replicate, getD-replicate, List·getD-eq-default}
-use lib.Dec.{eqb, leb, ltb}
-use borrow.Author.Tests.{le-leb, eq-eqb, ne-eqb, not-true, not-false}
-use Rattle.board_record.specs.Sizes.{versionMost}
-use Rattle.board_record.specs.Table.{Table, tableOf, Entry, entryAt}
-use Rattle.board_record.specs.Proper.{allBelow, placeOk, soundB, freshB, newB, distinctB, properB}
-use Rattle.board_record.proofs.Logic.{and-false, or-true, same?, from?, at-set}
+use lib.Dec.{eqb}
+use borrow.Author.Tests.{eq-eqb, ne-eqb, not-false}
+use Rattle.board_record.specs.Proper.{allBelow, freshB, newB}
+use Rattle.board_record.proofs.Logic.{or-true, same?, from?, at-set}
 use Rattle.board_record.proofs.All.{all-none, all-more, all-fails, all-of}
-use Rattle.board_record.proofs.Proper.{sound}
-use Rattle.board_proper.specs.Chain.{slotOf, Node, Heads, Links, Walking}
+use Rattle.board_record.specs.Sizes.{places}
+use Rattle.board_record.specs.Order.{placeOn}
+use Rattle.board_record.proofs.Lists.{row-at}
+use Rattle.board_proper.specs.Chain.{along, slotOf, Node, Heads, Links, Walking}
+
+-- ---- the keys along an order
+pub along-at : (keys order : List ℕ) (j : ℕ) → j < places → getD (along keys order) j 0 ≡ getD keys (placeOn order j) 0
+unfolding along
+along-at keys order j l = row-at (λ k. getD keys (placeOn order k) 0) 128 j l
 
 -- ---- the walk of one chain
 pub walk-starts : (xs hs : List ℕ) (i k : ℕ) → Heads xs hs i → (k ≡ 0 → ⊥) → Walking xs i k (getD hs (slotOf k) 0)
@@ -81,27 +86,6 @@ chain-links xs hs ns i h n l u =
           (λ q. rw (e ∙ ap (λ (y : ℕ). slotOf (getD xs y 0)) q) at (h .all j (omega arith) w)) (λ d. n .all x j (omega (arith, d)) o v w e);
     }
 
-pub skip-heads : (xs hs : List ℕ) (i : ℕ) → Heads xs hs i → getD xs i 0 ≡ 0 → Heads xs hs (i + 1)
-skip-heads xs hs i h z =
-    record {
-      size = h .size;
-      low = λ g. omega (arith, h .low g);
-      node = h .node;
-      all = λ j l v. h .all j (⊎-elim (λ e. absurd (v (ap (λ (y : ℕ). getD xs y 0) e ∙ z))) (λ e. omega (arith, e)) (same? j i)) v;
-    }
-
-pub skip-links : (xs ns : List ℕ) (i : ℕ) → Links xs ns i → getD xs i 0 ≡ 0 → Links xs ns (i + 1)
-skip-links xs ns i n z =
-    record {
-      size = n .size;
-      low = n .low;
-      node = λ x m v. n .node x (below x m v) v;
-      all = λ x j m o v w e. n .all x j (below x m v) o v w e;
-    }
-  where
-    below : (x : ℕ) → x < i + 1 → (getD xs x 0 ≡ 0 → ⊥) → x < i
-    below x m v = ⊎-elim (λ t. absurd (v (ap (λ (y : ℕ). getD xs y 0) t ∙ z))) (λ t. omega (arith, t)) (same? x i)
-
 zeros : (n j : ℕ) → getD {A = ℕ} (replicate n 0) j 0 ≡ 0
 zeros n j = ⊎-elim (λ l. List·getD-eq-default (replicate n 0) 0 (omega (arith, length-replicate {A = ℕ} n 0))) (λ l. getD-replicate n j 0 0 l) (from? n j)
 
@@ -114,39 +98,23 @@ no-links xs =
     record { size = length-replicate {A = ℕ} 128 0; low = λ x. omega (arith, zeros 128 x); node = λ x m v q. absurd (omega arith); all = λ x j m o v w e. absurd (omega arith) }
 
 -- ---- the numbers so far
-pub new-zero : (xs : List ℕ) (i : ℕ) → getD xs i 0 ≡ 0 → newB xs i ≡ true
-unfolding newB
-new-zero xs i e = rw (eq-eqb (getD xs i 0) 0 e)
-
 pub new-fresh : (xs : List ℕ) (i : ℕ) (r : Bool) → r ≡ freshB xs i (getD xs i 0) → not r ≡ false → newB xs i ≡ true
 unfolding newB
 new-fresh xs i r e n = rw (← e, not-false r n) (or-true (eqb (getD xs i 0) 0))
 
-pub not-distinct : (xs : List ℕ) (i : ℕ) (r : Bool) → i < 128 → (getD xs i 0 ≡ 0 → ⊥) → r ≡ freshB xs i (getD xs i 0) → not r ≡ true → false ≡ distinctB xs
-unfolding distinctB newB
-not-distinct xs i r l u e n = sym (all-fails (newB xs) 128 i l (rw (newB, ne-eqb (getD xs i 0) 0 u, ← e, not-true r n)))
-
-pub is-distinct : (xs : List ℕ) (i : ℕ) → i ≤ 128 → 128 ≤ i → allBelow (newB xs) i ≡ true → true ≡ distinctB xs
-unfolding distinctB
-is-distinct xs i h l e = let q : i ≡ 128 = omega arith in sym (rw q at e)
-
 -- ---- the loop over the numbers
-pub record Chained (xs hs ns : List ℕ) (i : ℕ) : Type 0 where
+pub record Hashed (xs hs ns : List ℕ) (i : ℕ) : Type 0 where
   pub heads : Heads xs hs i
   pub links : Links xs ns i
   pub fine : allBelow (newB xs) i ≡ true
 
-pub chained-none : (xs : List ℕ) → Chained xs (replicate 512 0) (replicate 128 0) 0
-chained-none xs = record { heads = no-heads xs; links = no-links xs; fine = all-none (newB xs) }
+pub hashed-none : (xs : List ℕ) → Hashed xs (replicate 512 0) (replicate 128 0) 0
+hashed-none xs = record { heads = no-heads xs; links = no-links xs; fine = all-none (newB xs) }
 
-pub chained-skip : (xs hs ns : List ℕ) (i : ℕ) → Chained xs hs ns i → getD xs i 0 ≡ 0 → Chained xs hs ns (i + 1)
-chained-skip xs hs ns i c e =
-    record { heads = skip-heads xs hs i (c .heads) e; links = skip-links xs ns i (c .links) e; fine = all-more (newB xs) i (c .fine) (new-zero xs i e) }
-
-pub chained-more : (xs hs ns : List ℕ) (i k h : ℕ) (r : Bool) → Chained xs hs ns i → i < 128 → (getD xs i 0 ≡ 0 → ⊥) → k ≡ getD xs i 0
+pub hashed-more : (xs hs ns : List ℕ) (i k h : ℕ) (r : Bool) → Hashed xs hs ns i → i < 128 → (getD xs i 0 ≡ 0 → ⊥) → k ≡ getD xs i 0
     → h ≡ slotOf k → h < 512 → r ≡ freshB xs i (getD xs i 0) → not r ≡ false
-    → Chained xs (set hs h (i + 1)) (set ns i (getD hs h 0)) (i + 1)
-chained-more xs hs ns i k h r c l u g o b f n =
+    → Hashed xs (set hs h (i + 1)) (set ns i (getD hs h 0)) (i + 1)
+hashed-more xs hs ns i k h r c l u g o b f n =
     let e : h ≡ slotOf (getD xs i 0) = rw g at o in
     rw e
     (record {
@@ -155,49 +123,5 @@ chained-more xs hs ns i k h r c l u g o b f n =
       fine = all-more (newB xs) i (c .fine) (new-fresh xs i r f n);
     })
 
-pub chained-walk : (xs hs ns : List ℕ) (i k h p : ℕ) → Chained xs hs ns i → (getD xs i 0 ≡ 0 → ⊥) → k ≡ getD xs i 0 → h ≡ slotOf k → p ≡ getD hs h 0 → Walking xs i (getD xs i 0) p
-chained-walk xs hs ns i k h p c u g e q = rw (q, e, g) (walk-starts xs hs i (getD xs i 0) (c .heads) u)
-
--- ---- what one place says of its version
-pub empty-version : (x : Entry) (top floor : ℕ) (r : Bool) → r ≡ placeOk x top floor → not r ≡ false → x .key ≡ 0 → x .version ≡ 0
-empty-version x top floor r e n z = sound x top floor (sym e ∙ not-false r n) .none z .0
-
-pub used-version : (x : Entry) (top floor : ℕ) (r : Bool) → r ≡ placeOk x top floor → not r ≡ false → (x .key ≡ 0 → ⊥) → x .version ≡ 0 → ⊥
-used-version x top floor r e n u z = omega (arith, sound x top floor (sym e ∙ not-false r n) .low u)
-
--- ---- the pass
-module _ (ks vs ls : List ℕ) (top floor : ℕ) where
-  abbrev table : Table
-  table = tableOf ks vs ls top floor
-
-  pub places-more : (i : ℕ) (r : Bool) → r ≡ placeOk (entryAt table i) top floor → not r ≡ false
-      → allBelow (soundB table) i ≡ true
-      → allBelow (soundB table) (i + 1) ≡ true
-  unfolding soundB
-  places-more i r e n h = all-more (soundB table) i h (sym e ∙ not-false r n)
-
-  -- it stops at a place that is not sound, at a key and at a version that came before
-  pub pass-place : (i : ℕ) (r : Bool) → i < 128 → r ≡ placeOk (entryAt table i) top floor → not r ≡ true → false ≡ properB table
-  unfolding properB soundB
-  pass-place i r l e n =
-      rw (all-fails (soundB table) 128 i l (sym e ∙ not-true r n), and-false (leb floor top && leb top versionMost))
-
-  pub pass-key : (i : ℕ) (r : Bool) → i < 128 → (getD ks i 0 ≡ 0 → ⊥) → r ≡ freshB ks i (getD ks i 0) → not r ≡ true → false ≡ properB table
-  unfolding properB
-  pass-key i r l u e n =
-      rw (← not-distinct ks i r l u e n, and-false (leb floor top && leb top versionMost && allBelow (soundB table) 128))
-
-  pub pass-version : (i : ℕ) (r : Bool) → i < 128 → (getD vs i 0 ≡ 0 → ⊥) → r ≡ freshB vs i (getD vs i 0) → not r ≡ true → false ≡ properB table
-  unfolding properB
-  pass-version i r l u e n =
-      rw (← not-distinct vs i r l u e n, and-false (leb floor top && leb top versionMost && allBelow (soundB table) 128 && distinctB ks))
-
-  -- it ends
-  pub pass-all : (i : ℕ) {hs ns gs ms : List ℕ} → floor ≤ top → top ≤ versionMost → i ≤ 128 → 128 ≤ i → Chained ks hs ns i → Chained vs gs ms i
-      → allBelow (soundB table) i ≡ true
-      → true ≡ properB table
-  unfolding properB
-  pass-all i f t h l a b e =
-      let q : i ≡ 128 = omega arith in
-      let p : allBelow (soundB table) 128 ≡ true = rw q at e in
-      rw (le-leb floor top f, le-leb top versionMost t, p, ← is-distinct ks i h l (a .fine), ← is-distinct vs i h l (b .fine))
+pub hashed-walk : (xs hs ns : List ℕ) (i k h p : ℕ) → Hashed xs hs ns i → (getD xs i 0 ≡ 0 → ⊥) → k ≡ getD xs i 0 → h ≡ slotOf k → p ≡ getD hs h 0 → Walking xs i (getD xs i 0) p
+hashed-walk xs hs ns i k h p c u g e q = rw (q, e, g) (walk-starts xs hs i (getD xs i 0) (c .heads) u)

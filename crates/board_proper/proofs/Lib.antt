@@ -1,2 +1,5 @@
 pub mod Laws
+pub mod Rows
+pub mod Passing
+pub mod Loops
 pub mod Determined

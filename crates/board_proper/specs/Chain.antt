@@ -1,12 +1,18 @@
 -- No promise rests on this file: it serves the contracts of the pass's inner functions.
 --
--- Chains of a hash over a list of numbers, 0 standing for none: the places of the numbers with one hash, the last one first. The list of heads has for each
+-- Chains of a hash over a list of keys, 0 standing for none: where in the list the keys with one hash stand, the last one first. The list of heads has for each
 -- hash 1 more than the last place below i with it, the list of links for each place 1 more than the place before it in its chain; 0 ends a chain.
 use Prim.Native.Nat.{ℕ, _+_, _-_, _*_, _<_, _≤_, _%_, _/_}
 use mathlib.Core.Path.{_≡_}
 use mathlib.Core.List.{List}
 use lib.ListN.{getD, length}
 use Rattle.board_record.specs.Sizes.{places}
+use Rattle.board_record.specs.Lists.{row}
+use Rattle.board_record.specs.Order.{placeOn}
+
+-- the keys of the places that an order names, in that order
+unfoldable pub along : List ℕ → List ℕ → List ℕ
+along keys order = row (λ j. getD keys (placeOn order j) 0) places
 
 -- the hashes are below 512
 abbrev pub slots : ℕ

@@ -1,10 +1,12 @@
-// A chain of a hash links the places whose numbers have that hash, the last one first. `nexts[x]` is 1 more than the place
-// before x in x's chain, and 0 ends it, so a walk goes down.
+// A chain of a hash links the numbers of the order whose keys have that hash, the last one first. `nexts[x]` is 1 more than
+// the number before x in x's chain, and 0 ends it, so a walk goes down.
 ghost use mathlib.Core.Path.{_≡_};
-ghost use Prim.Native.Nat.{_<_, _≤_};
+ghost use Prim.Native.Nat.{ℕ, _<_, _≤_};
 ghost use Rattle.board_record.specs.Sizes.{places};
 ghost use Rattle.board_record.specs.Proper.{freshB};
-ghost use Rattle.board_proper.specs.Chain.{slots, slotOf, Links, Walking};
+ghost use Rattle.board_record.specs.Order.{placeOn};
+ghost use Rattle.board_proper.specs.Chain.{along, slots, slotOf, Links, Walking};
+use board_order::place_in;
 
 // the low 32 bits of a number, what they are multiplied by, and the worth of the lowest of the nine bits of the product that are the hash
 const LOW: u64 = 4294967296;
@@ -22,31 +24,22 @@ pub fn slot(k: u64) -> usize
     (k % LOW * MIX / TOP % SLOTS) as usize
 }
 
-// None of the first i keys is k; start is the head of k's chain.
-pub fn fresh32(keys: &[u32; 128], nexts: &[u8; 128], i: usize, k: u32, start: usize) -> bool
-    requires { ⌜ (i ≤ places) × Links (now keys) (now nexts) i × Walking (now keys) i k start ⌝ }
-    ensures fresh { λ r. ⌜ r ≡ freshB (now (keys .entry)) i k ⌝ }
+// None of the first i keys along the order is k; start is the head of k's chain.
+pub fn fresh<'a>(
+    keys: &'a [u32; 128],
+    order: &'a [u8; 128],
+    nexts: &'a [u8; 128],
+    i: usize,
+    k: u32,
+    start: usize,
+) -> bool
+    requires { ⌜ (i ≤ places) × ((j : ℕ) → j < i → placeOn (now order) j < places) × Links (along (now keys) (now order)) (now nexts) i × Walking (along (now keys) (now order)) i k start ⌝ }
+    ensures fresh { λ r. ⌜ r ≡ freshB (along (now (keys .entry)) (now (order .entry))) i k ⌝ }
 {
     let mut p = start;
     while p != 0 {
         let x = p - 1;
-        if keys[x] == k {
-            return false;
-        }
-        p = octets::wide(nexts[x]);
-    }
-    true
-}
-
-// None of the first i versions is k; start is the head of k's chain.
-pub fn fresh64(versions: &[u64; 128], nexts: &[u8; 128], i: usize, k: u64, start: usize) -> bool
-    requires { ⌜ (i ≤ places) × Links (now versions) (now nexts) i × Walking (now versions) i k start ⌝ }
-    ensures fresh { λ r. ⌜ r ≡ freshB (now (versions .entry)) i k ⌝ }
-{
-    let mut p = start;
-    while p != 0 {
-        let x = p - 1;
-        if versions[x] == k {
+        if keys[place_in(order[x])] == k {
             return false;
         }
         p = octets::wide(nexts[x]);

@@ -1,6 +1,9 @@
-// Whether a record is a board's (document 01, "The board": what is proper), in one pass over the places. That keys and
-// versions are distinct is seen by chains of a hash: each number is compared with those below it that have its hash.
+// Whether a record is a board's (document 01, "The board": what is proper; document 02: its order is sound): one pass along
+// the order, which looks at each place that it names, and a count of the places that are empty. Versions that rise along the
+// order are distinct; that keys are is seen by chains of a hash: each key is compared with those before it that have its hash.
 mod chain;
 mod pass;
+mod place;
+mod rest;
 
 pub use pass::is_proper;

@@ -1,14 +1,18 @@
-// The pass over the places. `heads[h]` is 1 more than the last key's place whose hash is h, and `nexts` its chain;
-// `vheads` and `vnexts` are those of the versions.
+// The pass along the order. `heads[h]` is 1 more than the last number of the order whose key has the hash h, and `nexts` its
+// chain; `last` is the version of the place before.
 ghost use mathlib.Core.Path.{_≡_};
+ghost use mathlib.Core.Bool.{_&&_};
 ghost use Rattle.board_record.specs.Table.{tableOf};
 ghost use Rattle.board_record.specs.Proper.{properB};
-use super::chain::fresh32;
-use super::chain::fresh64;
+ghost use Rattle.board_record.specs.Order.{inOrder};
+use super::chain::fresh;
 use super::chain::slot;
+use super::place::used_ok;
+use super::rest::clear;
+use super::rest::empties;
+use board_order::place_in;
 use board_record::PLACES;
 use board_record::VERSION_MOST;
-use board_record::place_ok;
 use board_record::wide32;
 use octets::wide;
 
@@ -18,8 +22,11 @@ pub fn is_proper<'a>(
     lengths: &'a [u16; 128],
     top: u64,
     floor: u64,
+    order: &'a [u8; 128],
 ) -> bool
-    ensures proper { λ r. ⌜ r ≡ properB (tableOf (now (keys .entry)) (now (versions .entry)) (now (lengths .entry)) top floor) ⌝ }
+    ensures proper { λ r.
+        let b = tableOf (now (keys .entry)) (now (versions .entry)) (now (lengths .entry)) top floor in
+        ⌜ r ≡ (properB b && inOrder b (now (order .entry))) ⌝ }
 {
     if top < floor {
         return false;
@@ -29,34 +36,40 @@ pub fn is_proper<'a>(
     }
     let mut heads = [0u8; 512];
     let mut nexts = [0u8; 128];
-    let mut vheads = [0u8; 512];
-    let mut vnexts = [0u8; 128];
+    let mut last: u64 = 0;
     let mut i: usize = 0;
     while i < PLACES {
-        let k = keys[i];
-        let v = versions[i];
-        if !place_ok(k, v, lengths[i], top, floor) {
+        let n = order[i];
+        if n == 0 {
+            if top < last {
+                return false;
+            }
+            if empties(keys, versions, lengths) != PLACES - i {
+                return false;
+            }
+            return clear(order, i);
+        }
+        let x = place_in(n);
+        if PLACES <= x {
             return false;
         }
-        if k == 0 {
-            i += 1;
-            continue;
+        let v = versions[x];
+        if v <= last {
+            return false;
+        }
+        let k = keys[x];
+        if !used_ok(k, v, lengths[x], floor) {
+            return false;
         }
         let h = slot(wide32(k));
         let p = heads[h];
-        if !fresh32(keys, &nexts, i, k, wide(p)) {
+        if !fresh(keys, order, &nexts, i, k, wide(p)) {
             return false;
         }
         nexts[i] = p;
         heads[h] = (i + 1) as u8;
-        let g = slot(v);
-        let q = vheads[g];
-        if !fresh64(versions, &vnexts, i, v, wide(q)) {
-            return false;
-        }
-        vnexts[i] = q;
-        vheads[g] = (i + 1) as u8;
+        last = v;
         i += 1;
     }
-    true
+    last <= top
 }

@@ -1,8 +1,10 @@
 -- The empty board is one: two answers that fit its contract are equal. Its table is the empty one. Assumes nothing.
+use Prim.Native.Nat.{ℕ}
 use mathlib.Core.Path.{_≡_, refl, sym, _∙_}
+use mathlib.Core.List.{List}
 use Rattle.board_record.specs.declared.record.Board.{Board}
 use Rattle.board_record.specs.Table.{Table, emptyTable}
-use Rattle.board_record.specs.Record.{tableIn, withTable, emptyBoard}
+use Rattle.board_record.specs.Record.{tableIn, withOrder, emptyBoard}
 
 pub empty-determined : (a b : Board) → a ≡ emptyBoard → b ≡ emptyBoard → a ≡ b
 empty-determined a b p q = p ∙ sym q
@@ -10,6 +12,9 @@ empty-determined a b p q = p ∙ sym q
 pub empty-table : tableIn emptyBoard ≡ emptyTable
 empty-table = refl
 
--- the record is its table
-pub table-back : (b : Board) (t : Table) → tableIn (withTable b t) ≡ t
-table-back b t = refl
+-- the record is its table and its row
+pub table-back : (t : Table) (order : List ℕ) → tableIn (withOrder t order) ≡ t
+table-back t order = refl
+
+pub record-back : (b : Board) → withOrder (tableIn b) (b .order) ≡ b
+record-back b = refl

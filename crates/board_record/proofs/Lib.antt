@@ -1,4 +1,5 @@
 pub mod Logic
+pub mod Lists
 pub mod All
 pub mod Search
 pub mod Proper

@@ -12,7 +12,7 @@ use lib.Dec.{eqb, ltb, leb}
 use borrow.Author.Tests.{eq-eqb, ne-eqb, eqb-true, eqb-false, lt-ltb, le-ltb, ltb-true, ltb-false, le-leb, lt-leb, leb-true, leb-false, not-true, not-false}
 use borrow.Author.Count.{below-more}
 use Rattle.board_record.specs.Sizes.{places}
-use Rattle.board_record.specs.Table.{Table, keyAt, versionAt, lengthAt, Empty, Used, RemovalAt, PathAt, New, removalB}
+use Rattle.board_record.specs.Table.{Table, keyAt, versionAt, lengthAt, Empty, Used, RemovalAt, PathAt, New, usedB, removalB}
 use Rattle.board_record.specs.Search.{firstWhere, leastWhere, KeyPlace, placeIn, placeOf, LowestEmpty, emptyOf, OldestRemoval, oldestOf}
 use Rattle.board_record.specs.Search.{ReportPlace, keeps, takes, drops, targetOf, floorAfter, Wanted, path, removal, NextChange, wantedB, nextOf}
 use Rattle.board_record.specs.Proper.{Proper}
@@ -85,6 +85,14 @@ least-is t v zero l = nobody refl (λ j m. absurd (omega arith))
 least-is t v (suc n) l = least-step t v n (leastWhere t v n) (omega arith) (least-is t v n (omega arith)) (t n) refl
 
 -- ---- the tests of a place
+pub used-is : (b : Table) (p : ℕ) → usedB b p ≡ true → Used b p
+unfolding usedB
+used-is b p e = eqb-false (keyAt b p) 0 (not-true (eqb (keyAt b p) 0) e)
+
+pub is-used : (b : Table) (p : ℕ) → Used b p → usedB b p ≡ true
+unfolding usedB
+is-used b p u = rw (ne-eqb (keyAt b p) 0 u)
+
 pub removal-is : (b : Table) (i : ℕ) → removalB b i ≡ true → RemovalAt b i
 unfolding removalB
 removal-is b i e =
@@ -294,6 +302,14 @@ next-none b s w l j m r = go (leastWhere (wantedB b s w) (versionAt b) 128) (lea
     go : (i : ℕ) → IsLeast (wantedB b s w) (versionAt b) 128 i → 128 ≤ i → ⊥
     go i (nobody e f) n = true≢false (sym (is-wanted b s w j r) ∙ f j m)
     go i (this a c e f) n = omega arith
+
+pub next-most : (b : Table) (s w : ℕ) → nextOf b s w ≤ places
+unfolding nextOf
+next-most b s w = go (leastWhere (wantedB b s w) (versionAt b) 128) (least-is (wantedB b s w) (versionAt b) 128 (omega arith))
+  where
+    go : (i : ℕ) → IsLeast (wantedB b s w) (versionAt b) 128 i → i ≤ 128
+    go i (nobody e f) = omega arith
+    go i (this a c e f) = omega arith
 
 pub next-one : (b : Table) → Proper b → (s w i j : ℕ) → NextChange b s w i → NextChange b s w j → i ≡ j
 next-one b p s w i j x y =

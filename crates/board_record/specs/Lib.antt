@@ -1,5 +1,7 @@
 pub mod Sizes
+pub mod Lists
 pub mod Table
-pub mod Record
 pub mod Search
 pub mod Proper
+pub mod Order
+pub mod Record

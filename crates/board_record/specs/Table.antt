@@ -66,7 +66,10 @@ pub record PathAt (b : Table) (i : ℕ) : Type 0 where
 abbrev pub New : Table → ℕ → Type 0
 New b k = (j : ℕ) → j < places → keyAt b j ≡ k → ⊥
 
--- that a place is a removal, as a test
+-- that a place is used, and that it is a removal, as tests
+unfoldable pub usedB : Table → ℕ → Bool
+usedB b i = not (eqb (keyAt b i) 0)
+
 unfoldable pub removalB : Table → ℕ → Bool
 removalB b i = not (eqb (keyAt b i) 0) && eqb (lengthAt b i) 0
 

@@ -1,11 +1,9 @@
 // The table of paths in force (document 01, "The board"): 128 places, all empty at the start; each holds a key,
 // a version and either a path body or the mark of a removal. Bodies lie in 49,152 lent octets, 384 a place.
-mod place;
 mod record;
 mod size;
 mod wide;
 
-pub use place::place_ok;
 pub use record::Board;
 pub use record::empty;
 pub use size::BODY_LEAST;

@@ -1,5 +1,7 @@
 // The record of a board. Place i is `keys[i]`, `versions[i]` and `lengths[i]`: key 0 is an empty place, a key with
-// length 0 the mark of a removal, a key with another length a path whose body has that many octets.
+// length 0 the mark of a removal, a key with another length a path whose body has that many octets. `order` names
+// the used places from the oldest change to the newest, each by 1 more than the place, and has 0 behind them. So all zeros
+// is the empty board.
 ghost use mathlib.Core.Path.{_≡_};
 ghost use Rattle.board_record.specs.Record.{emptyBoard};
 
@@ -9,6 +11,7 @@ pub struct Board {
     pub lengths: [u16; 128],
     pub version: u64,
     pub floor: u64,
+    pub order: [u8; 128],
 }
 
 // The board at the start: all places empty, version and floor 0.
@@ -21,5 +24,6 @@ pub fn empty() -> Board
         lengths: [0; 128],
         version: 0,
         floor: 0,
+        order: [0; 128],
     }
 }

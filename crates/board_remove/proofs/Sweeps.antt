@@ -12,8 +12,9 @@ use lib.Dec.{eqb, leb}
 use borrow.Author.Tests.{not-true, not-false}
 use Rattle.board_record.specs.Sizes.{places}
 use Rattle.board_record.specs.Table.{Table, tableOf, keyAt, versionAt, removalB}
-use Rattle.board_rules.specs.Compact.{dropped, row, compacted}
-use Rattle.board_rules.proofs.Keeps.{length-row}
+use Rattle.board_record.specs.Lists.{row}
+use Rattle.board_record.proofs.Lists.{length-row}
+use Rattle.board_rules.specs.Compact.{dropped, compacted}
 use Rattle.board_remove.specs.Sweep.{keysKept, versionsKept}
 
 -- the first i places are swept, the others as they were

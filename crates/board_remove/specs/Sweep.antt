@@ -6,7 +6,8 @@ use mathlib.Core.Bool.{cond}
 use mathlib.Core.List.{List}
 use lib.ListN.{getD}
 use Rattle.board_record.specs.Table.{tableOf}
-use Rattle.board_rules.specs.Compact.{dropped, row}
+use Rattle.board_record.specs.Lists.{row}
+use Rattle.board_rules.specs.Compact.{dropped}
 
 unfoldable pub keysKept : List ℕ → List ℕ → List ℕ → ℕ → ℕ → List ℕ
 keysKept keys versions lengths c n = row (λ i. cond (dropped (tableOf keys versions lengths 0 0) c i) 0 (getD keys i 0)) n

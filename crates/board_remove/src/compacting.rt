@@ -1,17 +1,18 @@
 // Compact (c): 17, 24 if c is above the version. Drops the marks with version at most c; the floor becomes c if that is
-// higher.
+// higher, and what was dropped is off the order.
 ghost use mathlib.Core.Path.{_≡_};
-ghost use mathlib.Core.Bool.{not, _&&_};
+ghost use mathlib.Core.Bool.{false, not, _&&_};
 ghost use lib.ListN.{length};
 ghost use lib.Dec.{eqb, leb};
 ghost use Rattle.board_record.specs.Sizes.{places};
 ghost use Rattle.board_record.specs.Table.{tableOf};
-ghost use Rattle.board_rules.specs.Rules.{outcomeOf};
-ghost use Rattle.board_rules.specs.Compact.{compactAnswer};
+ghost use Rattle.board_record.specs.Record.{withOrder};
+ghost use Rattle.board_rules.specs.OnRecord.{resultOf, compactOn};
 ghost use Rattle.board_remove.specs.Sweep.{keysKept, versionsKept};
 use answers::NOT_A_BOARD;
 use answers::Verdict;
 use answers::refused;
+use board_order::drop_empty;
 use board_record::PLACES;
 use board_rules::compact_rules;
 use board_rules::is_board;
@@ -30,12 +31,14 @@ fn is_dropped(k: u32, v: u64, l: u16, c: u64) -> bool
     v <= c
 }
 
-// Empties the places whose mark has version at most c.
-fn sweep(keys: &mut [u32], versions: &mut [u64], lengths: &[u16; 128], c: u64)
+// Empties the places whose mark has version at most c, and says whether there was one.
+fn sweep(keys: &mut [u32], versions: &mut [u64], lengths: &[u16; 128], c: u64) -> bool
     requires { ⌜ (length (now keys) ≡ places) × (length (now versions) ≡ places) ⌝ }
     ensures keys { λ _. ⌜ now (keys .exit) ≡ keysKept (now (keys .entry)) (now (versions .entry)) (now (lengths .entry)) c places ⌝ }
     ensures versions { λ _. ⌜ now (versions .exit) ≡ versionsKept (now (keys .entry)) (now (versions .entry)) (now (lengths .entry)) c places ⌝ }
+    ensures stays { λ r. ⌜ (r ≡ false → (now (keys .exit) ≡ now (keys .entry)) × (now (versions .exit) ≡ now (versions .entry))) ⌝ }
 {
+    let mut dropped = false;
     let mut i: usize = 0;
     while i < PLACES {
         if !is_dropped(keys[i], versions[i], lengths[i], c) {
@@ -44,8 +47,10 @@ fn sweep(keys: &mut [u32], versions: &mut [u64], lengths: &[u16; 128], c: u64)
         }
         keys[i] = 0;
         versions[i] = 0;
+        dropped = true;
         i += 1;
     }
+    dropped
 }
 
 pub fn compact(
@@ -54,22 +59,24 @@ pub fn compact(
     lengths: &[u16; 128],
     version: u64,
     floor: &mut u64,
+    order: &mut [u8; 128],
     store: &[u8],
     c: u64,
 ) -> Verdict
     ensures answer { λ r.
         let before = tableOf (now (keys .entry)) (now (versions .entry)) (now (lengths .entry)) version (now (floor .entry)) in
         let after = tableOf (now (keys .exit)) (now (versions .exit)) (now (lengths .entry)) version (now (floor .exit)) in
-        ⌜ outcomeOf r after ≡ compactAnswer before (now (store .entry)) c ⌝ }
+        ⌜ resultOf r (withOrder after (now (order .exit))) ≡ compactOn (withOrder before (now (order .entry))) (now (store .entry)) c ⌝ }
 {
-    if !is_board(store.len(), keys, versions, lengths, version, *floor) {
+    if !is_board(store.len(), keys, versions, lengths, version, *floor, order) {
         return refused(NOT_A_BOARD, 0);
     }
     let verdict = compact_rules(c, version);
     if verdict.number != 0 {
         return verdict;
     }
-    sweep(keys, versions, lengths, c);
+    let dropped = sweep(keys, versions, lengths, c);
     *floor = larger(*floor, c);
+    drop_empty(keys, versions, lengths, version, *floor, order, dropped);
     verdict
 }

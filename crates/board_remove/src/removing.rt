@@ -1,12 +1,13 @@
 // Remove (key): 17, 18, 22, 20. The removal stays as a mark: the key keeps its place, with length 0 and the version that
-// the removal bears.
+// the removal bears, and goes to the end of the order.
 ghost use mathlib.Core.Path.{_≡_};
 ghost use Rattle.board_record.specs.Table.{tableOf};
-ghost use Rattle.board_rules.specs.Rules.{outcomeOf};
-ghost use Rattle.board_rules.specs.Remove.{removeAnswer};
+ghost use Rattle.board_record.specs.Record.{withOrder};
+ghost use Rattle.board_rules.specs.OnRecord.{resultOf, removeOn};
 use answers::NOT_A_BOARD;
 use answers::Verdict;
 use answers::refused;
+use board_order::move_last;
 use board_rules::is_board;
 use board_rules::length_at;
 use board_rules::remove_rules;
@@ -18,15 +19,16 @@ pub fn remove(
     lengths: &mut [u16; 128],
     version: &mut u64,
     floor: u64,
+    order: &mut [u8; 128],
     store: &[u8],
     key: u64,
 ) -> Verdict
     ensures answer { λ r.
         let before = tableOf (now (keys .entry)) (now (versions .entry)) (now (lengths .entry)) (now (version .entry)) floor in
         let after = tableOf (now (keys .entry)) (now (versions .exit)) (now (lengths .exit)) (now (version .exit)) floor in
-        ⌜ outcomeOf r after ≡ removeAnswer before (now (store .entry)) key ⌝ }
+        ⌜ resultOf r (withOrder after (now (order .exit))) ≡ removeOn (withOrder before (now (order .entry))) (now (store .entry)) key ⌝ }
 {
-    if !is_board(store.len(), keys, versions, lengths, *version, floor) {
+    if !is_board(store.len(), keys, versions, lengths, *version, floor, order) {
         return refused(NOT_A_BOARD, 0);
     }
     let at = place_of(keys, key);
@@ -35,6 +37,7 @@ pub fn remove(
         return verdict;
     }
     let next = *version + 1;
+    move_last(keys, versions, lengths, *version, floor, order, at);
     versions[at] = next;
     lengths[at] = 0;
     *version = next;

@@ -1,18 +1,17 @@
 -- Of any two answers that fit a call's contract, with the record that each leaves, equality. Assumes nothing.
 use Prim.Native.Nat.{ℕ}
-use mathlib.Core.Path.{_≡_, sym, ap, _∙_}
+use mathlib.Core.Path.{_≡_, sym, _∙_}
 use mathlib.Core.List.{List}
 use Rattle.answers.specs.declared.verdict.Verdict.{Verdict}
-use Rattle.board_record.specs.Table.{Table}
+use Rattle.board_record.specs.declared.record.Board.{Board}
 use Rattle.session.specs.declared.Session.{Session}
-use Rattle.board_rules.specs.Rules.{outcomeOf}
-use Rattle.board_rules.specs.Report.{reportAnswer, reportStore}
-use Rattle.board_rules.proofs.Told.{answers-same}
+use Rattle.board_rules.specs.OnRecord.{resultOf, reportOn, reportStoreOn}
+use Rattle.board_rules.proofs.OnRecord.{results-same}
 
-pub report-determined : (b : Table) (store : List ℕ) (k : ℕ) (ero : List ℕ) (session : Session) (pst : ℕ) (v w : Verdict) (c d : Table) (x y : List ℕ)
-    → outcomeOf v c ≡ reportAnswer b store k ero session pst
-    → outcomeOf w d ≡ reportAnswer b store k ero session pst
-    → x ≡ reportStore b store k ero session pst
-    → y ≡ reportStore b store k ero session pst
+pub report-determined : (b : Board) (store : List ℕ) (k : ℕ) (ero : List ℕ) (session : Session) (pst : ℕ) (v w : Verdict) (c d : Board) (x y : List ℕ)
+    → resultOf v c ≡ reportOn b store k ero session pst
+    → resultOf w d ≡ reportOn b store k ero session pst
+    → x ≡ reportStoreOn b store k ero session pst
+    → y ≡ reportStoreOn b store k ero session pst
     → ((v ≡ w) × (c ≡ d)) × (x ≡ y)
-report-determined b store k ero session pst v w c d x y p q r t = (answers-same (reportAnswer b store k ero session pst) v w c d p q, r ∙ sym t)
+report-determined b store k ero session pst v w c d x y p q r t = (results-same (reportOn b store k ero session pst) v w c d p q, r ∙ sym t)

@@ -17,7 +17,7 @@ use Rattle.session.specs.declared.Session.{Session}
 use Rattle.route.specs.Routes.{judgeOf}
 use Rattle.route.proofs.Answer.{accepted-body}
 use Rattle.objects.specs.Objects.{header}
-use Rattle.board_record.specs.Sizes.{places, room, storeSize, keyMost, versionMost}
+use Rattle.board_record.specs.Sizes.{places, room, storeSize, keyLeast, keyMost, versionMost}
 use Rattle.board_record.specs.Table.{Table, tableOf}
 use Rattle.board_record.specs.Search.{targetOf, floorAfter}
 use Rattle.board_record.specs.Proper.{properB}
@@ -28,6 +28,7 @@ use Rattle.board_rules.proofs.Told.{board-not, board-is, board-room, version-ro
 
 -- what the passed rules say
 pub record Passed (k : ℕ) (route : Verdict) (n top target : ℕ) : Type 0 where
+  pub low : keyLeast ≤ k
   pub key : k ≤ keyMost
   pub route-taken : route .number ≡ 0
   pub size : n ≤ room
@@ -42,7 +43,14 @@ passed k route n top target v e z =
     let c = rule-passed (ltb room n) 18 0 _ (b .1) in
     let d = rule-passed (eqb top versionMost) 19 0 _ (c .1) in
     let f = rule-passed (leb places target) 20 0 _ (d .1) in
-    record { key = range-passed k (a .0) .1; route-taken = b .0; size = ltb-false room n (c .0); used-up = eqb-false top versionMost (d .0); place = leb-false places target (f .0) }
+    record {
+      low = range-passed k (a .0) .0;
+      key = range-passed k (a .0) .1;
+      route-taken = b .0;
+      size = ltb-false room n (c .0);
+      used-up = eqb-false top versionMost (d .0);
+      place = leb-false places target (f .0);
+    }
 
 -- an accepted ERO has a header and a body
 pub body-there : (ero : List ℕ) (session : Session) (pst : ℕ) (route : Verdict) → route ≡ judgeOf ero true session pst → route .number ≡ 0 → 28 ≤ length ero

@@ -1,15 +1,17 @@
 // Report (key, ERO, session, PST): 17, 18, the route checks, 19, 20, 21. A key on the table, path or removal, keeps its
 // place; a new key takes the lowest empty place; with none, that of the oldest removal, and the floor rises to that
-// removal's version. The body, which is the ERO after its header, is written at the place's start.
+// removal's version. The body, which is the ERO after its header, is written at the place's start, and
+// the place goes to the end of the order.
 ghost use mathlib.Core.Path.{_≡_};
 ghost use Prim.Native.Nat.{_-_};
 ghost use Rattle.objects.specs.Objects.{header};
 ghost use Rattle.board_record.specs.Table.{tableOf};
-ghost use Rattle.board_rules.specs.Rules.{outcomeOf};
-ghost use Rattle.board_rules.specs.Report.{reportAnswer, reportStore};
+ghost use Rattle.board_record.specs.Record.{withOrder};
+ghost use Rattle.board_rules.specs.OnRecord.{resultOf, reportOn, reportStoreOn};
 use answers::NOT_A_BOARD;
 use answers::Verdict;
 use answers::refused;
+use board_order::move_last;
 use board_rules::is_board;
 use board_rules::report_rules;
 use board_rules::start_of;
@@ -33,6 +35,7 @@ pub fn report(
     lengths: &mut [u16; 128],
     version: &mut u64,
     floor: &mut u64,
+    order: &mut [u8; 128],
     store: &mut [u8],
     key: u64,
     ero: &[u8],
@@ -42,12 +45,20 @@ pub fn report(
     ensures answer { λ r.
         let before = tableOf (now (keys .entry)) (now (versions .entry)) (now (lengths .entry)) (now (version .entry)) (now (floor .entry)) in
         let after = tableOf (now (keys .exit)) (now (versions .exit)) (now (lengths .exit)) (now (version .exit)) (now (floor .exit)) in
-        ⌜ outcomeOf r after ≡ reportAnswer before (now (store .entry)) key (now (ero .entry)) session pst ⌝ }
+        ⌜ resultOf r (withOrder after (now (order .exit))) ≡ reportOn (withOrder before (now (order .entry))) (now (store .entry)) key (now (ero .entry)) session pst ⌝ }
     ensures octets { λ r.
         let before = tableOf (now (keys .entry)) (now (versions .entry)) (now (lengths .entry)) (now (version .entry)) (now (floor .entry)) in
-        ⌜ now (store .exit) ≡ reportStore before (now (store .entry)) key (now (ero .entry)) session pst ⌝ }
+        ⌜ now (store .exit) ≡ reportStoreOn (withOrder before (now (order .entry))) (now (store .entry)) key (now (ero .entry)) session pst ⌝ }
 {
-    if !is_board(store.len(), keys, versions, lengths, *version, *floor) {
+    if !is_board(
+        store.len(),
+        keys,
+        versions,
+        lengths,
+        *version,
+        *floor,
+        order,
+    ) {
         return refused(NOT_A_BOARD, 0);
     }
     let at = target(keys, versions, lengths, *version, *floor, key);
@@ -58,6 +69,7 @@ pub fn report(
     }
     let raised = floor_after(keys, versions, *floor, key, at);
     let next = *version + 1;
+    move_last(keys, versions, lengths, *version, *floor, order, at);
     lay(store, start_of(at), &ero[HEADER..]);
     keys[at] = key as u32;
     versions[at] = next;

@@ -23,12 +23,13 @@ use Rattle.board_record.specs.Search.{KeyPlace, placeOf, LowestEmpty, OldestRem
 use Rattle.board_record.specs.Proper.{Proper}
 use Rattle.octets.proofs.Said.{both-true}
 use Rattle.board_record.proofs.Logic.{true≢false, same?}
+use Rattle.board_record.proofs.Lists.{row-at}
 use Rattle.board_record.proofs.Search.{removal-is, is-removal, report-place-is, floor-keeps, floor-takes, floor-drops}
 use Rattle.board_record.proofs.Proper.{Sound, proper-sound, sound-proper}
 use Rattle.board_record.proofs.Changed.{Storable, Fitting, changed-sized, changed-proper}
 use Rattle.board_rules.specs.Report.{bodyIn, reportVerdict, reported, reportWith, reportAnswer}
 use Rattle.board_rules.specs.Remove.{removeVerdict, removed, removeAnswer}
-use Rattle.board_rules.specs.Compact.{compactVerdict, dropped, row, compacted, compactAnswer}
+use Rattle.board_rules.specs.Compact.{compactVerdict, dropped, compacted, compactAnswer}
 use Rattle.board_rules.proofs.Verdicts.{kept-old, kept-new, ReportPassed, report-passed, RemovePassed, remove-passed, CompactPassed, compact-passed}
 
 -- ---- report
@@ -133,22 +134,6 @@ remove-proper b store k s p =
     (λ d. rw (kept-old (removeVerdict b store k .number) b (removed b k) d) p) (taken? (removeVerdict b store k))
 
 -- ---- compact
-pub length-row : (f : ℕ → ℕ) (n : ℕ) → length (row f n) ≡ n
-unfolding row
-length-row f zero = refl
-length-row f (suc n) = length-append (row f n) (f n ∷ []) ∙ omega (arith, length-row f n)
-
-pub row-at : (f : ℕ → ℕ) (n i : ℕ) → i < n → getD (row f n) i 0 ≡ f i
-unfolding row
-row-at f zero i l = absurd (omega arith)
-row-at f (suc n) i l = go (row-at f n i) (same? i n)
-  where
-    go : (i < n → getD (row f n) i 0 ≡ f i) → (i ≡ n) ⊎ (i ≡ n → ⊥) → getD (row f n ++ (f n ∷ [])) i 0 ≡ f i
-    go p (inl e) =
-        let q : i ≡ length (row f n) + 0 = omega (arith, length-row f n) in
-        ap (λ (m : ℕ). getD (row f n ++ (f n ∷ [])) m 0) q ∙ getD-append-add (row f n) (f n ∷ []) 0 0 ∙ ap f (sym e)
-    go p (inr d) = List·getD-append (row f n) (f n ∷ []) 0 i (omega (arith, d, length-row f n)) ∙ p (omega (arith, d))
-
 module _ (b : Table) (m : ℕ) where
   pub compacted-key : (i : ℕ) → i < places → keyAt (compacted b m) i ≡ cond (dropped b m i) 0 (keyAt b i)
   unfolding compacted

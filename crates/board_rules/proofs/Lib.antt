@@ -6,3 +6,4 @@ pub mod Exact
 pub mod Stores
 pub mod Inside
 pub mod Told
+pub mod OnRecord

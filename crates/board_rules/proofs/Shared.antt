@@ -11,11 +11,14 @@ use Rattle.board_record.specs.Sizes.{places, storeSize}
 use Rattle.board_record.specs.Table.{Table, lengthAt}
 use Rattle.board_record.specs.Search.{placeOf}
 use Rattle.board_record.specs.Proper.{properB}
+use Rattle.board_record.specs.Order.{inOrder}
+use Rattle.board_record.specs.Record.{withOrder}
 use Rattle.board_rules.specs.Rules.{isBoard, lengthIn, hasPath}
+use Rattle.board_rules.specs.OnRecord.{isRecord}
 
-pub board-long : (b : Table) (n : ℕ) (r : Bool) → storeSize ≤ n → r ≡ properB b → r ≡ isBoard b n
-unfolding isBoard
-board-long b n r l e = rw (le-leb 49152 n l) e
+pub board-long : (b : Table) (order : List ℕ) (n : ℕ) (r : Bool) → storeSize ≤ n → r ≡ (properB b && inOrder b order) → r ≡ isRecord (withOrder b order) n
+unfolding isRecord isBoard
+board-long b order n r l e = rw (le-leb 49152 n l) e
 
 -- the test for a path, on the numbers that the code has
 pub path-test : (b : Table) (k at n : ℕ) → at ≡ placeOf b k → n ≡ lengthIn (b .lengths) at → (ltb at places && not (eqb n 0)) ≡ hasPath b k

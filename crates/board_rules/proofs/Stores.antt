@@ -16,11 +16,11 @@ use Rattle.board_record.specs.Table.{Table, Sized, bearing}
 use Rattle.board_record.specs.Search.{targetOf, placeOf, floorAfter}
 use Rattle.board_record.proofs.Logic.{same?}
 use Rattle.board_record.proofs.Changed.{changed-sized}
+use Rattle.board_record.proofs.Lists.{length-row}
 use Rattle.board_rules.specs.Report.{bodyIn, reportVerdict, reported, reportWith, storeWith, reportAnswer, reportStore}
 use Rattle.board_rules.specs.Remove.{removeVerdict, removed, removeAnswer}
 use Rattle.board_rules.specs.Compact.{compactVerdict, compacted, compactAnswer}
 use Rattle.board_rules.proofs.Verdicts.{kept-old, kept-new, report-passed}
-use Rattle.board_rules.proofs.Keeps.{length-row}
 
 module _ (b : Table) (store : List ℕ) (k : ℕ) (ero : List ℕ) (session : Session) (pst : ℕ) where
   pub report-refused-writes-nothing : (reportAnswer b store k ero session pst .verdict .number ≡ 0 → ⊥) → reportStore b store k ero session pst ≡ store

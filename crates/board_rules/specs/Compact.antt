@@ -1,14 +1,15 @@
 -- Compact (document 01, "The board": "Compact (c): 17, 24 if c is above the version. Drops the marks with version at most c; the floor becomes c if
 -- that is higher.").
-use Prim.Native.Nat.{ℕ, zero, suc, max}
+use Prim.Native.Nat.{ℕ, max}
 use mathlib.Core.Bool.{Bool, not, cond, _&&_}
-use mathlib.Core.List.{List, [], _∷_, _++_}
+use mathlib.Core.List.{List}
 use lib.ListN.{length}
 use lib.Dec.{ltb, leb}
 use Rattle.answers.specs.declared.verdict.Verdict.{Verdict}
 use Rattle.answers.specs.Numbers.{notABoard, markAhead}
 use Rattle.answers.specs.Verdicts.{refusedBy, acceptedWith, kept}
 use Rattle.board_record.specs.Sizes.{places}
+use Rattle.board_record.specs.Lists.{row}
 use Rattle.board_record.specs.Table.{Table, tableOf, keyAt, versionAt, removalB}
 use Rattle.board_rules.specs.Rules.{Outcome, isBoard}
 
@@ -25,11 +26,6 @@ compactVerdict b store c = compactRules (isBoard b (length store)) c (b .version
 -- a mark "with version at most c"
 unfoldable pub dropped : Table → ℕ → ℕ → Bool
 dropped b c i = removalB b i && leb (versionAt b i) c
-
--- f 0, f 1, .. , f (n - 1)
-unfoldable pub row : (ℕ → ℕ) → ℕ → List ℕ
-row f zero = []
-row f (suc n) = row f n ++ (f n ∷ [])
 
 -- the table after an accepted compaction: a place whose mark is dropped is empty, every other one is as it was
 unfoldable pub compacted : Table → ℕ → Table

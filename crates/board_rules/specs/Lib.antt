@@ -4,3 +4,4 @@ pub mod Remove
 pub mod Compact
 pub mod Body
 pub mod Next
+pub mod OnRecord

@@ -1,9 +1,12 @@
-// 17 is answered exactly if the store is shorter than 49,152 octets or the record isn't proper.
+// 17 is answered exactly if the store is shorter than 49,152 octets or the record isn't proper; a proper record's order is
+// that of its table.
 ghost use mathlib.Core.Path.{_≡_};
 ghost use Prim.Native.Nat.{_*_, _<_};
 ghost use Rattle.board_record.specs.Sizes.{places, room};
 ghost use Rattle.board_record.specs.Table.{tableOf};
-ghost use Rattle.board_rules.specs.Rules.{isBoard, lengthIn};
+ghost use Rattle.board_record.specs.Record.{withOrder};
+ghost use Rattle.board_rules.specs.Rules.{lengthIn};
+ghost use Rattle.board_rules.specs.OnRecord.{isRecord};
 use board_record::PLACES;
 use board_record::ROOM;
 use board_record::STORE;
@@ -17,13 +20,16 @@ pub fn is_board<'a>(
     lengths: &'a [u16; 128],
     top: u64,
     floor: u64,
+    order: &'a [u8; 128],
 ) -> bool
-    ensures board { λ r. ⌜ r ≡ isBoard (tableOf (now (keys .entry)) (now (versions .entry)) (now (lengths .entry)) top floor) n ⌝ }
+    ensures board { λ r.
+        let b = tableOf (now (keys .entry)) (now (versions .entry)) (now (lengths .entry)) top floor in
+        ⌜ r ≡ isRecord (withOrder b (now (order .entry))) n ⌝ }
 {
     if n < STORE {
         return false;
     }
-    board_proper::is_proper(keys, versions, lengths, top, floor)
+    board_proper::is_proper(keys, versions, lengths, top, floor, order)
 }
 
 // Place i, from 0, starts at 384 times i.

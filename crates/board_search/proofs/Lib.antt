@@ -1,4 +1,5 @@
 pub mod Keys
 pub mod Tracks
 pub mod Targets
+pub mod Along
 pub mod Determined

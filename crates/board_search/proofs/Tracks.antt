@@ -1,22 +1,22 @@
 -- A search that keeps the best place so far ends at the place of the smallest version. On a board an empty place has version 0 and every version is
--- below the first best, so the tests that read no key are those of the table. Assumes nothing.
+-- below the first best, so the test that reads no key is that of the table. Assumes nothing.
 use Prim.Native.Nat.{ℕ, zero, suc, _+_, _<_, _≤_}
 use native.Mathlib.Numerals.{add-one}
 use native.Mathlib.Omega.{arith}
 use mathlib.Core.Path.{_≡_, refl, sym, ap, _∙_}
-use mathlib.Core.Bool.{Bool, true, false, not, cond, _&&_, _||_}
+use mathlib.Core.Bool.{Bool, true, false, not, cond, _&&_}
 use mathlib.Core.List.{List}
 use lib.ListN.{getD}
 use lib.Dec.{eqb, ltb, leb}
 use borrow.Author.Tests.{eq-eqb, ne-eqb, eqb-true, eqb-false, lt-ltb, le-ltb, ltb-true, ltb-false, lt-leb, leb-true, leb-false}
 use Rattle.board_record.specs.Sizes.{places}
 use Rattle.board_record.specs.Table.{Table, tableOf, keyAt, versionAt, lengthAt, removalB, entryAt}
-use Rattle.board_record.specs.Search.{leastWhere, oldestOf, wantedB, nextOf}
+use Rattle.board_record.specs.Search.{leastWhere, oldestOf}
 use Rattle.board_record.specs.Proper.{properB}
 use Rattle.board_record.proofs.Logic.{and-false}
 use Rattle.board_record.proofs.Proper.{Sound, properB-sound, proper-is}
 use Rattle.board_search.specs.declared.best.Best.{Best}
-use Rattle.board_search.specs.Best.{noBest, betterOf, bare, wantedOf}
+use Rattle.board_search.specs.Best.{noBest, betterOf, bare}
 
 -- the best among the first n
 pub record Tracks (t : ℕ → Bool) (v : ℕ → ℕ) (n : ℕ) (b : Best) : Type 0 where
@@ -88,29 +88,7 @@ module _ (ks vs ls : List ℕ) (top floor : ℕ) (p : properB (tableOf ks vs ls 
       go true e y = rw (eq-eqb (getD vs i 0) 0 (o .none (eqb-true (getD ks i 0) 0 e) .0)) (and-false y)
       go false e y = rw (ne-eqb (getD vs i 0) 0 (λ z. omega (arith, o .low (eqb-false (getD ks i 0) 0 e)))) (swap y)
 
-  wanted-of-is : (s w i : ℕ) → i < places → wantedOf s w (getD vs i 0) (getD ls i 0) ≡ wantedB table s w i
-  unfolding wantedOf wantedB
-  wanted-of-is s w i l = go (eqb (getD ks i 0) 0) refl
-    where
-      o : Sound (entryAt table i) top floor
-      o = properB-sound table p i l
-
-      swap : (x y : Bool) → x || y ≡ y || x
-      swap true true = refl
-      swap true false = refl
-      swap false true = refl
-      swap false false = refl
-
-      go : (x : Bool) → eqb (getD ks i 0) 0 ≡ x
-          → ltb w (getD vs i 0) && (ltb s (getD vs i 0) || not (eqb (getD ls i 0) 0)) ≡ not x && ltb w (getD vs i 0) && (not (eqb (getD ls i 0) 0) || ltb s (getD vs i 0))
-      go true e = rw (le-ltb w (getD vs i 0) (omega (arith, o .none (eqb-true (getD ks i 0) 0 e) .0)))
-      go false e = rw (swap (ltb s (getD vs i 0)) (not (eqb (getD ls i 0) 0)))
-
-  -- the two searches end
+  -- the search ends
   pub oldest-done : (i : ℕ) (b : Best) → Tracks (λ j. bare (getD vs j 0) (getD ls j 0)) (λ j. getD vs j 0) i b → i ≤ places → places ≤ i → b .at ≡ oldestOf table
   unfolding oldestOf
   oldest-done i b r h l = tracks-done _ (removalB table) _ i b r h l bare-is
-
-  pub next-done : (s w i : ℕ) (b : Best) → Tracks (λ j. wantedOf s w (getD vs j 0) (getD ls j 0)) (λ j. getD vs j 0) i b → i ≤ places → places ≤ i → b .at ≡ nextOf table s w
-  unfolding nextOf
-  next-done s w i b r h l = tracks-done _ (wantedB table s w) _ i b r h l (wanted-of-is s w)

@@ -2,8 +2,8 @@
 --
 -- A search for the smallest version keeps the best place so far; proofs/Tracks.antt shows that it ends at `leastWhere`.
 use Prim.Native.Nat.{ℕ}
-use mathlib.Core.Bool.{Bool, not, cond, _&&_, _||_}
-use lib.Dec.{eqb, ltb, leb}
+use mathlib.Core.Bool.{Bool, not, cond, _&&_}
+use lib.Dec.{eqb, leb}
 use Rattle.board_record.specs.Sizes.{places}
 use Rattle.board_search.specs.declared.best.Best.{Best}
 
@@ -22,7 +22,3 @@ betterOf best passes at v = cond (leb (best .version) v) best (cond passes (reco
 -- on a board, the version and length of a removal
 unfoldable pub bare : ℕ → ℕ → Bool
 bare v l = eqb l 0 && not (eqb v 0)
-
--- on a board, the version and length of a change that a follower at (s, w) wants
-unfoldable pub wantedOf : ℕ → ℕ → ℕ → ℕ → Bool
-wantedOf s w v l = ltb w v && (ltb s v || not (eqb l 0))

@@ -1,7 +1,7 @@
 // A search for the smallest version keeps the best place so far. At the start that is no place, with a version that
 // every board's is below.
 ghost use mathlib.Core.Path.{_≡_};
-ghost use Rattle.board_search.specs.Best.{betterOf, noBest, bare, wantedOf};
+ghost use Rattle.board_search.specs.Best.{betterOf, noBest, bare};
 use board_record::PLACES;
 
 // above every board's version, which is at most 2^64-2
@@ -32,25 +32,6 @@ pub fn older(best: Best, at: usize, v: u64, l: u16) -> Best
         return best;
     }
     if v == 0 {
-        return best;
-    }
-    Best { at: at, version: v }
-}
-
-// The best with one place more, as a search for the next change takes it.
-pub fn sooner(best: Best, s: u64, w: u64, at: usize, v: u64, l: u16) -> Best
-    ensures better { λ r. ⌜ r ≡ betterOf best (wantedOf s w v l) at v ⌝ }
-{
-    if best.version <= v {
-        return best;
-    }
-    if v <= w {
-        return best;
-    }
-    if s < v {
-        return Best { at: at, version: v };
-    }
-    if l == 0 {
         return best;
     }
     Best { at: at, version: v }

@@ -1,10 +1,9 @@
 // What changes the board, on a record whose parts are lent one by one, over the records of the border (include/strundevi.h).
 // A refusal writes nothing.
 ghost use mathlib.Core.Path.{_≡_};
-ghost use Rattle.board_record.specs.Table.{tableOf, emptyTable};
-ghost use Rattle.board_rules.specs.Report.{reportAnswer, reportStore};
-ghost use Rattle.board_rules.specs.Remove.{removeAnswer};
-ghost use Rattle.board_rules.specs.Compact.{compactAnswer};
+ghost use Rattle.board_record.specs.Table.{tableOf};
+ghost use Rattle.board_record.specs.Record.{withOrder, emptyBoard};
+ghost use Rattle.board_rules.specs.OnRecord.{reportOn, reportStoreOn, removeOn, compactOn};
 ghost use Rattle.border_records.specs.Records.{sessionIn, verdictOut};
 use border_records::SessionRecord;
 use border_records::VerdictRecord;
@@ -16,14 +15,18 @@ pub fn empty(
     lengths: &mut [u16; 128],
     version: &mut u64,
     floor: &mut u64,
+    order: &mut [u8; 128],
 )
-    ensures empty { λ _. ⌜ tableOf (now (keys .exit)) (now (versions .exit)) (now (lengths .exit)) (now (version .exit)) (now (floor .exit)) ≡ emptyTable ⌝ }
+    ensures empty { λ _.
+        let after = tableOf (now (keys .exit)) (now (versions .exit)) (now (lengths .exit)) (now (version .exit)) (now (floor .exit)) in
+        ⌜ withOrder after (now (order .exit)) ≡ emptyBoard ⌝ }
 {
     *keys = [0; 128];
     *versions = [0; 128];
     *lengths = [0; 128];
     *version = 0;
     *floor = 0;
+    *order = [0; 128];
 }
 
 // Reports a path.
@@ -33,15 +36,23 @@ pub fn report(
     lengths: &mut [u16; 128],
     version: &mut u64,
     floor: &mut u64,
+    order: &mut [u8; 128],
     store: &mut [u8],
     key: u64,
     ero: &[u8],
     session: SessionRecord,
     pst: u64,
 ) -> VerdictRecord
-    ensures verdict { λ r. ⌜ r ≡ verdictOut (reportAnswer (tableOf (now (keys .entry)) (now (versions .entry)) (now (lengths .entry)) (now (version .entry)) (now (floor .entry))) (now (store .entry)) key (now (ero .entry)) (sessionIn session) pst .verdict) ⌝ }
-    ensures board { λ _. ⌜ tableOf (now (keys .exit)) (now (versions .exit)) (now (lengths .exit)) (now (version .exit)) (now (floor .exit)) ≡ reportAnswer (tableOf (now (keys .entry)) (now (versions .entry)) (now (lengths .entry)) (now (version .entry)) (now (floor .entry))) (now (store .entry)) key (now (ero .entry)) (sessionIn session) pst .table ⌝ }
-    ensures octets { λ _. ⌜ now (store .exit) ≡ reportStore (tableOf (now (keys .entry)) (now (versions .entry)) (now (lengths .entry)) (now (version .entry)) (now (floor .entry))) (now (store .entry)) key (now (ero .entry)) (sessionIn session) pst ⌝ }
+    ensures verdict { λ r.
+        let before = withOrder (tableOf (now (keys .entry)) (now (versions .entry)) (now (lengths .entry)) (now (version .entry)) (now (floor .entry))) (now (order .entry)) in
+        ⌜ r ≡ verdictOut (reportOn before (now (store .entry)) key (now (ero .entry)) (sessionIn session) pst .verdict) ⌝ }
+    ensures board { λ _.
+        let before = withOrder (tableOf (now (keys .entry)) (now (versions .entry)) (now (lengths .entry)) (now (version .entry)) (now (floor .entry))) (now (order .entry)) in
+        let after = withOrder (tableOf (now (keys .exit)) (now (versions .exit)) (now (lengths .exit)) (now (version .exit)) (now (floor .exit))) (now (order .exit)) in
+        ⌜ after ≡ reportOn before (now (store .entry)) key (now (ero .entry)) (sessionIn session) pst .board ⌝ }
+    ensures octets { λ _.
+        let before = withOrder (tableOf (now (keys .entry)) (now (versions .entry)) (now (lengths .entry)) (now (version .entry)) (now (floor .entry))) (now (order .entry)) in
+        ⌜ now (store .exit) ≡ reportStoreOn before (now (store .entry)) key (now (ero .entry)) (sessionIn session) pst ⌝ }
 {
     let agreed = border_records::session_in(session);
     let v = board_report::report(
@@ -50,6 +61,7 @@ pub fn report(
         lengths,
         version,
         floor,
+        order,
         store,
         key,
         ero,
@@ -66,13 +78,19 @@ pub fn remove(
     lengths: &mut [u16; 128],
     version: &mut u64,
     floor: u64,
+    order: &mut [u8; 128],
     store: &[u8],
     key: u64,
 ) -> VerdictRecord
-    ensures verdict { λ r. ⌜ r ≡ verdictOut (removeAnswer (tableOf (now (keys .entry)) (now (versions .entry)) (now (lengths .entry)) (now (version .entry)) floor) (now (store .entry)) key .verdict) ⌝ }
-    ensures board { λ _. ⌜ tableOf (now (keys .entry)) (now (versions .exit)) (now (lengths .exit)) (now (version .exit)) floor ≡ removeAnswer (tableOf (now (keys .entry)) (now (versions .entry)) (now (lengths .entry)) (now (version .entry)) floor) (now (store .entry)) key .table ⌝ }
+    ensures verdict { λ r.
+        let before = withOrder (tableOf (now (keys .entry)) (now (versions .entry)) (now (lengths .entry)) (now (version .entry)) floor) (now (order .entry)) in
+        ⌜ r ≡ verdictOut (removeOn before (now (store .entry)) key .verdict) ⌝ }
+    ensures board { λ _.
+        let before = withOrder (tableOf (now (keys .entry)) (now (versions .entry)) (now (lengths .entry)) (now (version .entry)) floor) (now (order .entry)) in
+        let after = withOrder (tableOf (now (keys .entry)) (now (versions .exit)) (now (lengths .exit)) (now (version .exit)) floor) (now (order .exit)) in
+        ⌜ after ≡ removeOn before (now (store .entry)) key .board ⌝ }
 {
-    let v = board_remove::remove(keys, versions, lengths, version, floor, store, key);
+    let v = board_remove::remove(keys, versions, lengths, version, floor, order, store, key);
     border_records::verdict_out(v)
 }
 
@@ -83,12 +101,18 @@ pub fn compact(
     lengths: &[u16; 128],
     version: u64,
     floor: &mut u64,
+    order: &mut [u8; 128],
     store: &[u8],
     c: u64,
 ) -> VerdictRecord
-    ensures verdict { λ r. ⌜ r ≡ verdictOut (compactAnswer (tableOf (now (keys .entry)) (now (versions .entry)) (now (lengths .entry)) version (now (floor .entry))) (now (store .entry)) c .verdict) ⌝ }
-    ensures board { λ _. ⌜ tableOf (now (keys .exit)) (now (versions .exit)) (now (lengths .entry)) version (now (floor .exit)) ≡ compactAnswer (tableOf (now (keys .entry)) (now (versions .entry)) (now (lengths .entry)) version (now (floor .entry))) (now (store .entry)) c .table ⌝ }
+    ensures verdict { λ r.
+        let before = withOrder (tableOf (now (keys .entry)) (now (versions .entry)) (now (lengths .entry)) version (now (floor .entry))) (now (order .entry)) in
+        ⌜ r ≡ verdictOut (compactOn before (now (store .entry)) c .verdict) ⌝ }
+    ensures board { λ _.
+        let before = withOrder (tableOf (now (keys .entry)) (now (versions .entry)) (now (lengths .entry)) version (now (floor .entry))) (now (order .entry)) in
+        let after = withOrder (tableOf (now (keys .exit)) (now (versions .exit)) (now (lengths .entry)) version (now (floor .exit))) (now (order .exit)) in
+        ⌜ after ≡ compactOn before (now (store .entry)) c .board ⌝ }
 {
-    let v = board_remove::compact(keys, versions, lengths, version, floor, store, c);
+    let v = board_remove::compact(keys, versions, lengths, version, floor, order, store, c);
     border_records::verdict_out(v)
 }

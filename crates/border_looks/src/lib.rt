@@ -3,8 +3,8 @@
 ghost use mathlib.Core.Path.{_≡_};
 ghost use Rattle.board_record.specs.Table.{tableOf};
 ghost use Rattle.octets.specs.Octets.{part};
-ghost use Rattle.board_rules.specs.Body.{bodyOf};
-ghost use Rattle.board_rules.specs.Next.{nextAnswer};
+ghost use Rattle.board_record.specs.Record.{withOrder};
+ghost use Rattle.board_rules.specs.OnRecord.{bodyOn, nextOn};
 ghost use Rattle.border_answers.specs.Handing.{changeOut};
 ghost use Rattle.border_looks.specs.Looks.{partOut, freshOut};
 use border_answers::ChangeRecord;
@@ -32,13 +32,27 @@ pub fn body<'a>(
     lengths: &'a [u16; 128],
     version: u64,
     floor: u64,
+    order: &'a [u8; 128],
     store: &[u8],
     key: u64,
 ) -> PartRecord
-    ensures part { λ r. ⌜ r ≡ partOut (tableOf (now (keys .entry)) (now (versions .entry)) (now (lengths .entry)) version floor) (now (store .entry)) key ⌝ }
-    ensures octets { λ r. ⌜ part (now (store .entry)) (r .start) (r .length) ≡ bodyOf (tableOf (now (keys .entry)) (now (versions .entry)) (now (lengths .entry)) version floor) (now (store .entry)) key ⌝ }
+    ensures part { λ r.
+        let b = withOrder (tableOf (now (keys .entry)) (now (versions .entry)) (now (lengths .entry)) version floor) (now (order .entry)) in
+        ⌜ r ≡ partOut b (now (store .entry)) key ⌝ }
+    ensures octets { λ r.
+        let b = withOrder (tableOf (now (keys .entry)) (now (versions .entry)) (now (lengths .entry)) version floor) (now (order .entry)) in
+        ⌜ part (now (store .entry)) (r .start) (r .length) ≡ bodyOn b (now (store .entry)) key ⌝ }
 {
-    let verdict = board_look::body_number(keys, versions, lengths, version, floor, store, key);
+    let verdict = board_look::body_number(
+        keys,
+        versions,
+        lengths,
+        version,
+        floor,
+        order,
+        store,
+        key,
+    );
     if verdict.number != 0 {
         return PartRecord {
             number: verdict.number,
@@ -61,13 +75,16 @@ pub fn next<'a>(
     lengths: &'a [u16; 128],
     version: u64,
     floor: u64,
+    order: &'a [u8; 128],
     store: &[u8],
     s: u64,
     w: u64,
 ) -> ChangeRecord
-    ensures next { λ r. ⌜ r ≡ changeOut (nextAnswer (tableOf (now (keys .entry)) (now (versions .entry)) (now (lengths .entry)) version floor) (now (store .entry)) s w) ⌝ }
+    ensures next { λ r.
+        let b = withOrder (tableOf (now (keys .entry)) (now (versions .entry)) (now (lengths .entry)) version floor) (now (order .entry)) in
+        ⌜ r ≡ changeOut (nextOn b (now (store .entry)) s w) ⌝ }
 {
-    let handed = board_look::next(keys, versions, lengths, version, floor, store, s, w);
+    let handed = board_look::next(keys, versions, lengths, version, floor, order, store, s, w);
     change_out(handed)
 }
 

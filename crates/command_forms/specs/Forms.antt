@@ -36,6 +36,7 @@ rows =
     record { name = ascii "next"; verb = v.Next } ∷
     record { name = ascii "mark"; verb = v.Mark } ∷
     record { name = ascii "board"; verb = v.Board } ∷
+    record { name = ascii "chain"; verb = v.Chain } ∷
     []
 
 -- The command of the first row that has this name; `Bad` where none has it.
@@ -113,6 +114,7 @@ kindsOf v.Body = number ∷ []
 kindsOf v.Next = number ∷ number ∷ []
 kindsOf v.Mark = []
 kindsOf v.Board = []
+kindsOf v.Chain = []
 
 -- Words i, i + 1, .. are of these kinds.
 abbrev pub fitFrom : List Kind → List ℕ → ℕ → Bool

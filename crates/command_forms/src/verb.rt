@@ -30,6 +30,7 @@ pub enum Verb {
     Next,
     Mark,
     Board,
+    Chain,
 }
 
 pub const ERO: [u8; 3] = *b"ero";
@@ -38,7 +39,7 @@ pub const RRO: [u8; 3] = *b"rro";
 
 // The letters: n a number, 1 one of 0 or 1, 8 of 0 to 255, 6 of 0 to 65,535, z a size, o octets, e `ero` or `rro`,
 // s a SID, a a NAI, t a structure.
-pub const ROWS: [u8; 146] = *b"\
+pub const ROWS: [u8; 152] = *b"\
 pcc o\n\
 pce o\n\
 ero no\n\
@@ -55,7 +56,8 @@ compact n\n\
 body n\n\
 next nn\n\
 mark\n\
-board";
+board\n\
+chain";
 
 // The place of the row that has this name, from 0; behind the last where none has it.
 pub fn place_named(w: &[u8]) -> usize
@@ -96,6 +98,7 @@ pub fn verb_at(place: usize) -> Verb
         14 => Verb::Next,
         15 => Verb::Mark,
         16 => Verb::Board,
+        17 => Verb::Chain,
         _ => Verb::Bad,
     }
 }

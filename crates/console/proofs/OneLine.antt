@@ -20,9 +20,9 @@ use Rattle.route.specs.declared.picking.Picked.{Picked}
 use Rattle.board_rules.specs.declared.answer.Handed.{Handed}
 use Rattle.board_rules.specs.declared.answer.Handed.the-variants.{Refused, Path, Removed, Level}
 use Rattle.board_by_value.specs.ByValue.{bodyNumberOn, bodyOn, nextOn, freshMarkOn}
-use Rattle.printing.specs.Text.{spell, decimalOf, glyphOf, hexOf, octetsText}
+use Rattle.printing.specs.Text.{spell, decimalOf, glyphOf, hexOf, octetsText, furtherText, listText}
 use Rattle.words.specs.Words.{newline, space, comma, ascii}
-use Rattle.console_lines.specs.Lines.{lineOf, acceptance, refusalLine, badLine, doneLine, oneLine, twoLine, octetsLine}
+use Rattle.console_lines.specs.Lines.{lineOf, acceptance, refusalLine, badLine, doneLine, oneLine, twoLine, octetsLine, listLine}
 use Rattle.console_fields.specs.Shown.{bitOf, limitText, openLine, openedLine, structureText, strayWords, segmentLine}
 use Rattle.command_forms.specs.declared.verb.Verb.{Verb}
 use Rattle.command_forms.specs.declared.verb.Verb.the-variants as v
@@ -32,7 +32,7 @@ use Rattle.console_state.specs.Standing.{Console}
 use Rattle.console_state.specs.Answers.{answerLine, countLine, plainLine}
 use Rattle.console_routes.specs.Routing.{openIn, routeLine, pickedLine, segmentAnswer}
 use Rattle.console_writer.specs.Composing.{placeLine, finishLine}
-use Rattle.console_board.specs.Boarding.{bodyLine, handedLine, nextLine}
+use Rattle.console_board.specs.Boarding.{bodyLine, handedLine, nextLine, chainOf}
 use Rattle.console_turn.specs.Turns.{turnBy, turnOf}
 
 -- Octets above 31, none of them a newline.
@@ -155,6 +155,19 @@ octets-clear s = all-cons (octetsText s) [] (clear-octets s) all-none
 octets-one : (s : List ℕ) → OneLine (octetsLine s)
 octets-one s = accepted-one (octetsText s ∷ []) (octets-clear s)
 
+clear-further : (s : List ℕ) → clear (furtherText s) ≡ true
+unfolding furtherText
+clear-further [] = clear-none
+clear-further (x ∷ xs) = clear-append (comma ∷ decimalOf x) (furtherText xs) (clear-cons comma (decimalOf x) (omega arith) (clear-decimal x)) (clear-further xs)
+
+clear-list : (s : List ℕ) → clear (listText s) ≡ true
+unfolding listText clear
+clear-list [] = refl
+clear-list (x ∷ xs) = clear-append (decimalOf x) (furtherText xs) (clear-decimal x) (clear-further xs)
+
+list-one : (s : List ℕ) → OneLine (listLine s)
+list-one s = accepted-one (listText s ∷ []) (all-cons (listText s) [] (clear-list s) all-none)
+
 open-one : (o : Opened) → OneLine (openLine o)
 open-one o = accepted-one _ (numbers-clear (bitOf (o .srv6)) (bitOf (o .n)) (limitText (o .limit) ∷ []) (all-cons (limitText (o .limit)) [] (clear-limit (o .limit)) all-none))
 
@@ -230,6 +243,7 @@ by-verb-one v.Body h k c line n = answer-one (bodyNumberOn (k .board) (k .store)
 by-verb-one v.Next h k c line n = handed-one (k .store) (nextOn (k .board) (k .store) (c .one) (c .two))
 by-verb-one v.Mark h k c line n = two-one (freshMarkOn (k .board) .s) (freshMarkOn (k .board) .w)
 by-verb-one v.Board h k c line n = two-one (k .board .version) (k .board .floor)
+by-verb-one v.Chain h k c line n = list-one (chainOf (k .board .order))
 
 pub turn-one : (k : Console) (line : List ℕ) (n : ℕ) → (commandOf line .verb ≡ v.Skip → ⊥) → OneLine (turnOf k line n .answer)
 unfolding turnOf

@@ -1,4 +1,4 @@
-// The console's commands about the board: report, remove, compact, body, next, mark, board (console.md). `room`
+// The console's commands about the board: report, remove, compact, body, next, mark, board, chain (console.md). `room`
 // takes the octets that the line spells.
 mod change;
 mod look;
@@ -8,6 +8,7 @@ pub use change::compacted;
 pub use change::removed;
 pub use change::reported;
 pub use look::body;
+pub use look::chain;
 pub use look::mark;
 pub use look::next;
 pub use look::numbers;

@@ -1,10 +1,11 @@
-// body, next, mark, board: the line.
+// body, next, mark, board, chain: the line.
 ghost use Prim.Native.Nat.{_+_, _*_, _≤_};
 ghost use mathlib.Core.Path.{_≡_};
-ghost use lib.ListN.{length};
+ghost use lib.ListN.{length, take};
 ghost use Rattle.octets.specs.Octets.{part};
+ghost use Rattle.board_record.specs.Sizes.{places};
 ghost use Rattle.printing.specs.Text.{Behind};
-ghost use Rattle.console_board.specs.Boarding.{bodyLine, nextLine, markLine, boardLine};
+ghost use Rattle.console_board.specs.Boarding.{bodyLine, nextLine, markLine, boardLine, chainOf, chainLine};
 use board_record::Board;
 use board_rules::Handed;
 use command::Command;
@@ -65,4 +66,33 @@ pub fn numbers(b: Board, out: &mut [u8]) -> usize
     ensures told { λ r. ⌜ Behind (now (out .entry)) (now (out .exit)) 0 r (boardLine b) ⌝ }
 {
     console_lines::two(out, b.version, b.floor)
+}
+
+// The places that the numbers of an order name go to the front of `row`; how many they are.
+fn along(order: &[u8], row: &mut [u8]) -> usize
+    requires { ⌜ (length (now order) ≡ places) × (length (now row) ≡ places) ⌝ }
+    ensures named { λ r. ⌜ take r (now (row .exit)) ≡ chainOf (now (order .entry)) ⌝ }
+    ensures within { λ r. ⌜ r ≤ places ⌝ }
+{
+    let mut i: usize = 0;
+    while i < board_record::PLACES {
+        let n = order[i];
+        if n == 0 {
+            return i;
+        }
+        row[i] = n - 1;
+        i += 1;
+    }
+    i
+}
+
+// `chain`: the used places from the oldest change to the newest.
+pub fn chain(b: Board, out: &mut [u8]) -> usize
+    requires { ⌜ 21 * places + 128 ≤ length (now out) ⌝ }
+    ensures told { λ r. ⌜ Behind (now (out .entry)) (now (out .exit)) 0 r (chainLine b) ⌝ }
+{
+    let order = b.order;
+    let mut row = [0u8; 128];
+    let n = along(&order, &mut row);
+    console_lines::list(out, &row[..n])
 }

@@ -3,7 +3,7 @@ use Prim.Native.Nat.{ℕ}
 use mathlib.Core.List.{List, [], _∷_, _++_}
 use Rattle.words.specs.Words.{newline, ascii}
 use Rattle.answers.specs.declared.verdict.Verdict.{Verdict}
-use Rattle.printing.specs.Text.{decimalOf, octetsText, spaced}
+use Rattle.printing.specs.Text.{decimalOf, octetsText, listText, spaced}
 
 -- ## Lines
 
@@ -49,6 +49,10 @@ twoLine a b = acceptance (decimalOf a ∷ decimalOf b ∷ [])
 -- `0 0 OCTETS`
 abbrev pub octetsLine : List ℕ → List ℕ
 octetsLine s = acceptance (octetsText s ∷ [])
+
+-- `0 0 LIST`
+abbrev pub listLine : List ℕ → List ℕ
+listLine s = acceptance (listText s ∷ [])
 
 -- `0 0 path KEY VERSION OCTETS`
 abbrev pub pathLine : ℕ → ℕ → List ℕ → List ℕ

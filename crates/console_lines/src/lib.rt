@@ -3,7 +3,7 @@
 ghost use Prim.Native.Nat.{_+_, _*_, _≤_};
 ghost use lib.ListN.{length};
 ghost use Rattle.printing.specs.Text.{Behind};
-ghost use Rattle.console_lines.specs.Lines.{short, refusalLine, badLine, doneLine, oneLine, twoLine, octetsLine, pathLine, removedLine, levelLine, verdictLine};
+ghost use Rattle.console_lines.specs.Lines.{short, refusalLine, badLine, doneLine, oneLine, twoLine, octetsLine, listLine, pathLine, removedLine, levelLine, verdictLine};
 use answers::Verdict;
 use words::NEWLINE;
 
@@ -78,6 +78,17 @@ pub fn octets(out: &mut [u8], s: &[u8]) -> usize
 {
     let at = printing::push(out, 0, &ACCEPTED);
     let at = printing::octets_field(out, at, s);
+    printing::push(out, at, &END)
+}
+
+// `0 0 LIST`
+pub fn list(out: &mut [u8], s: &[u8]) -> usize
+    requires { ⌜ 21 * length (now s) + short ≤ length (now out) ⌝ }
+    ensures told { λ r. ⌜ Behind (now (out .entry)) (now (out .exit)) 0 r (listLine (now (s .entry))) ⌝ }
+    ensures within { λ r. ⌜ r ≤ 21 * length (now (s .entry)) + short ⌝ }
+{
+    let at = printing::push(out, 0, &ACCEPTED);
+    let at = printing::list_field(out, at, s);
     printing::push(out, at, &END)
 }
 

@@ -16,7 +16,7 @@ use Rattle.console_state.specs.declared.state.State.{State}
 use Rattle.console_state.specs.Standing.{Console, consoleOf}
 use Rattle.console_routes.specs.Routing.{openIn, routeLine, segmentAnswer}
 use Rattle.console_writer.specs.Composing.{Composing, beginTurn, addTurn, finishTurn, lentLine}
-use Rattle.console_board.specs.Boarding.{Boarding, reportTurn, removeTurn, compactTurn, bodyLine, nextLine, markLine, boardLine}
+use Rattle.console_board.specs.Boarding.{Boarding, reportTurn, removeTurn, compactTurn, bodyLine, nextLine, markLine, boardLine, chainLine}
 
 -- the console after a line, and the line that answers it
 pub record Turned : Type 0 where
@@ -99,6 +99,8 @@ turnBy v.Next k c line n = stays k (nextLine (k .board) (k .store) c)
 turnBy v.Mark k c line n = stays k (markLine (k .board))
 -- `board`: "the board's numbers"
 turnBy v.Board k c line n = stays k (boardLine (k .board))
+-- `chain`: "the used places from the oldest change to the newest"
+turnBy v.Chain k c line n = stays k (chainLine (k .board))
 
 -- What a line does, the n-th of all.
 unfoldable pub turnOf : Console → List ℕ → ℕ → Turned

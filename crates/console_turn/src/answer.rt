@@ -62,5 +62,6 @@ pub fn answered(
         Verb::Next => ended(state, console_board::next(b, c, store, out)),
         Verb::Mark => ended(state, console_board::mark(b, out)),
         Verb::Board => ended(state, console_board::numbers(b, out)),
+        Verb::Chain => ended(state, console_board::chain(b, out)),
     }
 }

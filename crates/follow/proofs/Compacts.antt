@@ -13,7 +13,8 @@ use Rattle.board_record.specs.Table.{Table, keyAt, versionAt, lengthAt, Used, R
 use Rattle.octets.proofs.Said.{both-true}
 use Rattle.board_record.proofs.Search.{removal-is}
 use Rattle.board_rules.specs.Body.{octetsAt}
-use Rattle.board_rules.proofs.Keeps.{length-row, compacted-key, compacted-version, compacted-proper}
+use Rattle.board_record.proofs.Lists.{length-row}
+use Rattle.board_rules.proofs.Keeps.{compacted-key, compacted-version, compacted-proper}
 use Rattle.board_rules.specs.Compact.{dropped, compacted}
 use Rattle.follow.specs.Story.{Story, compactedTo, held, last}
 use Rattle.follow.proofs.Begun.{octets, octets-mark}

@@ -10,51 +10,23 @@ use mathlib.Core.Logic.{_⊎_, inl, inr, ⊎-elim}
 use lib.Dec.{eqb, ltb, leb}
 use borrow.Author.Tests.{eq-eqb, ne-eqb, eqb-true, eqb-false, lt-ltb, le-ltb, ltb-true, leb-true, leb-false, not-true}
 use borrow.Author.Count.{below-more}
-use Rattle.board_record.specs.Table.{Table, keyAt, versionAt, lengthAt}
+use Rattle.board_record.specs.Lists.{countBelow}
+use Rattle.board_record.specs.Table.{Table, keyAt, versionAt, lengthAt, usedB}
 use Rattle.board_record.specs.Search.{ReportPlace, keeps, takes, drops, floorAfter}
 use Rattle.octets.proofs.Said.{both-true}
 use Rattle.board_record.proofs.Logic.{true≢false, same?, test-is}
 use Rattle.board_record.proofs.Proper.{proper-sound}
-use Rattle.board_record.proofs.Search.{floor-keeps, floor-takes, floor-drops}
+use Rattle.board_record.proofs.Search.{used-is, is-used, floor-keeps, floor-takes, floor-drops}
+use Rattle.board_record.proofs.Lists.{count-same, count-full, count-less, hits-at, hits-where}
 use Rattle.follow.specs.Story.{Body, Story, held, last}
-use Rattle.follow.specs.Floor.{countBelow, leastValue, isSome, standing, keyEnd, floorPut}
+use Rattle.follow.specs.Floor.{leastValue, isSome, standing, keyEnd, floorPut}
 use Rattle.follow.proofs.Cases.{none-of, or-cases, not-true-is-false}
 use Rattle.follow.proofs.Begun.{octets, octets-mark}
 use Rattle.follow.proofs.Keeps.{none-yet}
 use Rattle.follow.proofs.Table.{Stands, octets-none}
-use Rattle.follow.proofs.Counts.{has, used, keys-count, count-same}
+use Rattle.follow.proofs.Counts.{has, keys-count}
 
 -- ---- a key stands exactly if a place has it
-has-yes : (b : Table) (n k j : ℕ) → j < n → keyAt b j ≡ k → (k ≡ 0 → ⊥) → has b n k ≡ true
-unfolding has
-has-yes b zero k j l e u = absurd (omega arith)
-has-yes b (suc n) k j l e u = go (has-yes b n k j) (same? j n)
-  where
-    keep : (x y : Bool) → cond x true (cond y true true) ≡ true
-    keep true y = refl
-    keep false true = refl
-    keep false false = refl
-
-    go : (j < n → keyAt b j ≡ k → (k ≡ 0 → ⊥) → has b n k ≡ true) → (j ≡ n) ⊎ (j ≡ n → ⊥) → cond (eqb (keyAt b n) 0) (has b n k) (cond (eqb (keyAt b n) k) true (has b n k)) ≡ true
-    go r (inl q) = let kn : keyAt b n ≡ k = ap (keyAt b) (sym q) ∙ e in rw (eq-eqb (keyAt b n) k kn, ne-eqb (keyAt b n) 0 (λ z. u (sym kn ∙ z)))
-    go r (inr d) = rw (r (omega (arith, d)) e u) (keep (eqb (keyAt b n) 0) (eqb (keyAt b n) k))
-
-has-where : (b : Table) (n k : ℕ) → has b n k ≡ true → (j : ℕ) × (j < n) × (keyAt b j ≡ k) × (keyAt b j ≡ 0 → ⊥)
-unfolding has
-has-where b zero k e = absurd (true≢false (sym e))
-has-where b (suc n) k e = go (has-where b n k) (eqb (keyAt b n) 0) refl (eqb (keyAt b n) k) refl e
-  where
-    up : (j : ℕ) × (j < n) × (keyAt b j ≡ k) × (keyAt b j ≡ 0 → ⊥) → (j : ℕ) × (j < suc n) × (keyAt b j ≡ k) × (keyAt b j ≡ 0 → ⊥)
-    up y = (y .0, omega (arith, y .1), y .2, y .3)
-
-    go : (has b n k ≡ true → (j : ℕ) × (j < n) × (keyAt b j ≡ k) × (keyAt b j ≡ 0 → ⊥))
-        → (x : Bool) → eqb (keyAt b n) 0 ≡ x → (y : Bool) → eqb (keyAt b n) k ≡ y
-        → cond x (has b n k) (cond y true (has b n k)) ≡ true
-        → (j : ℕ) × (j < suc n) × (keyAt b j ≡ k) × (keyAt b j ≡ 0 → ⊥)
-    go r true p y q h = up (r h)
-    go r false p true q h = (n, omega arith, eqb-true _ _ q, eqb-false _ _ p)
-    go r false p false q h = up (r h)
-
 module _ (b : Table) (store : List ℕ) (h : Story) (r : Stands b store h) where
   place-stands : (i : ℕ) → i < 128 → (keyAt b i ≡ 0 → ⊥) → standing h (b .floor) (keyAt b i) ≡ true
   unfolding standing
@@ -85,38 +57,13 @@ module _ (b : Table) (store : List ℕ) (h : Story) (r : Stands b store h) where
 
   has-is : (k : ℕ) → standing h (b .floor) k ≡ has b 128 k
   has-is k = test-is (standing h (b .floor) k) (has b 128 k)
-      (λ e. let y = stands-place k e in has-yes b 128 k (y .0) (y .1) (y .2) (stands-not-zero k e))
-      (λ e. let y = has-where b 128 k e in ap (standing h (b .floor)) (sym (y .2)) ∙ place-stands (y .0) (y .1) (y .3))
+      (λ e. let y = stands-place k e in
+      hits-at (usedB b) (keyAt b) 128 k
+      (record { at = y .0; here = y .1; passes = is-used b (y .0) (λ z. stands-not-zero k e (sym (y .2) ∙ z)); is = y .2 }))
+      (λ e. let y = hits-where (usedB b) (keyAt b) 128 k e in ap (standing h (b .floor)) (sym (y .is)) ∙ place-stands (y .at) (y .here) (used-is b (y .at) (y .passes)))
 
-  count-is : countBelow (standing h (b .floor)) keyEnd ≡ countBelow (used b) 128
+  count-is : countBelow (standing h (b .floor)) keyEnd ≡ countBelow (usedB b) 128
   count-is = count-same (has b 128) (standing h (b .floor)) keyEnd (λ j l. has-is j) ∙ keys-count b (r .proper) 128 (omega arith)
-
-count-full : (t : ℕ → Bool) (n : ℕ) → ((j : ℕ) → j < n → t j ≡ true) → countBelow t n ≡ n
-unfolding countBelow
-count-full t zero f = refl
-count-full t (suc n) f = rw (f n (omega arith)) (ap suc (count-full t n (λ j l. f j (omega arith))))
-
-count-most : (t : ℕ → Bool) (n : ℕ) → countBelow t n ≤ n
-unfolding countBelow
-count-most t zero = omega arith
-count-most t (suc n) = go (t n) (count-most t n)
-  where
-    go : (x : Bool) → countBelow t n ≤ n → cond x (suc (countBelow t n)) (countBelow t n) ≤ suc n
-    go true l = omega arith
-    go false l = omega arith
-
-count-less : (t : ℕ → Bool) (n i : ℕ) → i < n → t i ≡ false → countBelow t n < n
-unfolding countBelow
-count-less t zero i l e = absurd (omega arith)
-count-less t (suc n) i l e = go (count-less t n i) (same? i n)
-  where
-    step : (x : Bool) → countBelow t n < n → cond x (suc (countBelow t n)) (countBelow t n) < suc n
-    step true m = omega arith
-    step false m = omega arith
-
-    go : (i < n → t i ≡ false → countBelow t n < n) → (i ≡ n) ⊎ (i ≡ n → ⊥) → cond (t n) (suc (countBelow t n)) (countBelow t n) < suc n
-    go q (inl z) = rw (ap t (sym z) ∙ e) (omega (arith, count-most t n))
-    go q (inr d) = step (t n) (q (omega (arith, d)) e)
 
 -- the least value, where there is one
 data Min (t : ℕ → Bool) (v : ℕ → ℕ) (n x : ℕ) : Type 0 where
@@ -185,15 +132,15 @@ module _ (b : Table) (store : List ℕ) (h : Story) (r : Stands b store h) (k i 
       ∙ g .0
 
   pub floor-put : ReportPlace b k i → floorAfter b k i ≡ floorPut h (b .floor) k
-  unfolding floorPut used mark?
+  unfolding floorPut usedB mark?
   floor-put (keeps y) =
       let s : standing h (b .floor) k ≡ true = ap (standing h (b .floor)) (sym (y .key)) ∙ place-stands b store h r i l (λ z. omega (arith, y .key)) in
       floor-keeps b k i (y .key) ∙ rw s
   floor-put (takes n y) =
-      let c = count-less (used b) 128 i l (rw (eq-eqb (keyAt b i) 0 (y .empty))) in
+      let c = count-less (usedB b) 128 i l (rw (eq-eqb (keyAt b i) 0 (y .empty))) in
       floor-takes b k i (y .empty) ∙ rw (new-stands-not n, lt-ltb (countBelow (standing h (b .floor)) keyEnd) 128 (omega (arith, count-is b store h r)))
   floor-put (drops n z y) =
-      let c = count-full (used b) 128 (λ j m. rw (ne-eqb (keyAt b j) 0 (z j m))) in
+      let c = count-full (usedB b) 128 (λ j m. rw (ne-eqb (keyAt b j) 0 (z j m))) in
       floor-drops b k i (z i l) (n i l)
       ∙ rw (new-stands-not n, le-ltb (countBelow (standing h (b .floor)) keyEnd) 128 (omega (arith, count-is b store h r)))
       (sym (oldest-mark (z i l) (y .removal .bare) (λ j m e. y .oldest j m (record { used = z j m; bare = e }))))

@@ -7,12 +7,8 @@ use mathlib.Core.Bool.{Bool, true, false, not, cond, _&&_, _||_}
 use mathlib.Core.Option.{Option, none, some}
 use lib.Dec.{eqb, ltb, leb}
 use Rattle.board_record.specs.Sizes.{places, keyMost}
+use Rattle.board_record.specs.Lists.{countBelow}
 use Rattle.follow.specs.Story.{Body, sets, clears, Story, begun, did, compactedTo, held, last}
-
--- how many of the numbers below n pass
-unfoldable pub countBelow : (ℕ → Bool) → ℕ → ℕ
-countBelow t zero = 0
-countBelow t (suc n) = cond (t n) (suc (countBelow t n)) (countBelow t n)
 
 -- the smaller of two numbers, where 0 stands for none
 abbrev pub lesser : ℕ → ℕ → ℕ

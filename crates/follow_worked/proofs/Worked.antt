@@ -22,7 +22,8 @@ use Rattle.board_record.proofs.Proper.{empty-sized, empty-proper}
 use Rattle.board_rules.specs.Rules.{isBoard, inRange, hasPath}
 use Rattle.board_rules.specs.Report.{reportRules, reportVerdict, reported, reportWith, storeWith, reportAnswer, reportStore}
 use Rattle.board_rules.specs.Remove.{removeRules, removeVerdict, removed, removeAnswer}
-use Rattle.board_rules.specs.Compact.{compactRules, compactVerdict, dropped, row, compacted, compactAnswer}
+use Rattle.board_record.specs.Lists.{row}
+use Rattle.board_rules.specs.Compact.{compactRules, compactVerdict, dropped, compacted, compactAnswer}
 use Rattle.board_rules.specs.Next.{nextRules, nextVerdict, changeAt, handedAt, nextAnswer}
 use Rattle.follow.specs.Story.{Body, sets, clears, did, compactedTo, version, held, last}
 use Rattle.follow.specs.Follower.{Follower, fresh, makes, levels}

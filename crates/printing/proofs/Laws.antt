@@ -13,7 +13,7 @@ use borrow.Author.Tests.{lt-ltb, le-ltb, leb-true, leb-false}
 use Rattle.io.specs.Digits.{digits, glyph, Fewest}
 use Rattle.octets.specs.Octets.{placed, over}
 use Rattle.octets.proofs.Laws.{length-placed}
-use Rattle.printing.specs.Text.{spell, decimalOf, glyphOf, hexOf, octetsText, Behind}
+use Rattle.printing.specs.Text.{spell, decimalOf, glyphOf, hexOf, octetsText, furtherText, listText, Behind}
 
 -- ## Numbers
 
@@ -80,6 +80,28 @@ pub hex-length : (s : List ℕ) → length (hexOf s) ≡ 2 * length s
 unfolding hexOf
 hex-length [] = refl
 hex-length (x ∷ xs) = let h = hex-length xs in omega arith
+
+-- ## Lists
+
+pub further-append : (a b : List ℕ) → furtherText (a ++ b) ≡ furtherText a ++ furtherText b
+unfolding furtherText
+further-append [] b = refl
+further-append (x ∷ xs) b = ap (λ (t : List ℕ). (44 ∷ decimalOf x) ++ t) (further-append xs b) ∙ sym (append-assoc (44 ∷ decimalOf x) (furtherText xs) (furtherText b))
+
+pub further-more : (s : List ℕ) (i x : ℕ) → i < length s → x ≡ getD s i 0 → furtherText (take i s) ++ ((44 ∷ []) ++ decimalOf x) ≡ furtherText (take (i + 1) s)
+unfolding furtherText
+further-more s i x h e =
+    sym (rw (add-one, take-suc s i 0 h, ← e) (further-append (take i s) (x ∷ []) ∙ ap (λ (t : List ℕ). furtherText (take i s) ++ t) (append-nil (44 ∷ decimalOf x))))
+
+pub list-none : (s : List ℕ) → length s ≡ 0 → listText s ≡ 45 ∷ []
+unfolding listText
+list-none [] h = refl
+list-none (x ∷ xs) h = absurd (omega arith)
+
+pub list-some : (s : List ℕ) (x : ℕ) → (length s ≡ 0 → ⊥) → x ≡ getD s 0 0 → listText s ≡ decimalOf x ++ furtherText (drop 1 s)
+unfolding listText
+list-some [] x h e = absurd (h refl)
+list-some (y ∷ ys) x h e = rw e
 
 -- ## Lines
 

@@ -5,7 +5,7 @@ use mathlib.Core.Bool.{Bool, true, false, cond}
 use mathlib.Core.List.{List, [], _∷_, _++_}
 use lib.Dec.{ltb}
 use lib.ListN.{length, take}
-use Rattle.words.specs.Words.{space, dash}
+use Rattle.words.specs.Words.{space, comma, dash}
 
 -- ## Numbers
 
@@ -32,6 +32,18 @@ hexOf (x ∷ xs) = glyphOf (x / 16) ∷ glyphOf (x % 16) ∷ hexOf xs
 unfoldable pub octetsText : List ℕ → List ℕ
 octetsText [] = dash ∷ []
 octetsText (x ∷ xs) = hexOf (x ∷ xs)
+
+-- ## Lists
+
+-- numbers behind the first of a list
+unfoldable pub furtherText : List ℕ → List ℕ
+furtherText [] = []
+furtherText (x ∷ xs) = (comma ∷ decimalOf x) ++ furtherText xs
+
+-- "LIST is numbers joined by commas, or `-` for none"
+unfoldable pub listText : List ℕ → List ℕ
+listText [] = dash ∷ []
+listText (x ∷ xs) = decimalOf x ++ furtherText xs
 
 -- ## Lines
 

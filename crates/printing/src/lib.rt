@@ -1,17 +1,20 @@
 // Answers as text, laid into a lent buffer word by word: numbers in decimal, octets as pairs of hexadecimal
-// digits in upper case, `-` for no octets (console.md). Each call takes the text's end and hands its new end
-// back.
+// digits in upper case, `-` for no octets, lists of numbers joined by commas (console.md). Each call takes the text's end
+// and hands its new end back.
 ghost use Prim.Native.Nat.{_+_, _*_, _≤_};
 ghost use mathlib.Core.Path.{_≡_};
 ghost use mathlib.Core.List.{[], _∷_};
 ghost use lib.ListN.{length};
-ghost use Rattle.printing.specs.Text.{Behind, decimalOf, glyphOf, hexOf, octetsText, spaced};
+ghost use Rattle.printing.specs.Text.{Behind, decimalOf, glyphOf, hexOf, octetsText, furtherText, listText, spaced};
+use words::COMMA;
 use words::DASH;
 use words::SPACE;
 
 const GAP: [u8; 1] = [SPACE];
 
 const NONE: [u8; 1] = [DASH];
+
+const JOINT: [u8; 1] = [COMMA];
 
 // `src` behind the text.
 pub fn push(out: &mut [u8], at: usize, src: &[u8]) -> usize
@@ -86,4 +89,44 @@ pub fn octets_field(out: &mut [u8], at: usize, s: &[u8]) -> usize
 {
     let end = push(out, at, &GAP);
     octets(out, end, s)
+}
+
+// Numbers behind the first of a list, each behind a comma.
+fn further(out: &mut [u8], at: usize, s: &[u8]) -> usize
+    requires { ⌜ at + 21 * length (now s) ≤ length (now out) ⌝ }
+    ensures behind { λ r. ⌜ Behind (now (out .entry)) (now (out .exit)) at r (furtherText (now (s .entry))) ⌝ }
+    ensures short { λ r. ⌜ r ≤ at + 21 * length (now (s .entry)) ⌝ }
+{
+    let mut end = at;
+    let mut i: usize = 0;
+    while i < s.len() {
+        let x = octets::wide(s[i]) as u64;
+        end = push(out, end, &JOINT);
+        end = number(out, end, x);
+        i = i + 1;
+    }
+    end
+}
+
+// Numbers joined by commas, `-` for none.
+pub fn list(out: &mut [u8], at: usize, s: &[u8]) -> usize
+    requires { ⌜ at + 21 * length (now s) + 1 ≤ length (now out) ⌝ }
+    ensures behind { λ r. ⌜ Behind (now (out .entry)) (now (out .exit)) at r (listText (now (s .entry))) ⌝ }
+    ensures short { λ r. ⌜ r ≤ at + 21 * length (now (s .entry)) + 1 ⌝ }
+{
+    if s.len() == 0 {
+        return push(out, at, &NONE);
+    }
+    let end = number(out, at, octets::wide(s[0]) as u64);
+    further(out, end, &s[1..])
+}
+
+// A space and a list.
+pub fn list_field(out: &mut [u8], at: usize, s: &[u8]) -> usize
+    requires { ⌜ at + 21 * length (now s) + 2 ≤ length (now out) ⌝ }
+    ensures behind { λ r. ⌜ Behind (now (out .entry)) (now (out .exit)) at r (spaced (listText (now (s .entry)))) ⌝ }
+    ensures short { λ r. ⌜ r ≤ at + 21 * length (now (s .entry)) + 2 ⌝ }
+{
+    let end = push(out, at, &GAP);
+    list(out, end, s)
 }

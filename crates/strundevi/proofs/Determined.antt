@@ -3,16 +3,14 @@ use Prim.Native.Nat.{ℕ}
 use mathlib.Core.Path.{_≡_}
 use mathlib.Core.List.{List}
 use Rattle.answers.proofs.Determined.{determined}
-use Rattle.board_record.specs.Table.{Table, emptyTable}
+use Rattle.board_record.specs.declared.record.Board.{Board}
+use Rattle.board_record.specs.Record.{emptyBoard}
 use Rattle.session.specs.Sessions.{sessionOf}
 use Rattle.open.specs.Open.{openOf}
 use Rattle.route.specs.Routes.{judgeOf, segmentOf}
 use Rattle.subobject.specs.Segments.{segmentWith}
 use Rattle.writer.specs.Writing.{beginAnswer, beginBuffer, addAnswer, addBuffer, finishAnswer, finishBuffer}
-use Rattle.board_rules.specs.Report.{reportAnswer, reportStore}
-use Rattle.board_rules.specs.Remove.{removeAnswer}
-use Rattle.board_rules.specs.Compact.{compactAnswer}
-use Rattle.board_rules.specs.Next.{nextAnswer}
+use Rattle.board_rules.specs.OnRecord.{reportOn, reportStoreOn, removeOn, compactOn, nextOn}
 use Rattle.border_records.specs.declared.verdict.VerdictRecord.{VerdictRecord}
 use Rattle.border_records.specs.declared.opened.OpenedRecord.{OpenedRecord}
 use Rattle.border_records.specs.declared.agreement.SessionRecord.{SessionRecord}
@@ -64,24 +62,24 @@ add-determined b w o sid nai structure = (one _, one _)
 pub finish-determined : (b : List ℕ) (w : WriterRecord) → One (writtenOut (finishAnswer b (writerIn w))) × One (finishBuffer b (writerIn w))
 finish-determined b w = (one _, one _)
 
-pub empty-determined : One emptyTable
+pub empty-determined : One emptyBoard
 empty-determined = one _
 
-pub report-determined : (b : Table) (store : List ℕ) (k : ℕ) (ero : List ℕ) (session : SessionRecord) (pst : ℕ)
-    → One (verdictOut (reportAnswer b store k ero (sessionIn session) pst .verdict)) × One (reportAnswer b store k ero (sessionIn session) pst .table)
-    × One (reportStore b store k ero (sessionIn session) pst)
+pub report-determined : (b : Board) (store : List ℕ) (k : ℕ) (ero : List ℕ) (session : SessionRecord) (pst : ℕ)
+    → One (verdictOut (reportOn b store k ero (sessionIn session) pst .verdict)) × One (reportOn b store k ero (sessionIn session) pst .board)
+    × One (reportStoreOn b store k ero (sessionIn session) pst)
 report-determined b store k ero session pst = (one _, one _, one _)
 
-pub remove-determined : (b : Table) (store : List ℕ) (k : ℕ) → One (verdictOut (removeAnswer b store k .verdict)) × One (removeAnswer b store k .table)
+pub remove-determined : (b : Board) (store : List ℕ) (k : ℕ) → One (verdictOut (removeOn b store k .verdict)) × One (removeOn b store k .board)
 remove-determined b store k = (one _, one _)
 
-pub compact-determined : (b : Table) (store : List ℕ) (c : ℕ) → One (verdictOut (compactAnswer b store c .verdict)) × One (compactAnswer b store c .table)
+pub compact-determined : (b : Board) (store : List ℕ) (c : ℕ) → One (verdictOut (compactOn b store c .verdict)) × One (compactOn b store c .board)
 compact-determined b store c = (one _, one _)
 
-pub body-determined : (b : Table) (store : List ℕ) (k : ℕ) → One (partOut b store k)
+pub body-determined : (b : Board) (store : List ℕ) (k : ℕ) → One (partOut b store k)
 body-determined b store k = one _
 
-pub next-determined : (b : Table) (store : List ℕ) (s w : ℕ) → One (changeOut (nextAnswer b store s w))
+pub next-determined : (b : Board) (store : List ℕ) (s w : ℕ) → One (changeOut (nextOn b store s w))
 next-determined b store s w = one _
 
 pub fresh-mark-determined : (version : ℕ) → One (freshOut version)

@@ -1,12 +1,9 @@
 // The board's calls, on a record whose parts are lent one by one. A refusal writes nothing.
 ghost use mathlib.Core.Path.{_≡_};
-ghost use Rattle.board_record.specs.Table.{tableOf, emptyTable};
+ghost use Rattle.board_record.specs.Table.{tableOf};
+ghost use Rattle.board_record.specs.Record.{withOrder, emptyBoard};
 ghost use Rattle.octets.specs.Octets.{part};
-ghost use Rattle.board_rules.specs.Report.{reportAnswer, reportStore};
-ghost use Rattle.board_rules.specs.Remove.{removeAnswer};
-ghost use Rattle.board_rules.specs.Compact.{compactAnswer};
-ghost use Rattle.board_rules.specs.Body.{bodyOf};
-ghost use Rattle.board_rules.specs.Next.{nextAnswer};
+ghost use Rattle.board_rules.specs.OnRecord.{reportOn, reportStoreOn, removeOn, compactOn, bodyOn, nextOn};
 ghost use Rattle.border_records.specs.Records.{sessionIn, verdictOut};
 ghost use Rattle.border_answers.specs.Handing.{changeOut};
 ghost use Rattle.border_looks.specs.Looks.{partOut, freshOut};
@@ -24,10 +21,13 @@ pub extern "C" fn strundevi_raw_empty(
     lengths: &mut [u16; 128],
     version: &mut u64,
     floor: &mut u64,
+    order: &mut [u8; 128],
 )
-    ensures empty { λ _. ⌜ tableOf (now (keys .exit)) (now (versions .exit)) (now (lengths .exit)) (now (version .exit)) (now (floor .exit)) ≡ emptyTable ⌝ }
+    ensures empty { λ _.
+        let after = tableOf (now (keys .exit)) (now (versions .exit)) (now (lengths .exit)) (now (version .exit)) (now (floor .exit)) in
+        ⌜ withOrder after (now (order .exit)) ≡ emptyBoard ⌝ }
 {
-    border_board::empty(keys, versions, lengths, version, floor);
+    border_board::empty(keys, versions, lengths, version, floor, order);
 }
 
 // Reports a path.
@@ -38,15 +38,23 @@ pub extern "C" fn strundevi_raw_report(
     lengths: &mut [u16; 128],
     version: &mut u64,
     floor: &mut u64,
+    order: &mut [u8; 128],
     store: &mut [u8],
     key: u64,
     ero: &[u8],
     session: SessionRecord,
     pst: u64,
 ) -> VerdictRecord
-    ensures verdict { λ r. ⌜ r ≡ verdictOut (reportAnswer (tableOf (now (keys .entry)) (now (versions .entry)) (now (lengths .entry)) (now (version .entry)) (now (floor .entry))) (now (store .entry)) key (now (ero .entry)) (sessionIn session) pst .verdict) ⌝ }
-    ensures board { λ _. ⌜ tableOf (now (keys .exit)) (now (versions .exit)) (now (lengths .exit)) (now (version .exit)) (now (floor .exit)) ≡ reportAnswer (tableOf (now (keys .entry)) (now (versions .entry)) (now (lengths .entry)) (now (version .entry)) (now (floor .entry))) (now (store .entry)) key (now (ero .entry)) (sessionIn session) pst .table ⌝ }
-    ensures octets { λ _. ⌜ now (store .exit) ≡ reportStore (tableOf (now (keys .entry)) (now (versions .entry)) (now (lengths .entry)) (now (version .entry)) (now (floor .entry))) (now (store .entry)) key (now (ero .entry)) (sessionIn session) pst ⌝ }
+    ensures verdict { λ r.
+        let before = withOrder (tableOf (now (keys .entry)) (now (versions .entry)) (now (lengths .entry)) (now (version .entry)) (now (floor .entry))) (now (order .entry)) in
+        ⌜ r ≡ verdictOut (reportOn before (now (store .entry)) key (now (ero .entry)) (sessionIn session) pst .verdict) ⌝ }
+    ensures board { λ _.
+        let before = withOrder (tableOf (now (keys .entry)) (now (versions .entry)) (now (lengths .entry)) (now (version .entry)) (now (floor .entry))) (now (order .entry)) in
+        let after = withOrder (tableOf (now (keys .exit)) (now (versions .exit)) (now (lengths .exit)) (now (version .exit)) (now (floor .exit))) (now (order .exit)) in
+        ⌜ after ≡ reportOn before (now (store .entry)) key (now (ero .entry)) (sessionIn session) pst .board ⌝ }
+    ensures octets { λ _.
+        let before = withOrder (tableOf (now (keys .entry)) (now (versions .entry)) (now (lengths .entry)) (now (version .entry)) (now (floor .entry))) (now (order .entry)) in
+        ⌜ now (store .exit) ≡ reportStoreOn before (now (store .entry)) key (now (ero .entry)) (sessionIn session) pst ⌝ }
 {
     border_board::report(
         keys,
@@ -54,6 +62,7 @@ pub extern "C" fn strundevi_raw_report(
         lengths,
         version,
         floor,
+        order,
         store,
         key,
         ero,
@@ -70,13 +79,19 @@ pub extern "C" fn strundevi_raw_remove(
     lengths: &mut [u16; 128],
     version: &mut u64,
     floor: u64,
+    order: &mut [u8; 128],
     store: &[u8],
     key: u64,
 ) -> VerdictRecord
-    ensures verdict { λ r. ⌜ r ≡ verdictOut (removeAnswer (tableOf (now (keys .entry)) (now (versions .entry)) (now (lengths .entry)) (now (version .entry)) floor) (now (store .entry)) key .verdict) ⌝ }
-    ensures board { λ _. ⌜ tableOf (now (keys .entry)) (now (versions .exit)) (now (lengths .exit)) (now (version .exit)) floor ≡ removeAnswer (tableOf (now (keys .entry)) (now (versions .entry)) (now (lengths .entry)) (now (version .entry)) floor) (now (store .entry)) key .table ⌝ }
+    ensures verdict { λ r.
+        let before = withOrder (tableOf (now (keys .entry)) (now (versions .entry)) (now (lengths .entry)) (now (version .entry)) floor) (now (order .entry)) in
+        ⌜ r ≡ verdictOut (removeOn before (now (store .entry)) key .verdict) ⌝ }
+    ensures board { λ _.
+        let before = withOrder (tableOf (now (keys .entry)) (now (versions .entry)) (now (lengths .entry)) (now (version .entry)) floor) (now (order .entry)) in
+        let after = withOrder (tableOf (now (keys .entry)) (now (versions .exit)) (now (lengths .exit)) (now (version .exit)) floor) (now (order .exit)) in
+        ⌜ after ≡ removeOn before (now (store .entry)) key .board ⌝ }
 {
-    border_board::remove(keys, versions, lengths, version, floor, store, key)
+    border_board::remove(keys, versions, lengths, version, floor, order, store, key)
 }
 
 // Drops the marks with version at most c.
@@ -87,13 +102,19 @@ pub extern "C" fn strundevi_raw_compact(
     lengths: &[u16; 128],
     version: u64,
     floor: &mut u64,
+    order: &mut [u8; 128],
     store: &[u8],
     c: u64,
 ) -> VerdictRecord
-    ensures verdict { λ r. ⌜ r ≡ verdictOut (compactAnswer (tableOf (now (keys .entry)) (now (versions .entry)) (now (lengths .entry)) version (now (floor .entry))) (now (store .entry)) c .verdict) ⌝ }
-    ensures board { λ _. ⌜ tableOf (now (keys .exit)) (now (versions .exit)) (now (lengths .entry)) version (now (floor .exit)) ≡ compactAnswer (tableOf (now (keys .entry)) (now (versions .entry)) (now (lengths .entry)) version (now (floor .entry))) (now (store .entry)) c .table ⌝ }
+    ensures verdict { λ r.
+        let before = withOrder (tableOf (now (keys .entry)) (now (versions .entry)) (now (lengths .entry)) version (now (floor .entry))) (now (order .entry)) in
+        ⌜ r ≡ verdictOut (compactOn before (now (store .entry)) c .verdict) ⌝ }
+    ensures board { λ _.
+        let before = withOrder (tableOf (now (keys .entry)) (now (versions .entry)) (now (lengths .entry)) version (now (floor .entry))) (now (order .entry)) in
+        let after = withOrder (tableOf (now (keys .exit)) (now (versions .exit)) (now (lengths .entry)) version (now (floor .exit))) (now (order .exit)) in
+        ⌜ after ≡ compactOn before (now (store .entry)) c .board ⌝ }
 {
-    border_board::compact(keys, versions, lengths, version, floor, store, c)
+    border_board::compact(keys, versions, lengths, version, floor, order, store, c)
 }
 
 // Where the octets of a key's path lie.
@@ -104,13 +125,18 @@ pub extern "C" fn strundevi_raw_body<'a>(
     lengths: &'a [u16; 128],
     version: u64,
     floor: u64,
+    order: &'a [u8; 128],
     store: &[u8],
     key: u64,
 ) -> PartRecord
-    ensures part { λ r. ⌜ r ≡ partOut (tableOf (now (keys .entry)) (now (versions .entry)) (now (lengths .entry)) version floor) (now (store .entry)) key ⌝ }
-    ensures octets { λ r. ⌜ part (now (store .entry)) (r .start) (r .length) ≡ bodyOf (tableOf (now (keys .entry)) (now (versions .entry)) (now (lengths .entry)) version floor) (now (store .entry)) key ⌝ }
+    ensures part { λ r.
+        let b = withOrder (tableOf (now (keys .entry)) (now (versions .entry)) (now (lengths .entry)) version floor) (now (order .entry)) in
+        ⌜ r ≡ partOut b (now (store .entry)) key ⌝ }
+    ensures octets { λ r.
+        let b = withOrder (tableOf (now (keys .entry)) (now (versions .entry)) (now (lengths .entry)) version floor) (now (order .entry)) in
+        ⌜ part (now (store .entry)) (r .start) (r .length) ≡ bodyOn b (now (store .entry)) key ⌝ }
 {
-    border_looks::body(keys, versions, lengths, version, floor, store, key)
+    border_looks::body(keys, versions, lengths, version, floor, order, store, key)
 }
 
 // What a follower with the mark (s, w) is handed.
@@ -121,13 +147,16 @@ pub extern "C" fn strundevi_raw_next<'a>(
     lengths: &'a [u16; 128],
     version: u64,
     floor: u64,
+    order: &'a [u8; 128],
     store: &[u8],
     s: u64,
     w: u64,
 ) -> ChangeRecord
-    ensures next { λ r. ⌜ r ≡ changeOut (nextAnswer (tableOf (now (keys .entry)) (now (versions .entry)) (now (lengths .entry)) version floor) (now (store .entry)) s w) ⌝ }
+    ensures next { λ r.
+        let b = withOrder (tableOf (now (keys .entry)) (now (versions .entry)) (now (lengths .entry)) version floor) (now (order .entry)) in
+        ⌜ r ≡ changeOut (nextOn b (now (store .entry)) s w) ⌝ }
 {
-    border_looks::next(keys, versions, lengths, version, floor, store, s, w)
+    border_looks::next(keys, versions, lengths, version, floor, order, store, s, w)
 }
 
 // The mark of a follower that begins, and holds nothing, on a board of this version.

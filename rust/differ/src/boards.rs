@@ -21,8 +21,10 @@ enum Step {
     FreshMark,
     /// The board is started anew.
     Empty,
-    /// The record gets another number at this place of one of its parts.
-    Set { part: usize, at: usize, value: u64 },
+    /// The record gets another number at this place of one of its parts, with the order of what it then holds or with the order that it had.
+    Set { part: usize, at: usize, value: u64, ordered: bool },
+    /// Two numbers of the record's order change places.
+    Swap { at: usize, other: usize },
     /// The record becomes this one.
     Put { board: Box<Board> },
     /// From here on the store is lent without its last octets.
@@ -38,14 +40,16 @@ struct Pair {
 }
 
 fn record(b: &Board) -> raw::Record {
-    raw::Record { keys: b.keys, versions: b.versions, lengths: b.lengths, version: b.version, floor: b.floor }
+    raw::Record { keys: b.keys, versions: b.versions, lengths: b.lengths, version: b.version, floor: b.floor, order: b.order() }
 }
 
 /// The record's numbers, a line for the board and one for each place in use.
 fn numbers(b: &raw::Record) -> Vec<String> {
     let used = (0..PLACES).filter(|&i| (b.keys[i], b.versions[i], b.lengths[i]) != (0, 0, 0));
     let places = used.map(|i| format!("place {i}: key {} version {} length {}", b.keys[i], b.versions[i], b.lengths[i]));
-    std::iter::once(format!("version {} floor {}", b.version, b.floor)).chain(places).collect()
+    let order: Vec<&u8> = b.order.iter().collect();
+    let ends = order.len() - order.iter().rev().take_while(|&&&n| n == 0).count();
+    [format!("version {} floor {}", b.version, b.floor), format!("order {:?}", &order[..ends])].into_iter().chain(places).collect()
 }
 
 fn only_left(name: &str, left: &[String], right: &[String]) -> String {
@@ -67,7 +71,7 @@ fn handed(answer: &reference::Answer<Change>) -> Handed {
 impl Pair {
     fn new() -> Pair {
         let store: Vec<u8> = (0..STORE_OCTETS + 8).map(|i| (i / 7) as u8).collect();
-        let mut ours = raw::Record { keys: [1; PLACES], versions: [1; PLACES], lengths: [1; PLACES], version: 1, floor: 1 };
+        let mut ours = raw::Record { keys: [1; PLACES], versions: [1; PLACES], lengths: [1; PLACES], version: 1, floor: 1, order: [1; PLACES] };
         raw::empty(&mut ours);
         Pair { theirs: Board::default(), their_store: store.clone(), ours, our_store: store, size: STORE_OCTETS }
     }
@@ -75,29 +79,33 @@ impl Pair {
     /// One step on both sides: call and number, or what differs.
     fn step(&mut self, door: Door, step: &Step) -> Result<Option<(Call, usize)>, String> {
         let n = self.size;
+        // the reference keeps no order: where the record's is another, each call must answer 17 and leave everything as it was
+        let order = self.ours.order;
+        let lied = order != self.theirs.order();
+        let size = if lied { 0 } else { n };
         let (call, ours, theirs) = match step {
             Step::Report { key, ero, session, pst } => {
-                let answer = self.theirs.report(&mut self.their_store[..n], *key, ero, session, *pst);
+                let answer = self.theirs.report(&mut self.their_store[..size], *key, ero, session, *pst);
                 let ours = doors::report(door, &mut self.ours, &mut self.our_store[..n], *key, ero, session, *pst);
                 (Call::Report, plain::ours(ours), plain::their_counts(&answer))
             }
             Step::Remove { key } => {
-                let answer = self.theirs.remove(&self.their_store[..n], *key);
+                let answer = self.theirs.remove(&self.their_store[..size], *key);
                 (Call::Remove, plain::ours(doors::remove(door, &mut self.ours, &mut self.our_store[..n], *key)), plain::theirs(&answer, |_| 0))
             }
             Step::Compact { c } => {
-                let answer = self.theirs.compact(&self.their_store[..n], *c);
+                let answer = self.theirs.compact(&self.their_store[..size], *c);
                 (Call::Compact, plain::ours(doors::compact(door, &mut self.ours, &mut self.our_store[..n], *c)), plain::theirs(&answer, |_| 0))
             }
             Step::Body { key } => {
-                let answer = self.theirs.body(&self.their_store[..n], *key);
+                let answer = self.theirs.body(&self.their_store[..size], *key);
                 let start = |body: &[u8]| body.as_ptr() as usize - self.their_store.as_ptr() as usize;
                 let theirs = answer.map_or_else(|e| (e.number as usize, 0, 0, 0), |body| (0, start(body), body.len(), 0));
                 let part = doors::body(door, &mut self.ours, &mut self.our_store[..n], *key);
                 (Call::Body, (part.number, part.start, part.length, 0), theirs)
             }
             Step::Next { s, w } => {
-                let theirs = handed(&self.theirs.next(&self.their_store[..n], *s, *w));
+                let theirs = handed(&self.theirs.next(&self.their_store[..size], *s, *w));
                 let (r, mark) = doors::next(door, &mut self.ours, &mut self.our_store[..n], *s, *w);
                 let ours = (r.number, r.kind, r.key, r.version, r.place, r.length);
                 let expected = match theirs {
@@ -122,7 +130,11 @@ impl Pair {
                 doors::empty(door, &mut self.ours, &mut self.our_store[..n]);
                 (Call::Empty, (0, 0, 0, 0), (0, 0, 0, 0))
             }
-            Step::Set { part, at, value } => {
+            Step::Set { part: 5, at, value, .. } => {
+                self.ours.order[*at] = *value as u8;
+                return Ok(None);
+            }
+            Step::Set { part, at, value, ordered } => {
                 match part {
                     0 => self.theirs.keys[*at] = *value as u32,
                     1 => self.theirs.versions[*at] = *value,
@@ -131,6 +143,13 @@ impl Pair {
                     _ => self.theirs.floor = *value,
                 }
                 self.ours = record(&self.theirs);
+                if !ordered {
+                    self.ours.order = order;
+                }
+                return Ok(None);
+            }
+            Step::Swap { at, other } => {
+                self.ours.order.swap(*at, *other);
                 return Ok(None);
             }
             Step::Put { board } => {
@@ -146,8 +165,12 @@ impl Pair {
         if ours != theirs {
             return Err(format!("library   {ours:?}\nreference {theirs:?} (number, place or start, count or length, stray)"));
         }
-        if self.ours != record(&self.theirs) {
-            let (ours, theirs) = (numbers(&self.ours), numbers(&record(&self.theirs)));
+        let mut expected = record(&self.theirs);
+        if lied && !matches!(step, Step::Empty) {
+            expected.order = order;
+        }
+        if self.ours != expected {
+            let (ours, theirs) = (numbers(&self.ours), numbers(&expected));
             return Err(format!("the records differ\n{}", only_left("library  ", &ours, &theirs) + &only_left("reference", &theirs, &ours)));
         }
         if self.our_store != self.their_store {
@@ -292,15 +315,24 @@ fn some_board(r: &mut Random) -> Board {
 }
 
 fn some_set(r: &mut Random, b: &Board) -> Step {
-    let (part, at, other) = (r.below(5), r.below(PLACES), r.below(PLACES));
+    if r.one_in(8) {
+        let at = r.below(PLACES);
+        return Step::Swap { at, other: (at + r.of(&[0, 1, 1, 2, 64])) % PLACES };
+    }
+    let (part, at, other) = (r.below(6), r.below(PLACES), r.below(PLACES));
     let value = match part {
         0 => r.of(&[0, 1, 1_048_574, 1_048_575, u64::from(u32::MAX), u64::from(b.keys[other])]),
         1 => r.of(&[0, 1, b.version, b.version.wrapping_add(1), b.floor, b.floor + 1, b.versions[other], u64::MAX]),
         2 => r.of(&[0, 4, 20, 22, 24, 25, 380, 384, 386, 388, 65_535]),
         3 => r.of(&[0, b.version.wrapping_sub(1), b.floor, b.floor.wrapping_sub(1), u64::MAX, u64::MAX - 1, b.versions[other]]),
-        _ => r.of(&[0, b.version, b.version.wrapping_add(1), b.versions[at], b.versions[other], u64::MAX]),
+        4 => r.of(&[0, b.version, b.version.wrapping_add(1), b.versions[at], b.versions[other], u64::MAX]),
+        _ => {
+            let order = b.order();
+            let (near, far) = (order[(at + 1) % PLACES], order[other]);
+            r.of(&[0, 1, 128, 129, 255, u64::from(order[at]), u64::from(near), u64::from(far), at as u64, other as u64 + 1])
+        }
     };
-    Step::Set { part, at, value }
+    Step::Set { part, at, value, ordered: r.one_in(2) }
 }
 
 struct History {

@@ -214,6 +214,18 @@ impl Board {
         })
     }
 
+    /// What a record keeps beside its table: the used places from the oldest change to the newest, each by 1 more than the place, and 0 behind
+    /// them. The calls here do without it; whoever keeps it answers as they do, and 17 where it is another.
+    pub fn order(&self) -> [u8; PLACES] {
+        let mut used: Vec<usize> = (0..PLACES).filter(|&i| self.keys[i] != 0).collect();
+        used.sort_by_key(|&i| self.versions[i]);
+        let mut order = [0; PLACES];
+        for (number, place) in order.iter_mut().zip(used) {
+            *number = place as u8 + 1;
+        }
+        order
+    }
+
     /// The mark of a follower that begins, and holds nothing.
     pub fn fresh_mark(&self) -> (u64, u64) {
         (self.version, 0)

@@ -86,7 +86,7 @@ impl<S: AsRef<[u8]> + AsMut<[u8]>> Board<S> {
     /// An old mark may fit a board that was started anew, and its follower would keep paths that are withdrawn: whoever starts a board anew
     /// sees to it that every follower empties itself and takes a fresh mark.
     pub fn new(store: S) -> Board<S> {
-        let mut record = raw::Record { keys: [0; PLACES], versions: [0; PLACES], lengths: [0; PLACES], version: 0, floor: 0 };
+        let mut record = raw::Record { keys: [0; PLACES], versions: [0; PLACES], lengths: [0; PLACES], version: 0, floor: 0, order: [0; PLACES] };
         raw::empty(&mut record);
         Board { record, store }
     }

@@ -134,11 +134,13 @@ pub struct Record {
     pub lengths: [u16; PLACES],
     pub version: u64,
     pub floor: u64,
+    pub order: [u8; PLACES],
 }
 
 type Keys = [u32; PLACES];
 type Versions = [u64; PLACES];
 type Lengths = [u16; PLACES];
+type Order = [u8; PLACES];
 
 extern "C" {
     fn strundevi_raw_read_open(octets: *const u8, length: usize) -> Opened;
@@ -157,13 +159,14 @@ extern "C" {
         structure: *const [u8; 4],
     ) -> Written;
     fn strundevi_raw_finish(buffer: *mut u8, size: usize, writer: Writer) -> Written;
-    fn strundevi_raw_empty(keys: *mut Keys, versions: *mut Versions, lengths: *mut Lengths, version: *mut u64, floor: *mut u64);
+    fn strundevi_raw_empty(keys: *mut Keys, versions: *mut Versions, lengths: *mut Lengths, version: *mut u64, floor: *mut u64, order: *mut Order);
     fn strundevi_raw_report(
         keys: *mut Keys,
         versions: *mut Versions,
         lengths: *mut Lengths,
         version: *mut u64,
         floor: *mut u64,
+        order: *mut Order,
         store: *mut u8,
         size: usize,
         key: u64,
@@ -178,6 +181,7 @@ extern "C" {
         lengths: *mut Lengths,
         version: *mut u64,
         floor: u64,
+        order: *mut Order,
         store: *const u8,
         size: usize,
         key: u64,
@@ -188,6 +192,7 @@ extern "C" {
         lengths: *const Lengths,
         version: u64,
         floor: *mut u64,
+        order: *mut Order,
         store: *const u8,
         size: usize,
         c: u64,
@@ -198,6 +203,7 @@ extern "C" {
         lengths: *const Lengths,
         version: u64,
         floor: u64,
+        order: *const Order,
         store: *const u8,
         size: usize,
         key: u64,
@@ -208,6 +214,7 @@ extern "C" {
         lengths: *const Lengths,
         version: u64,
         floor: u64,
+        order: *const Order,
         store: *const u8,
         size: usize,
         s: u64,
@@ -260,7 +267,7 @@ pub fn finish(buffer: &mut [u8], writer: Writer) -> Written {
 
 #[inline]
 pub fn empty(b: &mut Record) {
-    unsafe { strundevi_raw_empty(&mut b.keys, &mut b.versions, &mut b.lengths, &mut b.version, &mut b.floor) }
+    unsafe { strundevi_raw_empty(&mut b.keys, &mut b.versions, &mut b.lengths, &mut b.version, &mut b.floor, &mut b.order) }
 }
 
 #[inline]
@@ -272,6 +279,7 @@ pub fn report(b: &mut Record, store: &mut [u8], key: u64, ero: &[u8], session: S
             &mut b.lengths,
             &mut b.version,
             &mut b.floor,
+            &mut b.order,
             store.as_mut_ptr(),
             store.len(),
             key,
@@ -285,22 +293,22 @@ pub fn report(b: &mut Record, store: &mut [u8], key: u64, ero: &[u8], session: S
 
 #[inline]
 pub fn remove(b: &mut Record, store: &[u8], key: u64) -> Verdict {
-    unsafe { strundevi_raw_remove(&b.keys, &mut b.versions, &mut b.lengths, &mut b.version, b.floor, store.as_ptr(), store.len(), key) }
+    unsafe { strundevi_raw_remove(&b.keys, &mut b.versions, &mut b.lengths, &mut b.version, b.floor, &mut b.order, store.as_ptr(), store.len(), key) }
 }
 
 #[inline]
 pub fn compact(b: &mut Record, store: &[u8], c: u64) -> Verdict {
-    unsafe { strundevi_raw_compact(&mut b.keys, &mut b.versions, &b.lengths, b.version, &mut b.floor, store.as_ptr(), store.len(), c) }
+    unsafe { strundevi_raw_compact(&mut b.keys, &mut b.versions, &b.lengths, b.version, &mut b.floor, &mut b.order, store.as_ptr(), store.len(), c) }
 }
 
 #[inline]
 pub fn body(b: &Record, store: &[u8], key: u64) -> Part {
-    unsafe { strundevi_raw_body(&b.keys, &b.versions, &b.lengths, b.version, b.floor, store.as_ptr(), store.len(), key) }
+    unsafe { strundevi_raw_body(&b.keys, &b.versions, &b.lengths, b.version, b.floor, &b.order, store.as_ptr(), store.len(), key) }
 }
 
 #[inline]
 pub fn next(b: &Record, store: &[u8], s: u64, w: u64) -> Next {
-    unsafe { strundevi_raw_next(&b.keys, &b.versions, &b.lengths, b.version, b.floor, store.as_ptr(), store.len(), s, w) }
+    unsafe { strundevi_raw_next(&b.keys, &b.versions, &b.lengths, b.version, b.floor, &b.order, store.as_ptr(), store.len(), s, w) }
 }
 
 #[inline]

@@ -197,6 +197,11 @@ impl Console {
                 Ok(format!(" {s} {w}"))
             }
             ["board"] => Ok(format!(" {} {}", self.board.version, self.board.floor)),
+            ["chain"] => {
+                let order = self.board.order();
+                let places: Vec<String> = order.iter().take_while(|&&n| n != 0).map(|n| (n - 1).to_string()).collect();
+                Ok(format!(" {}", if places.is_empty() { "-".to_string() } else { places.join(",") }))
+            }
             _ => return None,
         })
     }

@@ -1,6 +1,7 @@
 use native.Mathlib.Omega.{arith}
 use Rattle.board_record.specs.Table.{tableOf}
-use Rattle.board_look.proofs.Looks.{body-none, body-here, body-room, body-is}
+use Rattle.board_record.specs.Record.{withOrder}
+use Rattle.board_look.proofs.Looks.{body-none-on, body-taken, body-on, body-here, body-room, body-is}
 use borrow.Author.Needs.{needs}
 use Rattle.board_look.proofs.looking.body.Statement.{statement}
 use Rattle.board_look.proofs.looking.body.Tie as tie
@@ -20,8 +21,8 @@ part-result-end c = search needs
 returns : tie.Need-returns
 returns c =
     let args = c .before .before .before .before .before .args in
-    body-none (tableOf (args .keys .now) (args .versions .now) (args .lengths .now) (args .version) (args .floor))
-    (args .store .now) (args .key) _ (c .before .before .before .body-number .ensures) (c .before .if1 .taken)
+    let t = tableOf (args .keys .now) (args .versions .now) (args .lengths .now) (args .version) (args .floor) in
+    body-none-on (withOrder t (args .order .now)) (args .store .now) (args .key) _ (c .before .before .before .body-number .ensures) (c .before .if1 .taken)
 
 place-of-requires : tie.Need-place-of-requires
 place-of-requires c κs = search needs
@@ -29,9 +30,9 @@ place-of-requires c κs = search needs
 start-of-requires : tie.Need-start-of-requires
 start-of-requires c κs =
     let args = c .before .before .before .before .before .args in
-    let h = body-here
-    (tableOf (args .keys .now) (args .versions .now) (args .lengths .now) (args .version) (args .floor))
-    (args .store .now) (args .key) _ (c .before .before .before .body-number .ensures) (c .before .if1 .left) in
+    let t = tableOf (args .keys .now) (args .versions .now) (args .lengths .now) (args .version) (args .floor) in
+    let taken = body-taken (withOrder t (args .order .now)) (args .store .now) (args .key) _ (c .before .before .before .body-number .ensures) (c .before .if1 .left) in
+    let h = body-here t (args .store .now) (args .key) _ (taken .1) (c .before .if1 .left) in
     omega (arith, c .place-of .ensures)
 
 length-at-requires : tie.Need-length-at-requires
@@ -40,10 +41,9 @@ length-at-requires c κs = search needs
 add-to : tie.Need-add-to
 add-to c =
     let args = c .before .before .before .before .before .before .before .args in
-    let h = body-room
-    (tableOf (args .keys .now) (args .versions .now) (args .lengths .now) (args .version) (args .floor))
-    (args .store .now) (args .key) _ _ _ (c .before .before .before .before .before .body-number .ensures)
-    (c .before .before .before .if1 .left) (c .before .before .place-of .ensures) (c .length-at .ensures) in
+    let t = tableOf (args .keys .now) (args .versions .now) (args .lengths .now) (args .version) (args .floor) in
+    let taken = body-taken (withOrder t (args .order .now)) (args .store .now) (args .key) _ (c .before .before .before .before .before .body-number .ensures) (c .before .before .before .if1 .left) in
+    let h = body-room t (args .store .now) (args .key) _ _ _ (taken .1) (c .before .before .before .if1 .left) (c .before .before .place-of .ensures) (c .length-at .ensures) in
     omega (arith, c .before .start-of .ensures)
 
 sub-result-2 : tie.Need-sub-result-2
@@ -55,19 +55,22 @@ part-result-start-2 c = search needs
 part-result-end-2 : tie.Need-part-result-end-2
 part-result-end-2 c =
     let args = c .before .before .before .before .before .before .before .args in
-    let h = body-room
-    (tableOf (args .keys .now) (args .versions .now) (args .lengths .now) (args .version) (args .floor))
-    (args .store .now) (args .key) _ _ _ (c .before .before .before .before .before .body-number .ensures)
-    (c .before .before .before .if1 .left) (c .before .before .place-of .ensures) (c .length-at .ensures) in
+    let t = tableOf (args .keys .now) (args .versions .now) (args .lengths .now) (args .version) (args .floor) in
+    let taken = body-taken (withOrder t (args .order .now)) (args .store .now) (args .key) _ (c .before .before .before .before .before .body-number .ensures) (c .before .before .before .if1 .left) in
+    let h = body-room t (args .store .now) (args .key) _ _ _ (taken .1) (c .before .before .before .if1 .left) (c .before .before .place-of .ensures) (c .length-at .ensures) in
     omega (arith, c .before .start-of .ensures)
 
 returns-2 : tie.Need-returns-2
 returns-2 c =
-    let args = c .before .before .before .before .before .before .before .before .args in
-    body-is (tableOf (args .keys .now) (args .versions .now) (args .lengths .now) (args .version) (args .floor))
-    (args .store .now) (args .key) _ _ _ _ (c .before .before .before .before .before .before .body-number .ensures)
-    (c .before .before .before .before .if1 .left) (c .before .before .before .place-of .ensures)
-    (c .before .length-at .ensures) (c .before .before .start-of .ensures)
+    let before4 = c .before .before .before .before in
+    let args = before4 .before .before .before .before .args in
+    let t = tableOf (args .keys .now) (args .versions .now) (args .lengths .now) (args .version) (args .floor) in
+    let taken = body-taken (withOrder t (args .order .now)) (args .store .now) (args .key) _
+    (before4 .before .before .body-number .ensures) (before4 .if1 .left) in
+    body-on (withOrder t (args .order .now)) (args .store .now) (args .key) _ (taken .0)
+    (body-is t (args .store .now) (args .key) _ _ _ _ (taken .1) (before4 .if1 .left)
+    (c .before .before .before .place-of .ensures) (c .before .length-at .ensures)
+    (c .before .before .start-of .ensures))
 
 pub body-spec : {M : Type 1} → statement M
 body-spec =

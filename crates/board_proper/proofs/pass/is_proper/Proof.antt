@@ -1,85 +1,125 @@
--- The invariant: the first i places are sound, and the chains of keys and of versions hold all their numbers. A pass that stops has met a place that is
--- not sound, or a key or a version that came before; one that ends has met none.
+-- The invariant: the numbers of the order so far name places that are sound (`Along`), and the chains of the hash hold all their keys (`Hashed`). Each way out is a law
+-- of `Passing`.
 use Prim.Native.Nat.{ℕ, _≤_, _-_, _<_}
 use native.Mathlib.Omega.{arith}
 use borrow.Author.Needs.{needs}
-use mathlib.Core.Path.{_≡_, refl, sym, _∙_}
-use mathlib.Core.Bool.{true}
-use lib.ListN.{getD, length}
-use Rattle.octets.proofs.Tests.{tests}
+use mathlib.Core.Path.{_≡_, refl, sym, ap, _∙_, subst}
+use lib.ListN.{getD}
+use Rattle.board_record.specs.Sizes.{places}
 use Rattle.board_record.specs.Table.{tableOf}
-use Rattle.board_record.specs.Proper.{soundB, allBelow, properB}
-use Rattle.board_record.proofs.All.{all-none}
-use Rattle.board_proper.proofs.Laws.{Chained, chained-none, chained-skip, chained-more, chained-walk, places-more, empty-version, used-version, pass-place, pass-key, pass-version, pass-all}
+use Rattle.board_record.specs.Proper.{freshB}
+use Rattle.board_record.specs.Order.{named}
+use Rattle.board_proper.specs.Chain.{along, Walking}
+use Rattle.board_proper.proofs.Laws.{Hashed, hashed-none, hashed-more, hashed-walk}
+use Rattle.board_proper.proofs.Passing.{Along, along-none, along-more, key-along, used-along, end-of, end-short}
+use Rattle.board_proper.proofs.Passing.{stop-floor, stop-version, stop-number, stop-rising, stop-place, stop-key, stop-top, stop-count}
 use Rattle.board_proper.proofs.pass.is_proper.Statement.{statement}
 use Rattle.board_proper.proofs.pass.is_proper.Tie as tie
 
 abbrev Inv-loop : tie.InvT-loop
-Inv-loop keys versions lengths top floor heads₀ nexts₀ vheads₀ vnexts₀ i₀ heads nexts vheads vnexts i =
-    (i ≤ 128) × Chained keys heads nexts i × Chained versions vheads vnexts i × (allBelow (soundB (tableOf keys versions lengths top floor)) i ≡ true)
+Inv-loop keys versions lengths top floor order heads₀ nexts₀ last₀ i₀ heads nexts last i =
+    (i ≤ places) × Along (tableOf keys versions lengths top floor) order i last × Hashed (along keys order) heads nexts i
 
 abbrev μ-loop : tie.MeasureT-loop
-μ-loop keys versions lengths top floor heads₀ nexts₀ vheads₀ vnexts₀ i₀ heads nexts vheads vnexts i =
-    128 - i
+μ-loop keys versions lengths top floor order heads₀ nexts₀ last₀ i₀ heads nexts last i = places - i
 
 returns : tie.Need-returns Inv-loop μ-loop
-unfolding properB
-returns c = search tests
+returns c =
+    let args = c .before .args in
+    let t = tableOf (args .keys .now) (args .versions .now) (args .lengths .now) (args .top) (args .floor) in
+    stop-floor t (args .order .now) (c .if1 .taken)
 
 returns-2 : tie.Need-returns-2 Inv-loop μ-loop
-unfolding properB
-returns-2 c = search tests
+returns-2 c =
+    let args = c .before .before .args in
+    let t = tableOf (args .keys .now) (args .versions .now) (args .lengths .now) (args .top) (args .floor) in
+    stop-version t (args .order .now) (c .if2 .taken)
 
 loop-holds : tie.Need-loop-holds Inv-loop μ-loop
-loop-holds c = (omega arith, chained-none _, chained-none _, all-none _)
+loop-holds c = (omega arith, along-none _ _, hashed-none _)
 
-mul-k : tie.Need-mul-k Inv-loop μ-loop
-mul-k c = omega arith
-
-element-copy-out-k : tie.Need-element-copy-out-k Inv-loop μ-loop
-element-copy-out-k c = omega arith
-
-mul-v : tie.Need-mul-v Inv-loop μ-loop
-mul-v c = omega arith
-
-element-copy-out-v : tie.Need-element-copy-out-v Inv-loop μ-loop
-element-copy-out-v c = omega arith
-
-mul-place-ok : tie.Need-mul-place-ok Inv-loop μ-loop
-mul-place-ok c = omega arith
-
-element-copy-out-place-ok : tie.Need-element-copy-out-place-ok Inv-loop μ-loop
-element-copy-out-place-ok c = omega arith
-
-place-ok-requires : tie.Need-place-ok-requires Inv-loop μ-loop
-place-ok-requires c κs = search needs
+element-copy-out-n : tie.Need-element-copy-out-n Inv-loop μ-loop
+element-copy-out-n c = omega arith
 
 returns-3 : tie.Need-returns-3 Inv-loop μ-loop
 returns-3 c =
-    let args = c .before .before .before .before .before .before .before .before .before .args in
-    pass-place (args .keys .now) (args .versions .now) (args .lengths .now) (args .top) (args .floor)
-    (c .before .before .before .before .before .before .loop .i) _
-    (c .before .before .before .before .before .loop-test .taken) (c .before .place-ok .ensures) (c .if3 .taken)
+    let args = c .before .before .before .before .before .before .before .args in
+    let t = tableOf (args .keys .now) (args .versions .now) (args .lengths .now) (args .top) (args .floor) in
+    stop-top t (args .order .now) _ _ (c .before .before .before .before .loop .inv .0) (c .before .before .before .before .loop .inv .1) (c .if4 .taken)
 
-add-i : tie.Need-add-i Inv-loop μ-loop
-add-i c = omega arith
+empties-requires : tie.Need-empties-requires Inv-loop μ-loop
+empties-requires c κs = search needs
 
-loop-less : tie.Need-loop-less Inv-loop μ-loop
-loop-less c = omega arith
+sub-if5 : tie.Need-sub-if5 Inv-loop μ-loop
+sub-if5 c = omega (arith, c .before .before .before .before .before .loop .inv .0)
 
-loop-again : tie.Need-loop-again Inv-loop μ-loop
-loop-again c =
-    let before7 = c .before .before .before .before .before .before .before in
-    let args = before7 .before .before .before .args in (
-      omega arith,
-      chained-skip (args .keys .now) (before7 .loop .heads) (before7 .loop .nexts) (before7 .loop .i)
-          (before7 .loop .inv .1) (c .if4 .taken),
-      chained-skip (args .versions .now) (before7 .loop .vheads) (before7 .loop .vnexts) (before7 .loop .i)
-          (before7 .loop .inv .2)
-          (empty-version _ _ _ _ (c .before .before .place-ok .ensures) (c .before .if3 .left) (c .if4 .taken)),
-      places-more (args .keys .now) (args .versions .now) (args .lengths .now) (args .top) (args .floor)
-          (before7 .loop .i) _ (c .before .before .place-ok .ensures) (c .before .if3 .left) (before7 .loop .inv .3),
-    )
+returns-4 : tie.Need-returns-4 Inv-loop μ-loop
+returns-4 c =
+    let before5 = c .before .before .before .before .before in
+    let args = before5 .before .before .before .before .args in
+    let t = tableOf (args .keys .now) (args .versions .now) (args .lengths .now) (args .top) (args .floor) in
+    stop-count t (args .order .now) _ _ (before5 .before .loop .inv .0) (before5 .before .loop .inv .1)
+    (c .before .before .before .if3 .taken) (before5 .loop-test .taken) _ (c .before .empties .ensures) (c .if5 .taken)
+
+clear-requires : tie.Need-clear-requires Inv-loop μ-loop
+clear-requires c κs = c .before .before .before .before .before .before .loop .inv .0
+
+returns-5 : tie.Need-returns-5 Inv-loop μ-loop
+returns-5 c =
+    let before6 = c .before .before .before .before .before .before in
+    let args = before6 .before .before .before .before .args in
+    let t = tableOf (args .keys .now) (args .versions .now) (args .lengths .now) (args .top) (args .floor) in
+    end-short t (args .order .now) _ _ (before6 .before .loop .inv .0) (before6 .before .loop .inv .1) _ _
+    (c .before .before .empties .ensures) (c .before .if5 .left) (c .clear .ensures)
+    (before6 .before .loop .inv .2 .fine) (before6 .before .before .before .if1 .left)
+    (before6 .before .before .if2 .left) (c .before .before .before .if4 .left) (before6 .loop-test .taken)
+    (c .before .before .before .before .if3 .taken)
+
+place-in-requires : tie.Need-place-in-requires Inv-loop μ-loop
+place-in-requires c κs = search needs
+
+returns-6 : tie.Need-returns-6 Inv-loop μ-loop
+returns-6 c =
+    let args = c .before .before .before .before .before .before .before .before .args in
+    let t = tableOf (args .keys .now) (args .versions .now) (args .lengths .now) (args .top) (args .floor) in
+    stop-number t (args .order .now) _ _ _ (c .before .before .before .before .loop-test .taken) refl (c .before .before .if3 .left) (c .before .place-in .ensures) (c .if6 .taken)
+
+mul-v : tie.Need-mul-v Inv-loop μ-loop
+mul-v c = omega (arith, c .if6 .left)
+
+element-copy-out-v : tie.Need-element-copy-out-v Inv-loop μ-loop
+element-copy-out-v c = omega (arith, c .if6 .left)
+
+returns-7 : tie.Need-returns-7 Inv-loop μ-loop
+returns-7 c =
+    let before6 = c .before .before .before .before .before .before in
+    let args = before6 .before .before .before .before .args in
+    let t = tableOf (args .keys .now) (args .versions .now) (args .lengths .now) (args .top) (args .floor) in
+    stop-rising t (args .order .now) _ _ _ _ (before6 .loop-test .taken) (before6 .before .loop .inv .1)
+    (c .before .before .before .place-in .ensures) (c .before .before .if6 .left) refl (c .if7 .taken)
+
+mul-k : tie.Need-mul-k Inv-loop μ-loop
+mul-k c = omega (arith, c .before .before .if6 .left)
+
+element-copy-out-k : tie.Need-element-copy-out-k Inv-loop μ-loop
+element-copy-out-k c = omega (arith, c .before .before .if6 .left)
+
+mul-used-ok : tie.Need-mul-used-ok Inv-loop μ-loop
+mul-used-ok c = omega (arith, c .before .before .before .if6 .left)
+
+element-copy-out-used-ok : tie.Need-element-copy-out-used-ok Inv-loop μ-loop
+element-copy-out-used-ok c = omega (arith, c .before .before .before .if6 .left)
+
+used-ok-requires : tie.Need-used-ok-requires Inv-loop μ-loop
+used-ok-requires c κs = search needs
+
+returns-8 : tie.Need-returns-8 Inv-loop μ-loop
+returns-8 c =
+    let before6 = c .before .before .before .before .before .before in
+    let args = before6 .before .before .before .before .before .before .before .before .args in
+    let t = tableOf (args .keys .now) (args .versions .now) (args .lengths .now) (args .top) (args .floor) in
+    stop-place t (args .order .now) _ _ _ (before6 .before .before .before .before .loop-test .taken)
+    (before6 .before .place-in .ensures) (before6 .if6 .left) (c .before .used-ok .ensures) (c .if8 .taken)
 
 wide32-requires : tie.Need-wide32-requires Inv-loop μ-loop
 wide32-requires c κs = search needs
@@ -88,118 +128,84 @@ slot-requires : tie.Need-slot-requires Inv-loop μ-loop
 slot-requires c κs = search needs
 
 array-read-p : tie.Need-array-read-p Inv-loop μ-loop
-array-read-p c = omega arith
+array-read-p c = omega (arith, c .slot .ensures .1)
 
 wide-requires : tie.Need-wide-requires Inv-loop μ-loop
 wide-requires c κs = search needs
 
-fresh32-requires : tie.Need-fresh32-requires Inv-loop μ-loop
-fresh32-requires c κs =
-    let before11 = c .before .before .before .before .before .before .before .before .before .before .before in (
-      omega arith,
-      before11 .loop .inv .1 .links,
-      chained-walk (before11 .before .before .before .args .keys .now) (before11 .loop .heads) (before11 .loop .nexts)
-          (before11 .loop .i) _ _ _ (before11 .loop .inv .1) (c .before .before .before .before .if4 .left)
-          (c .before .before .before .wide32 .ensures) (c .before .before .slot .ensures .0) (c .wide .ensures .0),
+fresh-requires : tie.Need-fresh-requires Inv-loop μ-loop
+fresh-requires c κs =
+    let before11 = c .before .before .before .before .before .before .before .before .before .before .before in
+    let before14 = before11 .before .before .before in
+    let loop-inv = before14 .before .loop .inv in
+    let args = before14 .before .before .before .before .args in
+    let t = tableOf (args .keys .now) (args .versions .now) (args .lengths .now) (args .top) (args .floor) in
+    let e = key-along t (args .order .now) _ _ (before14 .loop-test .taken) (before11 .place-in .ensures) in
+    let u = used-along t (args .order .now) _ _ _ (before14 .loop-test .taken) (before11 .place-in .ensures)
+    (c .before .before .before .before .before .used-ok .ensures) (c .before .before .before .before .if8 .left) in
+    let xs = along (args .keys .now) (args .order .now) in (
+      loop-inv .0,
+      loop-inv .1 .risen .low,
+      loop-inv .2 .links,
+      subst (λ (k : ℕ). Walking xs (before14 .before .loop .i) k (c .wide .result)) (sym e)
+          (hashed-walk xs _ _ _ _ _ _ (loop-inv .2) u (c .before .before .before .wide32 .ensures ∙ e)
+          (c .before .before .slot .ensures .0) (c .wide .ensures .0)),
     )
 
-returns-4 : tie.Need-returns-4 Inv-loop μ-loop
-returns-4 c =
+returns-9 : tie.Need-returns-9 Inv-loop μ-loop
+returns-9 c =
     let before12 = c .before .before .before .before .before .before .before .before .before .before .before .before in
-    let args = before12 .before .before .before .before .args in
-    pass-key (args .keys .now) (args .versions .now) (args .lengths .now) (args .top) (args .floor)
-    (before12 .before .loop .i) _ (before12 .loop-test .taken)
-    (c .before .before .before .before .before .before .if4 .left) (c .before .fresh32 .ensures) (c .if5 .taken)
+    let args = before12 .before .before .before .before .before .before .before .before .args in
+    let t = tableOf (args .keys .now) (args .versions .now) (args .lengths .now) (args .top) (args .floor) in
+    stop-key t (args .order .now) _ _ _ _ (before12 .before .before .before .before .loop-test .taken)
+    (before12 .before .before .before .before .before .loop .inv .1) (before12 .before .place-in .ensures)
+    (before12 .if6 .left) (c .before .fresh .ensures) (c .if9 .taken)
 
 array-write-nexts : tie.Need-array-write-nexts Inv-loop μ-loop
-array-write-nexts c = omega arith
+array-write-nexts c = omega (arith, c .before .before .before .before .before .before .before .before .before .before .before .before .before .before .before .before .loop-test .taken)
 
 add-heads : tie.Need-add-heads Inv-loop μ-loop
-add-heads c = omega arith
+add-heads c = omega (arith, c .before .before .before .before .before .before .before .before .before .before .before .before .before .before .before .before .loop-test .taken)
 
 cast-heads : tie.Need-cast-heads Inv-loop μ-loop
-cast-heads c = omega arith
+cast-heads c = omega (arith, c .before .before .before .before .before .before .before .before .before .before .before .before .before .before .before .before .loop-test .taken)
 
 array-write-heads : tie.Need-array-write-heads Inv-loop μ-loop
-array-write-heads c = omega arith
+array-write-heads c = omega (arith, c .before .before .before .before .slot .ensures .1)
 
-slot-requires-2 : tie.Need-slot-requires-2 Inv-loop μ-loop
-slot-requires-2 c κs = search needs
+add-i : tie.Need-add-i Inv-loop μ-loop
+add-i c = omega (arith, c .before .before .before .before .before .before .before .before .before .before .before .before .before .before .before .before .loop-test .taken)
 
-array-read-q : tie.Need-array-read-q Inv-loop μ-loop
-array-read-q c = omega arith
+loop-less : tie.Need-loop-less Inv-loop μ-loop
+loop-less c = omega (arith, c .before .before .before .before .before .before .before .before .before .before .before .before .before .before .before .before .loop-test .taken)
 
-wide-requires-2 : tie.Need-wide-requires-2 Inv-loop μ-loop
-wide-requires-2 c κs = search needs
-
-fresh64-requires : tie.Need-fresh64-requires Inv-loop μ-loop
-fresh64-requires c κs =
-    let before9 = c .before .before .before .before .before .before .before .before .before in
-    let before16 = before9 .before .before .before .before .before .before .before in (
-      omega arith,
-      before16 .loop .inv .2 .links,
-      chained-walk (before16 .before .before .before .args .versions .now) (before16 .loop .vheads)
-          (before16 .loop .vnexts) (before16 .loop .i) _ _ _ (before16 .loop .inv .2)
-          (used-version _ _ _ _ (before9 .before .before .place-ok .ensures) (before9 .before .if3 .left)
-          (before9 .if4 .left)) refl (c .before .before .slot2 .ensures .0) (c .wide2 .ensures .0),
-    )
-
-returns-5 : tie.Need-returns-5 Inv-loop μ-loop
-returns-5 c =
-    let before11 = c .before .before .before .before .before .before .before .before .before .before .before in
-    let before17 = before11 .before .before .before .before .before .before in
-    let args = before17 .before .before .before .before .args in
-    pass-version (args .keys .now) (args .versions .now) (args .lengths .now) (args .top) (args .floor)
-    (before17 .before .loop .i) _ (before17 .loop-test .taken)
-    (used-version _ _ _ _ (before11 .before .before .place-ok .ensures) (before11 .before .if3 .left)
-    (before11 .if4 .left)) (c .before .fresh64 .ensures) (c .if6 .taken)
-
-array-write-vnexts : tie.Need-array-write-vnexts Inv-loop μ-loop
-array-write-vnexts c = omega arith
-
-add-vheads : tie.Need-add-vheads Inv-loop μ-loop
-add-vheads c = omega arith
-
-cast-vheads : tie.Need-cast-vheads Inv-loop μ-loop
-cast-vheads c = omega arith
-
-array-write-vheads : tie.Need-array-write-vheads Inv-loop μ-loop
-array-write-vheads c = omega arith
-
-add-i-2 : tie.Need-add-i-2 Inv-loop μ-loop
-add-i-2 c = omega arith
-
-loop-less-2 : tie.Need-loop-less-2 Inv-loop μ-loop
-loop-less-2 c = omega arith
-
-loop-again-2 : tie.Need-loop-again-2 Inv-loop μ-loop
-loop-again-2 c =
+loop-again : tie.Need-loop-again Inv-loop μ-loop
+loop-again c =
     let before4 = c .before .before .before .before in
-    let before9 = before4 .before .before .before .before .before in
-    let before12 = before9 .before .before .before in
-    let before17 = before12 .before .before .before .before .before in
-    let loop = before17 .before .loop in
-    let args = before17 .before .before .before .before .args in (
-      omega arith,
-      chained-more (args .keys .now) (loop .heads) (loop .nexts) (loop .i) _ _ _ (loop .inv .1)
-          (before17 .loop-test .taken) (before9 .before .before .if4 .left) (before9 .before .wide32 .ensures)
-          (before9 .slot .ensures .0) (before9 .slot .ensures .1) (before4 .before .before .fresh32 .ensures)
-          (before4 .before .if5 .left),
-      chained-more (args .versions .now) (loop .vheads) (loop .vnexts) (loop .i) _ _ _ (loop .inv .2)
-          (before17 .loop-test .taken)
-          (used-version _ _ _ _ (before12 .before .place-ok .ensures) (before12 .if3 .left)
-          (before9 .before .before .if4 .left)) refl (before4 .slot2 .ensures .0) (before4 .slot2 .ensures .1)
-          (c .before .fresh64 .ensures) (c .if6 .left),
-      places-more (args .keys .now) (args .versions .now) (args .lengths .now) (args .top) (args .floor) (loop .i) _
-          (before12 .before .place-ok .ensures) (before12 .if3 .left) (loop .inv .3),
+    let before6 = before4 .before .before in
+    let before12 = before6 .before .before .before .before .before .before in
+    let before16 = before12 .before .before .before .before in
+    let args = before16 .before .before .before .before .args in
+    let t = tableOf (args .keys .now) (args .versions .now) (args .lengths .now) (args .top) (args .floor) in
+    let e = key-along t (args .order .now) _ _ (before16 .loop-test .taken) (before12 .before .place-in .ensures) in
+    let u = used-along t (args .order .now) _ _ _ (before16 .loop-test .taken) (before12 .before .place-in .ensures)
+    (before6 .before .used-ok .ensures) (before6 .if8 .left) in
+    let xs = along (args .keys .now) (args .order .now) in (
+      omega (arith, before16 .loop-test .taken),
+      along-more t (args .order .now) _ _ _ _ _ (before16 .before .loop .inv .1) (before12 .before .place-in .ensures)
+          (before12 .if6 .left) refl (before6 .before .before .before .before .if7 .left)
+          (before6 .before .used-ok .ensures) (before6 .if8 .left),
+      hashed-more xs _ _ _ _ _ _ (before16 .before .loop .inv .2) (before16 .loop-test .taken) u
+          (before4 .before .wide32 .ensures ∙ e) (before4 .slot .ensures .0) (before4 .slot .ensures .1)
+          (c .before .fresh .ensures ∙ ap (freshB xs (before16 .before .loop .i)) e) (c .if9 .left),
     )
 
-returns-6 : tie.Need-returns-6 Inv-loop μ-loop
-returns-6 c =
+returns-10 : tie.Need-returns-10 Inv-loop μ-loop
+returns-10 c =
     let args = c .before .before .before .before .args in
-    pass-all (args .keys .now) (args .versions .now) (args .lengths .now) (args .top) (args .floor) (c .before .loop .i)
-    (c .before .before .before .if1 .left) (c .before .before .if2 .left) (c .before .loop .inv .0) (c .loop-test .left)
-    (c .before .loop .inv .1) (c .before .loop .inv .2) (c .before .loop .inv .3)
+    let t = tableOf (args .keys .now) (args .versions .now) (args .lengths .now) (args .top) (args .floor) in
+    end-of t (args .order .now) _ _ (c .before .loop .inv .0) (c .before .loop .inv .1) (c .loop-test .left)
+    (c .before .loop .inv .2 .fine) (c .before .before .before .if1 .left) (c .before .before .if2 .left)
 
 pub is-proper-spec : {M : Type 1} → statement M
 is-proper-spec =
@@ -210,37 +216,35 @@ is-proper-spec =
     returns
     returns-2
     loop-holds
-    mul-k
-    element-copy-out-k
+    element-copy-out-n
+    returns-3
+    empties-requires
+    sub-if5
+    returns-4
+    clear-requires
+    returns-5
+    place-in-requires
+    returns-6
     mul-v
     element-copy-out-v
-    mul-place-ok
-    element-copy-out-place-ok
-    place-ok-requires
-    returns-3
-    add-i
-    loop-less
-    loop-again
+    returns-7
+    mul-k
+    element-copy-out-k
+    mul-used-ok
+    element-copy-out-used-ok
+    used-ok-requires
+    returns-8
     wide32-requires
     slot-requires
     array-read-p
     wide-requires
-    fresh32-requires
-    returns-4
+    fresh-requires
+    returns-9
     array-write-nexts
     add-heads
     cast-heads
     array-write-heads
-    slot-requires-2
-    array-read-q
-    wide-requires-2
-    fresh64-requires
-    returns-5
-    array-write-vnexts
-    add-vheads
-    cast-vheads
-    array-write-vheads
-    add-i-2
-    loop-less-2
-    loop-again-2
-    returns-6)
+    add-i
+    loop-less
+    loop-again
+    returns-10)

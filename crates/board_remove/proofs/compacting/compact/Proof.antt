@@ -1,5 +1,10 @@
-use Rattle.board_record.specs.Table.{tableOf}
-use Rattle.board_remove.proofs.Answers.{compact-not-board, compact-verdict, compact-refused, compact-accepted}
+use mathlib.Core.Path.{refl, sym, ap, _∙_, subst}
+use mathlib.Core.Bool.{true, false}
+use Rattle.board_record.specs.Table.{Table, tableOf}
+use Rattle.board_record.specs.Record.{withOrder}
+use Rattle.board_rules.proofs.Told.{board-proper}
+use Rattle.board_rules.proofs.OnRecord.{record-is, result-not, result-refused, result-accepted}
+use Rattle.board_remove.proofs.Answers.{compact-not-board, compact-verdict, compact-refused, compact-accepted, compact-loose-at, compact-still}
 use Rattle.board_remove.proofs.Sweeps.{compacted-is}
 use borrow.Author.Needs.{needs}
 use Rattle.board_remove.proofs.compacting.compact.Statement.{statement}
@@ -13,25 +18,26 @@ refused-requires c κs = search needs
 
 returns : tie.Need-returns
 returns c =
-    let args = c .before .before .before .before .before .before .before .args in
-    compact-not-board
-    (tableOf (args .keys .now) (args .versions .now) (args .lengths .now) (args .version) (args .floor .now))
-    (args .store .now) (args .c) _ _ (c .before .before .is-board .ensures) (c .before .if1 .taken)
-    (c .refused .ensures)
+    let args = c .before .before .before .before .before .before .before .before .args in
+    let t = tableOf (args .keys .now) (args .versions .now) (args .lengths .now) (args .version) (args .floor .now) in
+    let b = withOrder t (args .order .now) in
+    result-not b _ _ _ _ (c .before .before .is-board .ensures) (c .before .if1 .taken) (c .refused .ensures)
+    (λ e. compact-not-board t (args .store .now) (args .c) false _ (sym e) refl (c .refused .ensures))
 
 compact-rules-requires : tie.Need-compact-rules-requires
 compact-rules-requires c κs = search needs
 
 returns-2 : tie.Need-returns-2
 returns-2 c =
-    let args = c .before .before .before .before .before .before .before .before .before .args in
-    compact-refused
-    (tableOf (args .keys .now) (args .versions .now) (args .lengths .now) (args .version) (args .floor .now))
-    (args .store .now) (args .c) _
-    (compact-verdict
-    (tableOf (args .keys .now) (args .versions .now) (args .lengths .now) (args .version) (args .floor .now))
-    (args .store .now) (args .c) _ _ (c .before .before .before .before .is-board .ensures)
-    (c .before .before .before .if1 .left) (c .before .before .compact-rules .ensures)) (c .if2 .taken)
+    let args = c .before .before .before .before .before .before .before .before .before .before .args in
+    let t = tableOf (args .keys .now) (args .versions .now) (args .lengths .now) (args .version) (args .floor .now) in
+    let b = withOrder t (args .order .now) in
+    let h = record-is b _ _ (c .before .before .before .before .is-board .ensures)
+    (c .before .before .before .if1 .left) in
+    result-refused b _ _ (h .1)
+    (compact-refused t (args .store .now) (args .c) _
+    (compact-verdict t (args .store .now) (args .c) true _ (sym (h .0)) refl
+    (c .before .before .compact-rules .ensures)) (c .if2 .taken)) (c .if2 .taken)
 
 sweep-requires : tie.Need-sweep-requires
 sweep-requires c κs = search needs
@@ -39,19 +45,40 @@ sweep-requires c κs = search needs
 larger-requires : tie.Need-larger-requires
 larger-requires c κs = search needs
 
+drop-empty-requires : tie.Need-drop-empty-requires
+drop-empty-requires c κs =
+    let before4 = c .before .before .before .before in
+    let before10 = before4 .before .before .before .before .before .before in
+    let args = before10 .before .before .before .before .before .before .before .args in
+    let t = tableOf (args .keys .now) (args .versions .now) (args .lengths .now) (args .version) (args .floor .now) in
+    let b = withOrder t (args .order .now) in
+    let h = record-is b _ _ (before10 .before .is-board .ensures) (before10 .if1 .left) in (
+      search needs,
+      compact-loose-at t (args .c) (args .order .now) _ (board-proper t _ (h .0)) (h .1)
+          (compacted-is (args .keys .now) (args .versions .now) (args .lengths .now) (args .version) (args .floor .now)
+          (args .c) _ _ _ (before4 .sweep .ensures .0) (before4 .sweep .ensures .1 .0)
+          (c .before .before .before .larger .ensures)),
+      λ e.
+          compact-still t (args .order .now) _ _ _ (board-proper t _ (h .0)) (h .1) (before4 .sweep .ensures .1 .1 e .0)
+          (before4 .sweep .ensures .1 .1 e .1),
+    )
+
 returns-3 : tie.Need-returns-3
 returns-3 c =
-    let before6 = c .before .before .before .before .before .before in
-    let args = before6 .before .before .before .before .before .before .before .args in
-    compact-accepted
-    (tableOf (args .keys .now) (args .versions .now) (args .lengths .now) (args .version) (args .floor .now))
-    (args .store .now) (args .c) _ _
-    (compact-verdict
-    (tableOf (args .keys .now) (args .versions .now) (args .lengths .now) (args .version) (args .floor .now))
-    (args .store .now) (args .c) _ _ (before6 .before .before .is-board .ensures) (before6 .before .if1 .left)
-    (before6 .compact-rules .ensures)) (c .before .before .before .before .if2 .left)
+    let before4 = c .before .before .before .before in
+    let before8 = before4 .before .before .before .before in
+    let args = before8 .before .before .before .before .before .before .before .before .before .before .args in
+    let t = tableOf (args .keys .now) (args .versions .now) (args .lengths .now) (args .version) (args .floor .now) in
+    let b = withOrder t (args .order .now) in
+    let h = record-is b _ _ (before8 .before .before .before .before .is-board .ensures)
+    (before8 .before .before .before .if1 .left) in
+    result-accepted b _ _ _ _ (h .1)
+    (compact-accepted t (args .store .now) (args .c) _ _
+    (compact-verdict t (args .store .now) (args .c) true _ (sym (h .0)) refl
+    (before8 .before .before .compact-rules .ensures)) (before8 .if2 .left)
     (compacted-is (args .keys .now) (args .versions .now) (args .lengths .now) (args .version) (args .floor .now)
-    (args .c) _ _ _ (c .before .sweep .ensures .0) (c .before .sweep .ensures .1) (c .larger .ensures))
+    (args .c) _ _ _ (before4 .before .sweep .ensures .0) (before4 .before .sweep .ensures .1 .0)
+    (before4 .larger .ensures))) (before8 .if2 .left) (c .drop-empty .ensures)
 
 pub compact-spec : {M : Type 1} → statement M
 compact-spec =
@@ -64,4 +91,5 @@ compact-spec =
     returns-2
     sweep-requires
     larger-requires
+    drop-empty-requires
     returns-3)

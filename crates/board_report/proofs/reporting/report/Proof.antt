@@ -1,22 +1,15 @@
--- The board decides, then stores. Each refusal is one law (`report-not-board`, `report-refused`), the acceptance another; between them every need of a
--- store is met by what the passed rules say (`passed`).
+-- The board decides, then stores. Each refusal is one law of the table (`report-not-board`, `report-refused`) and one of the record, the acceptance two others;
+-- between them every need of a store is met by what the passed rules say (`passed`), and the order is what `move_last` leaves.
 use native.Mathlib.Omega.{arith}
+use Prim.Native.Nat.{_+_}
+use mathlib.Core.Path.{refl, sym}
+use mathlib.Core.Bool.{true, false}
 use Rattle.board_record.specs.Table.{tableOf}
-use Rattle.board_rules.proofs.Told.{board-is, board-proper, version-room}
-use Rattle.board_report.proofs.Reports.{
-  Passed,
-  passed,
-  body-there,
-  report-not-board,
-  store-not-board,
-  report-verdict,
-  report-refused,
-  store-refused,
-  report-accepted,
-  store-accepted,
-  report-room,
-  lay-fits,
-}
+use Rattle.board_record.specs.Record.{withOrder}
+use Rattle.board_rules.proofs.Told.{board-proper, version-room}
+use Rattle.board_rules.proofs.OnRecord.{record-is, result-not, result-refused, result-accepted, store-not, store-on}
+use Rattle.board_report.proofs.Reports.{passed, body-there, report-not-board, store-not-board, report-verdict, report-refused, store-refused}
+use Rattle.board_report.proofs.Reports.{report-accepted, store-accepted, report-room, lay-fits}
 use borrow.Author.Needs.{needs}
 use Rattle.board_report.proofs.reporting.report.Statement.{statement}
 use Rattle.board_report.proofs.reporting.report.Tie as tie
@@ -29,25 +22,28 @@ refused-requires c κs = search needs
 
 returns : tie.Need-returns
 returns c =
-    let args = c .before .before .before .before .before .before .before .before .before .before .args in (
-      report-not-board
-          (tableOf (args .keys .now) (args .versions .now) (args .lengths .now) (args .version .now) (args .floor .now))
-          (args .store .now) (args .key) (args .ero .now) (args .session) (args .pst) _ _
-          (c .before .before .is-board .ensures) (c .before .if1 .taken) (c .refused .ensures),
-      store-not-board
-          (tableOf (args .keys .now) (args .versions .now) (args .lengths .now) (args .version .now) (args .floor .now))
-          (args .store .now) (args .key) (args .ero .now) (args .session) (args .pst) _
-          (c .before .before .is-board .ensures) (c .before .if1 .taken),
+    let args = c .before .before .before .before .before .before .before .before .before .before .before .args in
+    let t = tableOf (args .keys .now) (args .versions .now) (args .lengths .now) (args .version .now)
+    (args .floor .now) in
+    let b = withOrder t (args .order .now) in (
+      result-not b _ _ _ _ (c .before .before .is-board .ensures) (c .before .if1 .taken) (c .refused .ensures)
+          (λ e.
+          report-not-board t (args .store .now) (args .key) (args .ero .now) (args .session) (args .pst) false _ (sym e)
+          refl (c .refused .ensures)),
+      store-not b (args .store .now) (args .key) (args .ero .now) (args .session) (args .pst) _ _
+          (c .before .before .is-board .ensures) (c .before .if1 .taken)
+          (λ e.
+          store-not-board t (args .store .now) (args .key) (args .ero .now) (args .session) (args .pst) false (sym e)
+          refl),
     )
 
 target-requires : tie.Need-target-requires
 target-requires c κs =
-    let args = c .before .before .before .before .before .before .before .before .before .before .before .before .args in
-    board-proper
-    (tableOf (args .keys .now) (args .versions .now) (args .lengths .now) (args .version .now) (args .floor .now)) _
-    (board-is
-    (tableOf (args .keys .now) (args .versions .now) (args .lengths .now) (args .version .now) (args .floor .now)) _ _
-    (c .before .before .before .before .is-board .ensures) (c .before .before .before .if1 .left))
+    let args = c .before .before .before .before .before .before .before .before .before .before .before .before .before .args in
+    let t = tableOf (args .keys .now) (args .versions .now) (args .lengths .now) (args .version .now) (args .floor .now) in
+    let b = withOrder t (args .order .now) in
+    let h = record-is b _ _ (c .before .before .before .before .is-board .ensures) (c .before .before .before .if1 .left) in
+    board-proper t _ (h .0)
 
 body-size-requires : tie.Need-body-size-requires
 body-size-requires c κs = search needs
@@ -60,76 +56,91 @@ report-rules-requires c κs = search needs
 
 returns-2 : tie.Need-returns-2
 returns-2 c =
-    let before3 = c .before .before .before in
-    let before9 = before3 .before .before .before .before .before .before in
-    let args = before9 .before .before .before .before .before .before .before .before .before .args in (
-      report-refused
-          (tableOf (args .keys .now) (args .versions .now) (args .lengths .now) (args .version .now) (args .floor .now))
-          (args .store .now) (args .key) (args .ero .now) (args .session) (args .pst) _
-          (report-verdict
-          (tableOf (args .keys .now) (args .versions .now) (args .lengths .now) (args .version .now) (args .floor .now))
-          (args .store .now) (args .key) (args .ero .now) (args .session) (args .pst) _ _ _ _ _
-          (before9 .before .is-board .ensures) (before9 .if1 .left) (before3 .before .before .target .ensures)
-          (before3 .before .body-size .ensures) (before3 .judge .ensures) (c .before .before .report-rules .ensures))
-          (c .if2 .taken),
-      store-refused
-          (tableOf (args .keys .now) (args .versions .now) (args .lengths .now) (args .version .now) (args .floor .now))
-          (args .store .now) (args .key) (args .ero .now) (args .session) (args .pst) _
-          (report-verdict
-          (tableOf (args .keys .now) (args .versions .now) (args .lengths .now) (args .version .now) (args .floor .now))
-          (args .store .now) (args .key) (args .ero .now) (args .session) (args .pst) _ _ _ _ _
-          (before9 .before .is-board .ensures) (before9 .if1 .left) (before3 .before .before .target .ensures)
-          (before3 .before .body-size .ensures) (before3 .judge .ensures) (c .before .before .report-rules .ensures))
-          (c .if2 .taken),
+    let before9 = c .before .before .before .before .before .before .before .before .before in
+    let args = before9 .before .before .before .before .before .before .before .before .before .before .args in
+    let t = tableOf (args .keys .now) (args .versions .now) (args .lengths .now) (args .version .now)
+    (args .floor .now) in
+    let b = withOrder t (args .order .now) in
+    let h = record-is b _ _ (before9 .before .is-board .ensures) (before9 .if1 .left) in
+    let v = (report-verdict t (args .store .now) (args .key) (args .ero .now) (args .session) (args .pst) true _ _ _ _
+    (sym (h .0)) refl (c .before .before .before .before .before .target .ensures)
+    (c .before .before .before .before .body-size .ensures) (c .before .before .before .judge .ensures)
+    (c .before .before .report-rules .ensures)) in (
+      result-refused b _ _ (h .1)
+          (report-refused t (args .store .now) (args .key) (args .ero .now) (args .session) (args .pst) _ v
+          (c .if2 .taken)) (c .if2 .taken),
+      store-on b (args .store .now) (args .key) (args .ero .now) (args .session) (args .pst) _ (h .1)
+          (store-refused t (args .store .now) (args .key) (args .ero .now) (args .session) (args .pst) _ v
+          (c .if2 .taken)),
     )
 
 floor-after-requires : tie.Need-floor-after-requires
 floor-after-requires c κs =
     let before4 = c .before .before .before .before in
-    let before12 = before4 .before .before .before .before .before .before .before .before in
-    let args = before12 .before .before .before .before .before .before .before .before .args in
-    (passed (args .key) (before4 .before .judge .result) (before4 .before .before .body-size .result)
+    let before13 = before4 .before .before .before .before .before .before .before .before .before in
+    let args = before13 .before .before .before .before .before .before .before .before .args in
+    let g = passed (args .key) (before4 .before .judge .result) (before4 .before .before .body-size .result)
     (args .version .now) (before4 .before .before .before .target .result) _ (before4 .report-rules .ensures)
-    (c .before .before .if2 .left)) .place
+    (c .before .before .if2 .left) in
+    g .place
 
 add-next : tie.Need-add-next
 add-next c =
     let before12 = c .before .before .before .before .before .before .before .before .before .before .before .before in
-    let args = before12 .before .before .before .before .before .before .before .before .before .args in
-    let h = version-room
-    (tableOf (args .keys .now) (args .versions .now) (args .lengths .now) (args .version .now) (args .floor .now)) _ _
-    (before12 .before .is-board .ensures) (before12 .if1 .left) in
-    omega arith
+    let args = before12 .before .before .before .before .before .before .before .before .before .before .args in
+    let t = tableOf (args .keys .now) (args .versions .now) (args .lengths .now) (args .version .now)
+    (args .floor .now) in
+    let b = withOrder t (args .order .now) in
+    let h = record-is b _ _ (before12 .before .is-board .ensures) (before12 .if1 .left) in
+    let g = version-room t _ true (sym (h .0)) refl in omega arith
+
+move-last-requires : tie.Need-move-last-requires
+move-last-requires c κs =
+    let before11 = c .before .before .before .before .before .before .before .before .before .before .before in
+    let before18 = before11 .before .before .before .before .before .before .before in
+    let args = before18 .before .before .before .before .before .before .before .before .before .before .args in
+    let t = tableOf (args .keys .now) (args .versions .now) (args .lengths .now) (args .version .now)
+    (args .floor .now) in
+    let b = withOrder t (args .order .now) in
+    let h = record-is b _ _ (before18 .before .is-board .ensures) (before18 .if1 .left) in
+    let g = passed (args .key) (before11 .before .judge .result) (before11 .before .before .body-size .result)
+    (args .version .now) (before11 .before .before .before .target .result) _ (before11 .report-rules .ensures)
+    (c .before .before .before .before .before .before .before .before .before .if2 .left) in
+    (search needs, search needs, search needs, board-proper t _ (h .0), h .1, g .place)
 
 start-of-requires : tie.Need-start-of-requires
 start-of-requires c κs =
-    let before6 = c .before .before .before .before .before .before in
-    let before14 = before6 .before .before .before .before .before .before .before .before in
-    let args = before14 .before .before .before .before .before .before .before .before .args in
-    (passed (args .key) (before6 .before .judge .result) (before6 .before .before .body-size .result)
-    (args .version .now) (before6 .before .before .before .target .result) _ (before6 .report-rules .ensures)
-    (c .before .before .before .before .if2 .left)) .place
+    let before11 = c .before .before .before .before .before .before .before .before .before .before .before in
+    let before14 = before11 .before .before .before in
+    let before22 = before14 .before .before .before .before .before .before .before .before in
+    let args = before22 .before .before .before .before .before .before .before .before .args in
+    let g = passed (args .key) (before14 .judge .result) (before14 .before .body-size .result) (args .version .now)
+    (before14 .before .before .target .result) _ (before11 .before .before .report-rules .ensures)
+    (before11 .if2 .left) in
+    g .place
 
 sub-lay : tie.Need-sub-lay
 sub-lay c =
-    let before7 = c .before .before .before .before .before .before .before in
-    let before15 = before7 .before .before .before .before .before .before .before .before in
-    let args = before15 .before .before .before .before .before .before .before .before .args in
-    let h = body-there (args .ero .now) (args .session) (args .pst) _ (before7 .before .judge .ensures)
-    ((passed (args .key) (before7 .before .judge .result) (before7 .before .before .body-size .result)
-    (args .version .now) (before7 .before .before .before .target .result) _ (before7 .report-rules .ensures)
-    (c .before .before .before .before .before .if2 .left)) .route-taken) in
+    let before12 = c .before .before .before .before .before .before .before .before .before .before .before .before in
+    let before15 = before12 .before .before .before in
+    let before23 = before15 .before .before .before .before .before .before .before .before in
+    let args = before23 .before .before .before .before .before .before .before .before .args in
+    let g = passed (args .key) (before15 .judge .result) (before15 .before .body-size .result) (args .version .now)
+    (before15 .before .before .target .result) _ (before12 .before .before .report-rules .ensures)
+    (before12 .if2 .left) in
+    let z = body-there (args .ero .now) (args .session) (args .pst) _ (before15 .judge .ensures) (g .route-taken) in
     omega arith
 
 part-lay-start : tie.Need-part-lay-start
 part-lay-start c =
-    let before7 = c .before .before .before .before .before .before .before in
-    let before15 = before7 .before .before .before .before .before .before .before .before in
-    let args = before15 .before .before .before .before .before .before .before .before .args in
-    let h = body-there (args .ero .now) (args .session) (args .pst) _ (before7 .before .judge .ensures)
-    ((passed (args .key) (before7 .before .judge .result) (before7 .before .before .body-size .result)
-    (args .version .now) (before7 .before .before .before .target .result) _ (before7 .report-rules .ensures)
-    (c .before .before .before .before .before .if2 .left)) .route-taken) in
+    let before12 = c .before .before .before .before .before .before .before .before .before .before .before .before in
+    let before15 = before12 .before .before .before in
+    let before23 = before15 .before .before .before .before .before .before .before .before in
+    let args = before23 .before .before .before .before .before .before .before .before .args in
+    let g = passed (args .key) (before15 .judge .result) (before15 .before .body-size .result) (args .version .now)
+    (before15 .before .before .target .result) _ (before12 .before .before .report-rules .ensures)
+    (before12 .if2 .left) in
+    let z = body-there (args .ero .now) (args .session) (args .pst) _ (before15 .judge .ensures) (g .route-taken) in
     omega arith
 
 part-lay-end : tie.Need-part-lay-end
@@ -137,134 +148,121 @@ part-lay-end c = search needs
 
 lay-requires : tie.Need-lay-requires
 lay-requires c κs =
-    let before6 = c .before .before .before .before .before .before in
-    let before8 = before6 .before .before in
-    let before10 = before8 .before .before in
-    let before15 = before10 .before .before .before .before .before in
-    let args = before15 .before .before .before .before .before .before .before .before .before .args in
-    lay-fits (args .store .now) (args .ero .now) _ _ _ (before10 .body-size .ensures)
-    ((passed (args .key) (before8 .before .judge .result) (before10 .body-size .result) (args .version .now)
-    (before10 .before .target .result) _ (before8 .report-rules .ensures) (before6 .if2 .left)) .size)
-    (report-room
-    (tableOf (args .keys .now) (args .versions .now) (args .lengths .now) (args .version .now) (args .floor .now))
-    (args .store .now) (args .key) (args .ero .now) (args .session) (args .pst) _ _
-    (before15 .before .is-board .ensures) (before15 .if1 .left)
-    ((passed (args .key) (before8 .before .judge .result) (before10 .body-size .result) (args .version .now)
-    (before10 .before .target .result) _ (before8 .report-rules .ensures) (before6 .if2 .left)) .place))
-    (c .before .start-of .ensures)
+    let before13 = c .before .before .before .before .before .before .before .before .before .before .before .before .before in
+    let before15 = before13 .before .before in
+    let before22 = before15 .before .before .before .before .before .before .before in
+    let args = before22 .before .before .before .before .before .before .before .before .before .before .args in
+    let t = tableOf (args .keys .now) (args .versions .now) (args .lengths .now) (args .version .now)
+    (args .floor .now) in
+    let b = withOrder t (args .order .now) in
+    let h = record-is b _ _ (before22 .before .is-board .ensures) (before22 .if1 .left) in
+    let g = passed (args .key) (before15 .before .judge .result) (before15 .before .before .body-size .result)
+    (args .version .now) (before15 .before .before .before .target .result) _ (before15 .report-rules .ensures)
+    (before13 .if2 .left) in
+    lay-fits (args .store .now) (args .ero .now) _ _ _ (before15 .before .before .body-size .ensures) (g .size)
+    (report-room t (args .store .now) (args .key) (args .ero .now) (args .session) (args .pst) true _ (sym (h .0)) refl
+    (g .place)) (c .before .start-of .ensures)
 
 cast-keys : tie.Need-cast-keys
 cast-keys c =
-    let before11 = c .before .before .before .before .before .before .before .before .before .before .before in
-    let before19 = before11 .before .before .before .before .before .before .before .before in
-    let args = before19 .before .before .before .before .before .before .before .before .args in
-    let h = (passed (args .key) (before11 .before .judge .result) (before11 .before .before .body-size .result)
-    (args .version .now) (before11 .before .before .before .target .result) _ (before11 .report-rules .ensures)
-    (c .before .before .before .before .before .before .before .before .before .if2 .left)) in
-    omega (arith, h .key)
+    let before8 = c .before .before .before .before .before .before .before .before in
+    let before16 = before8 .before .before .before .before .before .before .before .before in
+    let before19 = before16 .before .before .before in
+    let before27 = before19 .before .before .before .before .before .before .before .before in
+    let args = before27 .before .before .before .before .before .before .before .before .args in
+    let g = passed (args .key) (before19 .judge .result) (before19 .before .body-size .result) (args .version .now)
+    (before19 .before .before .target .result) _ (before16 .before .before .report-rules .ensures)
+    (before16 .if2 .left) in
+    omega (arith, g .key)
 
 mul-keys : tie.Need-mul-keys
-mul-keys c =
-    let before11 = c .before .before .before .before .before .before .before .before .before .before .before in
-    let before19 = before11 .before .before .before .before .before .before .before .before in
-    let args = before19 .before .before .before .before .before .before .before .before .args in
-    let h = (passed (args .key) (before11 .before .judge .result) (before11 .before .before .body-size .result)
-    (args .version .now) (before11 .before .before .before .target .result) _ (before11 .report-rules .ensures)
-    (c .before .before .before .before .before .before .before .before .before .if2 .left)) in
-    omega (arith, h .place)
+mul-keys c = search needs
 
 element-write-keys : tie.Need-element-write-keys
 element-write-keys c =
-    let before11 = c .before .before .before .before .before .before .before .before .before .before .before in
-    let before19 = before11 .before .before .before .before .before .before .before .before in
-    let args = before19 .before .before .before .before .before .before .before .before .args in
-    let h = (passed (args .key) (before11 .before .judge .result) (before11 .before .before .body-size .result)
-    (args .version .now) (before11 .before .before .before .target .result) _ (before11 .report-rules .ensures)
-    (c .before .before .before .before .before .before .before .before .before .if2 .left)) in
-    omega (arith, h .place)
+    let before8 = c .before .before .before .before .before .before .before .before in
+    let before16 = before8 .before .before .before .before .before .before .before .before in
+    let before19 = before16 .before .before .before in
+    let before27 = before19 .before .before .before .before .before .before .before .before in
+    let args = before27 .before .before .before .before .before .before .before .before .args in
+    let g = passed (args .key) (before19 .judge .result) (before19 .before .body-size .result) (args .version .now)
+    (before19 .before .before .target .result) _ (before16 .before .before .report-rules .ensures)
+    (before16 .if2 .left) in
+    omega (arith, g .place)
 
 mul-versions : tie.Need-mul-versions
-mul-versions c =
-    let before11 = c .before .before .before .before .before .before .before .before .before .before .before in
-    let before19 = before11 .before .before .before .before .before .before .before .before in
-    let args = before19 .before .before .before .before .before .before .before .before .args in
-    let h = (passed (args .key) (before11 .before .judge .result) (before11 .before .before .body-size .result)
-    (args .version .now) (before11 .before .before .before .target .result) _ (before11 .report-rules .ensures)
-    (c .before .before .before .before .before .before .before .before .before .if2 .left)) in
-    omega (arith, h .place)
+mul-versions c = search needs
 
 element-write-versions : tie.Need-element-write-versions
 element-write-versions c =
-    let before11 = c .before .before .before .before .before .before .before .before .before .before .before in
-    let before19 = before11 .before .before .before .before .before .before .before .before in
-    let args = before19 .before .before .before .before .before .before .before .before .args in
-    let h = (passed (args .key) (before11 .before .judge .result) (before11 .before .before .body-size .result)
-    (args .version .now) (before11 .before .before .before .target .result) _ (before11 .report-rules .ensures)
-    (c .before .before .before .before .before .before .before .before .before .if2 .left)) in
-    omega (arith, h .place)
+    let before8 = c .before .before .before .before .before .before .before .before in
+    let before16 = before8 .before .before .before .before .before .before .before .before in
+    let before19 = before16 .before .before .before in
+    let before27 = before19 .before .before .before .before .before .before .before .before in
+    let args = before27 .before .before .before .before .before .before .before .before .args in
+    let g = passed (args .key) (before19 .judge .result) (before19 .before .body-size .result) (args .version .now)
+    (before19 .before .before .target .result) _ (before16 .before .before .report-rules .ensures)
+    (before16 .if2 .left) in
+    omega (arith, g .place)
 
 cast-lengths : tie.Need-cast-lengths
 cast-lengths c =
-    let before11 = c .before .before .before .before .before .before .before .before .before .before .before in
-    let before19 = before11 .before .before .before .before .before .before .before .before in
-    let args = before19 .before .before .before .before .before .before .before .before .args in
-    let h = (passed (args .key) (before11 .before .judge .result) (before11 .before .before .body-size .result)
-    (args .version .now) (before11 .before .before .before .target .result) _ (before11 .report-rules .ensures)
-    (c .before .before .before .before .before .before .before .before .before .if2 .left)) in
-    omega (arith, h .size)
+    let before8 = c .before .before .before .before .before .before .before .before in
+    let before16 = before8 .before .before .before .before .before .before .before .before in
+    let before19 = before16 .before .before .before in
+    let before27 = before19 .before .before .before .before .before .before .before .before in
+    let args = before27 .before .before .before .before .before .before .before .before .args in
+    let g = passed (args .key) (before19 .judge .result) (before19 .before .body-size .result) (args .version .now)
+    (before19 .before .before .target .result) _ (before16 .before .before .report-rules .ensures)
+    (before16 .if2 .left) in
+    omega (arith, g .size)
 
 mul-lengths : tie.Need-mul-lengths
-mul-lengths c =
-    let before11 = c .before .before .before .before .before .before .before .before .before .before .before in
-    let before19 = before11 .before .before .before .before .before .before .before .before in
-    let args = before19 .before .before .before .before .before .before .before .before .args in
-    let h = (passed (args .key) (before11 .before .judge .result) (before11 .before .before .body-size .result)
-    (args .version .now) (before11 .before .before .before .target .result) _ (before11 .report-rules .ensures)
-    (c .before .before .before .before .before .before .before .before .before .if2 .left)) in
-    omega (arith, h .place)
+mul-lengths c = search needs
 
 element-write-lengths : tie.Need-element-write-lengths
 element-write-lengths c =
-    let before11 = c .before .before .before .before .before .before .before .before .before .before .before in
-    let before19 = before11 .before .before .before .before .before .before .before .before in
-    let args = before19 .before .before .before .before .before .before .before .before .args in
-    let h = (passed (args .key) (before11 .before .judge .result) (before11 .before .before .body-size .result)
-    (args .version .now) (before11 .before .before .before .target .result) _ (before11 .report-rules .ensures)
-    (c .before .before .before .before .before .before .before .before .before .if2 .left)) in
-    omega (arith, h .place)
+    let before8 = c .before .before .before .before .before .before .before .before in
+    let before16 = before8 .before .before .before .before .before .before .before .before in
+    let before19 = before16 .before .before .before in
+    let before27 = before19 .before .before .before .before .before .before .before .before in
+    let args = before27 .before .before .before .before .before .before .before .before .args in
+    let g = passed (args .key) (before19 .judge .result) (before19 .before .body-size .result) (args .version .now)
+    (before19 .before .before .target .result) _ (before16 .before .before .report-rules .ensures)
+    (before16 .if2 .left) in
+    omega (arith, g .place)
 
 same-length : tie.Need-same-length
 same-length c = search needs
 
 returns-3 : tie.Need-returns-3
 returns-3 c =
-    let before9 = c .before .before .before .before .before .before .before .before .before in
-    let before11 = before9 .before .before in
-    let target-ensures = before11 .before .before .before .target .ensures in
-    let before18 = before11 .before .before .before .before .before .before .before in
-    let args = before18 .before .before .before .before .before .before .before .before .before .args in (
-      report-accepted
-          (tableOf (args .keys .now) (args .versions .now) (args .lengths .now) (args .version .now) (args .floor .now))
-          (args .store .now) (args .key) (args .ero .now) (args .session) (args .pst) _ _ _ _
-          (report-verdict
-          (tableOf (args .keys .now) (args .versions .now) (args .lengths .now) (args .version .now) (args .floor .now))
-          (args .store .now) (args .key) (args .ero .now) (args .session) (args .pst) _ _ _ _ _
-          (before18 .before .is-board .ensures) (before18 .if1 .left) target-ensures
-          (before11 .before .before .body-size .ensures) (before11 .before .judge .ensures)
-          (before11 .report-rules .ensures)) (before9 .if2 .left) target-ensures
-          (before11 .before .before .body-size .ensures)
-          (c .before .before .before .before .before .before .floor-after .ensures (args .lengths .now)
-          (args .version .now)),
-      store-accepted
-          (tableOf (args .keys .now) (args .versions .now) (args .lengths .now) (args .version .now) (args .floor .now))
-          (args .store .now) (args .key) (args .ero .now) (args .session) (args .pst) _ _ _ _
-          (report-verdict
-          (tableOf (args .keys .now) (args .versions .now) (args .lengths .now) (args .version .now) (args .floor .now))
-          (args .store .now) (args .key) (args .ero .now) (args .session) (args .pst) _ _ _ _ _
-          (before18 .before .is-board .ensures) (before18 .if1 .left) target-ensures
-          (before11 .before .before .body-size .ensures) (before11 .before .judge .ensures)
-          (before11 .report-rules .ensures)) (before9 .if2 .left) target-ensures
-          (c .before .before .before .before .start-of .ensures) (c .before .before .lay .ensures),
+    let before13 = c .before .before .before .before .before .before .before .before .before .before .before .before .before in
+    let before16 = before13 .before .before .before in
+    let before20 = before16 .before .before .before .before in
+    let before25 = before20 .before .before .before .before .before in
+    let args = before25 .before .before .before .before .before .before .before .before .before .before .args in
+    let t = tableOf (args .keys .now) (args .versions .now) (args .lengths .now) (args .version .now)
+    (args .floor .now) in
+    let b = withOrder t (args .order .now) in
+    let h = record-is b _ _ (before25 .before .is-board .ensures) (before25 .if1 .left) in
+    let g = passed (args .key) (before16 .before .before .before .judge .result) (before20 .body-size .result)
+    (args .version .now) (before20 .before .target .result) _ (before16 .before .before .report-rules .ensures)
+    (before16 .if2 .left) in
+    let v = (report-verdict t (args .store .now) (args .key) (args .ero .now) (args .session) (args .pst) true _ _ _ _
+    (sym (h .0)) refl (before20 .before .target .ensures) (before20 .body-size .ensures)
+    (before16 .before .before .before .judge .ensures) (before16 .before .before .report-rules .ensures)) in (
+      result-accepted b _ _ _ _ (h .1)
+          (report-accepted t (args .store .now) (args .key) (args .ero .now) (args .session) (args .pst) _ _ _ _ v
+          (before16 .if2 .left) (before20 .before .target .ensures) (before20 .body-size .ensures)
+          (before13 .floor-after .ensures (args .lengths .now) (args .version .now))) (before16 .if2 .left)
+          (c .before .before .before .before .before .before .move-last .ensures
+          (record { key = args .key; version = args .version .now + 1; length = before20 .body-size .result })
+          (before13 .floor-after .result) (λ e. omega (arith, g .low)) (omega arith)),
+      store-on b (args .store .now) (args .key) (args .ero .now) (args .session) (args .pst) _ (h .1)
+          (store-accepted t (args .store .now) (args .key) (args .ero .now) (args .session) (args .pst) _ _ _ _ v
+          (before16 .if2 .left) (before20 .before .target .ensures)
+          (c .before .before .before .before .start-of .ensures) (c .before .before .lay .ensures)),
     )
 
 pub report-spec : {M : Type 1} → statement M
@@ -281,6 +279,7 @@ report-spec =
     returns-2
     floor-after-requires
     add-next
+    move-last-requires
     start-of-requires
     sub-lay
     part-lay-start

@@ -1,12 +1,13 @@
 use Rattle.octets.proofs.Tests.{tests}
 use Rattle.board_rules.specs.Rules.{isBoard}
+use Rattle.board_rules.specs.OnRecord.{isRecord}
 use Rattle.board_rules.proofs.Shared.{board-long}
 use borrow.Author.Needs.{needs}
 use Rattle.board_rules.proofs.whole.is_board.Statement.{statement}
 use Rattle.board_rules.proofs.whole.is_board.Tie as tie
 
 returns : tie.Need-returns
-unfolding isBoard
+unfolding isRecord isBoard
 returns c = search tests
 
 is-proper-requires : tie.Need-is-proper-requires

@@ -55,7 +55,10 @@ returns-17 : tie.Need-returns-17
 returns-17 c = search needs
 
 returns-18 : tie.Need-returns-18
-returns-18 c = no-place (c .before .args .place) (c .match .rest)
+returns-18 c = search needs
+
+returns-19 : tie.Need-returns-19
+returns-19 c = no-place (c .before .args .place) (c .match .rest)
 
 pub verb-at-spec : {M : Type 1} → statement M
 verb-at-spec =
@@ -78,4 +81,5 @@ verb-at-spec =
     returns-15
     returns-16
     returns-17
-    returns-18)
+    returns-18
+    returns-19)

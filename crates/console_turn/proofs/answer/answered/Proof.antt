@@ -217,6 +217,15 @@ numbers-requires c κs = search needs
 ended-requires-13 : tie.Need-ended-requires-13
 ended-requires-13 c κs = tt
 
+enum-told-20 : tie.Need-enum-told-20
+enum-told-20 c = search needs
+
+chain-requires : tie.Need-chain-requires
+chain-requires c κs = search needs
+
+ended-requires-14 : tie.Need-ended-requires-14
+ended-requires-14 c κs = tt
+
 returns : tie.Need-returns
 returns c =
     let before8 = c .before .before .before .before .before .before .before .before in
@@ -460,6 +469,15 @@ returns-19 c =
     does v.Board (before12 .parse .ensures) (c .before .before .before .before .before .enum-told19 .given .1)
     (c .ended13 .ensures) (c .before .before .before .numbers .ensures) refl refl
 
+same-length-36 : tie.Need-same-length-36
+same-length-36 c = search needs
+
+returns-20 : tie.Need-returns-20
+returns-20 c =
+    let before12 = c .before .before .before .before .before .before .before .before .before .before .before .before in
+    does v.Chain (before12 .parse .ensures) (c .before .before .before .before .before .enum-told20 .given .1)
+    (c .ended14 .ensures) (c .before .before .before .chain .ensures) refl refl
+
 pub answered-spec : {M : Type 1} → statement M
 answered-spec =
     tie.close
@@ -526,6 +544,9 @@ answered-spec =
     enum-told-19
     numbers-requires
     ended-requires-13
+    enum-told-20
+    chain-requires
+    ended-requires-14
     returns
     same-length
     returns-2
@@ -579,4 +600,6 @@ answered-spec =
     same-length-34
     returns-18
     same-length-35
-    returns-19)
+    returns-19
+    same-length-36
+    returns-20)

@@ -1,0 +1,351 @@
+-- The pass. So far the numbers of the order name used places, each sound but for its version's bounds, of rising version and distinct keys (`Along`). A number that
+-- breaks this shows that the record is not proper, by what a proper table and its chain have (`refuted`). Where the pass ends, the places named and the empty ones
+-- are all there are (`Covered`), and then table and order are sound. Assumes nothing.
+use Prim.Native.Nat.{ℕ, zero, suc, _+_, _-_, _<_, _≤_, _%_}
+use native.Mathlib.Omega.{arith}
+use mathlib.Core.Path.{_≡_, refl, sym, ap, _∙_, subst}
+use mathlib.Core.Bool.{Bool, true, false, not, cond, _&&_, _||_}
+use mathlib.Core.List.{List}
+use mathlib.Core.Logic.{_⊎_, inl, inr, ⊎-elim}
+use lib.ListN.{getD}
+use lib.Dec.{eqb, ltb, leb}
+use borrow.Author.Tests.{eq-eqb, ne-eqb, eqb-true, eqb-false, lt-ltb, le-ltb, ltb-true, le-leb, lt-leb, leb-true, not-true, not-false}
+use Rattle.objects.specs.Objects.{unit}
+use Rattle.board_record.specs.Sizes.{places, room, keyMost, versionMost, bodyLeast}
+use Rattle.board_record.specs.Lists.{row, countBelow}
+use Rattle.board_record.specs.Table.{Table, Entry, keyAt, versionAt, lengthAt, entryAt, Used, usedB}
+use Rattle.board_record.specs.Proper.{Proper, allBelow, freshB, newB, properB}
+use Rattle.board_record.specs.Order.{named, placeOn, OnRow, Chained, inOrder}
+use Rattle.octets.proofs.Said.{both-true}
+use Rattle.board_record.proofs.Logic.{true≢false, same?, from?}
+use Rattle.board_record.proofs.Lists.{count-same, count-full, count-most, count-less, count-equal, count-not, Hit, hits, hits-where, count-hits}
+use Rattle.board_record.proofs.All.{all-at, all-of, all-fails}
+use Rattle.board_record.proofs.Search.{used-is, is-used}
+use Rattle.board_record.proofs.Proper.{Sound, proper-sound, sound-proper, proper-is, is-proper}
+use Rattle.board_order.proofs.Names.{named-none}
+use Rattle.board_order.proofs.Chains.{proper-apart, once, chain-apart, chained-in, in-chained, chained-count, count-chained}
+use Rattle.board_proper.specs.Chain.{along}
+use Rattle.board_proper.specs.Places.{usedOk, emptyB, clearB}
+use Rattle.board_proper.proofs.Laws.{along-at}
+use Rattle.board_proper.proofs.Rows.{Risen, risen-none, risen-more, risen-once}
+
+-- ---- a used place by itself
+pub record Fit (e : Entry) (floor : ℕ) : Type 0 where
+  pub used : e .key ≡ 0 → ⊥
+  pub key : e .key ≤ keyMost
+  pub mark : e .length ≡ 0 → floor < e .version
+  pub least : (e .length ≡ 0 → ⊥) → bodyLeast ≤ e .length
+  pub most : e .length ≤ room
+  pub four : e .length % unit ≡ 0
+
+pub fit : (e : Entry) (floor : ℕ) → usedOk e floor ≡ true → Fit e floor
+unfolding usedOk
+fit e floor t = go (eqb (e .length) 0) refl (p .1)
+  where
+    p : (not (eqb (e .key) 0) && leb (e .key) keyMost ≡ true)
+        × (cond (eqb (e .length) 0) (ltb floor (e .version)) (eqb (e .length % unit) 0 && leb bodyLeast (e .length) && leb (e .length) room) ≡ true)
+    p = both-true (not (eqb (e .key) 0) && leb (e .key) keyMost) _ t
+
+    q : (not (eqb (e .key) 0) ≡ true) × (leb (e .key) keyMost ≡ true)
+    q = both-true (not (eqb (e .key) 0)) (leb (e .key) keyMost) (p .0)
+
+    go : (x : Bool) → eqb (e .length) 0 ≡ x
+        → cond x (ltb floor (e .version)) (eqb (e .length % unit) 0 && leb bodyLeast (e .length) && leb (e .length) room) ≡ true → Fit e floor
+    go true z h =
+        let n = eqb-true (e .length) 0 z in
+        record {
+          used = eqb-false (e .key) 0 (not-true (eqb (e .key) 0) (q .0));
+          key = leb-true (e .key) keyMost (q .1);
+          mark = λ y. ltb-true floor (e .version) h;
+          least = λ y. absurd (y n);
+          most = omega arith;
+          four = omega arith;
+        }
+    go false z h =
+        let s = both-true _ _ h in
+        let r = both-true _ _ (s .0) in
+        record {
+          used = eqb-false (e .key) 0 (not-true (eqb (e .key) 0) (q .0));
+          key = leb-true (e .key) keyMost (q .1);
+          mark = λ y. absurd (eqb-false (e .length) 0 z y);
+          least = λ y. leb-true bodyLeast (e .length) (r .1);
+          most = leb-true (e .length) room (s .1);
+          four = eqb-true (e .length % unit) 0 (r .0);
+        }
+
+is-fit : (e : Entry) (top floor : ℕ) → Sound e top floor → (e .key ≡ 0 → ⊥) → usedOk e floor ≡ true
+unfolding usedOk
+is-fit e top floor s u = rw (ne-eqb (e .key) 0 u, le-leb (e .key) keyMost (s .key)) (go (eqb (e .length) 0) refl)
+  where
+    go : (x : Bool) → eqb (e .length) 0 ≡ x → cond x (ltb floor (e .version)) (eqb (e .length % unit) 0 && leb bodyLeast (e .length) && leb (e .length) room) ≡ true
+    go true z = lt-ltb floor (e .version) (s .mark u (eqb-true (e .length) 0 z))
+    go false z =
+        rw (eq-eqb (e .length % unit) 0 (s .four), le-leb bodyLeast (e .length) (s .least (eqb-false (e .length) 0 z)), le-leb (e .length) room (s .most))
+
+fit-sound : (e : Entry) (top floor : ℕ) → Fit e floor → 1 ≤ e .version → e .version ≤ top → Sound e top floor
+fit-sound e top floor f l h =
+    record {
+      none = λ y. absurd (f .used y);
+      key = f .key;
+      low = λ y. l;
+      high = h;
+      mark = λ y z. f .mark z;
+      least = f .least;
+      most = f .most;
+      four = f .four;
+    }
+
+-- ---- the pass along the order of a record
+module _ (b : Table) (order : List ℕ) where
+  pub record Along (i last : ℕ) : Type 0 where
+    pub risen : Risen (b .versions) order i last
+    pub fits : (j : ℕ) → j < i → Fit (entryAt b (placeOn order j)) (b .floor)
+
+  pub along-none : Along 0 0
+  along-none = record { risen = risen-none (b .versions) order; fits = λ j l. absurd (omega arith) }
+
+  pub along-more : (i last x v : ℕ) (r : Bool) → Along i last → x ≡ placeOn order i → x < places → v ≡ versionAt b x → last < v
+      → r ≡ usedOk (entryAt b x) (b .floor) → not r ≡ false
+      → Along (i + 1) v
+  along-more i last x v r a e l f h q n =
+      record {
+        risen = risen-more (b .versions) order i last x v (a .risen) e l f h;
+        fits = λ j k.
+            ⊎-elim (λ z. subst (λ (p : ℕ). Fit (entryAt b p) (b .floor)) (e ∙ ap (placeOn order) (sym z)) (fit (entryAt b x) (b .floor) (sym q ∙ not-false r n)))
+            (λ d. a .fits j (omega (arith, d))) (same? j i);
+      }
+
+  -- what stops the pass
+  refuted : (Proper b → Chained b order → ⊥) → false ≡ (properB b && inOrder b order)
+  refuted f = go (properB b && inOrder b order) refl
+    where
+      go : (t : Bool) → (properB b && inOrder b order) ≡ t → false ≡ (properB b && inOrder b order)
+      go true e =
+          let t = both-true (properB b) (inOrder b order) e in
+          let p = proper-is b (t .0) in
+          absurd (f p (in-chained b order (proper-apart b p) (t .1)))
+      go false e = sym e
+
+  pub stop-floor : b .version < b .floor → false ≡ (properB b && inOrder b order)
+  stop-floor l = refuted (λ p x. omega (arith, p .floor-in))
+
+  pub stop-version : versionMost < b .version → false ≡ (properB b && inOrder b order)
+  stop-version l = refuted (λ p x. omega (arith, p .version-in))
+
+  pub stop-number : (i n x : ℕ) → i < places → n ≡ getD order i 0 → (n ≡ 0 → ⊥) → x ≡ named n → places ≤ x → false ≡ (properB b && inOrder b order)
+  stop-number i n x l e d f h = refuted (λ p c. d (e ∙ c .rest i l (omega (arith, ap named e))))
+
+  pub stop-rising : (i last x v : ℕ) → i < places → Along i last → x ≡ placeOn order i → x < places → v ≡ versionAt b x → v ≤ last → false ≡ (properB b && inOrder b order)
+  stop-rising zero last x v l a e h f g =
+      refuted (λ p c. omega (arith, a .risen .first refl, p .version-least (placeOn order 0) (omega arith) (c .used 0 l (omega arith)), ap (versionAt b) e))
+  stop-rising (suc j) last x v l a e h f g =
+      refuted (λ p c. omega (arith, a .risen .is j refl, c .rises j (suc j) (omega arith) l (omega arith) .1, ap (versionAt b) e))
+
+  pub stop-place : (i x : ℕ) (r : Bool) → i < places → x ≡ placeOn order i → x < places → r ≡ usedOk (entryAt b x) (b .floor) → not r ≡ true → false ≡ (properB b && inOrder b order)
+  stop-place i x r l e h f n =
+      refuted (λ p c. true≢false (sym (is-fit (entryAt b x) (b .version) (b .floor) (proper-sound b p x h) (subst (Used b) (sym e) (c .used i l (omega arith)))) ∙ sym f ∙ not-true r n))
+
+  -- the key of a number of the order
+  pub key-along : (i x : ℕ) → i < places → x ≡ placeOn order i → keyAt b x ≡ getD (along (b .keys) order) i 0
+  key-along i x l e = ap (keyAt b) e ∙ sym (along-at (b .keys) order i l)
+
+  pub used-along : (i x : ℕ) (r : Bool) → i < places → x ≡ placeOn order i → r ≡ usedOk (entryAt b x) (b .floor) → not r ≡ false → getD (along (b .keys) order) i 0 ≡ 0 → ⊥
+  used-along i x r l e f n z = fit (entryAt b x) (b .floor) (sym f ∙ not-false r n) .used (key-along i x l e ∙ z)
+
+  pub stop-key : (i last x : ℕ) (r : Bool) → i < places → Along i last → x ≡ placeOn order i → x < places → r ≡ freshB (along (b .keys) order) i (keyAt b x) → not r ≡ true
+      → false ≡ (properB b && inOrder b order)
+  unfolding freshB
+  stop-key i last x r l a e h f n =
+      refuted (λ p c. true≢false (sym (all-new p c) ∙ sym f ∙ not-true r n))
+    where
+      all-new : Proper b → Chained b order → allBelow (λ j. not (eqb (getD (along (b .keys) order) j 0) (keyAt b x))) i ≡ true
+      all-new p c =
+          all-of (λ j. not (eqb (getD (along (b .keys) order) j 0) (keyAt b x))) i
+          (λ j k. rw (
+            along-at (b .keys) order j (omega arith),
+            ne-eqb (keyAt b (placeOn order j)) (keyAt b x)
+                (λ z. let g = a .risen .low j k in
+                let y = p .keys-distinct (placeOn order j) x g h (a .fits j k .used) z in
+                omega (arith, once b order c j i (omega arith) l g (y ∙ e))),
+          ))
+
+  pub stop-top : (i last : ℕ) → i ≤ places → Along i last → b .version < last → false ≡ (properB b && inOrder b order)
+  stop-top zero last m a l = absurd (omega (arith, a .risen .first refl))
+  stop-top (suc j) last m a l =
+      refuted (λ p c. let g = a .risen .low j (omega arith) in omega (arith, a .risen .is j refl, p .version-most (placeOn order j) g (a .fits j (omega arith) .used)))
+
+  -- ---- where the order ends before number i of the row
+  abbrev none? : ℕ → Bool
+  none? p = emptyB (b .keys) (b .versions) (b .lengths) p
+
+  none-is : (p : ℕ) → none? p ≡ true → (keyAt b p ≡ 0) × (versionAt b p ≡ 0) × (lengthAt b p ≡ 0)
+  unfolding emptyB
+  none-is p e =
+      let t = both-true (eqb (keyAt b p) 0 && eqb (versionAt b p) 0) (eqb (lengthAt b p) 0) e in
+      let u = both-true (eqb (keyAt b p) 0) (eqb (versionAt b p) 0) (t .0) in
+      (eqb-true (keyAt b p) 0 (u .0), eqb-true (versionAt b p) 0 (u .1), eqb-true (lengthAt b p) 0 (t .1))
+
+  module _ (i last : ℕ) (l : i ≤ places) (a : Along i last) where
+    hit-used : (p : ℕ) → hits (λ j. true) (placeOn order) i p ≡ true → Used b p
+    hit-used p e = let h = hits-where (λ j. true) (placeOn order) i p e in subst (Used b) (h .is) (a .fits (h .at) (h .here) .used)
+
+    all-hit : countBelow (hits (λ j. true) (placeOn order) i) places ≡ i
+    all-hit =
+        count-hits (λ j. true) (placeOn order) i 128 (λ j k e. a .risen .low j k) (λ j k m n e f. risen-once (b .versions) order i last (a .risen) j k m n)
+        ∙ count-full (λ j. true) i (λ j k. refl)
+
+    -- as many places are used as the order names, where it is a chain that ends at number i
+    named-used : Chained b order → getD order i 0 ≡ 0 → i < places → countBelow (usedB b) places ≡ i
+    named-used c z m = ⊎-elim (λ k. least k) (λ k. absurd (omega (arith, chained-count b order c i k, named-none (getD order i 0) z))) (from? (countBelow (usedB b) places) i)
+      where
+        least : countBelow (usedB b) places ≤ i → countBelow (usedB b) places ≡ i
+        least k =
+            ⊎-elim (λ e. e) (λ d. absurd (omega (arith, count-chained b order c (i - 1) (omega arith) (a .risen .low (i - 1) (omega (arith, d))), d)))
+            (same? (countBelow (usedB b) places) i)
+
+    pub stop-count : getD order i 0 ≡ 0 → i < places → (n : ℕ) → n ≡ countBelow none? places → (n ≡ places - i → ⊥) → false ≡ (properB b && inOrder b order)
+    unfolding emptyB usedB
+    stop-count z m n e d =
+        refuted (λ p c. d (omega (arith, e, count-same (λ q. not (usedB b q)) none? 128 (same p), count-not (usedB b) 128, named-used c z m)))
+      where
+        same : Proper b → (q : ℕ) → q < 128 → none? q ≡ not (not (eqb (keyAt b q) 0))
+        same p q k = ⊎-elim
+            (λ y. rw (eq-eqb (keyAt b q) 0 y, eq-eqb (versionAt b q) 0 (p .empty-version q k y), eq-eqb (lengthAt b q) 0 (p .empty-length q k y)))
+            (λ y. rw (ne-eqb (keyAt b q) 0 y)) (same? (keyAt b q) 0)
+
+    clear-at : clearB order i ≡ true → (j : ℕ) → i ≤ j → j < places → getD order j 0 ≡ 0
+    unfolding clearB
+    clear-at e j h k =
+        let t : eqb (getD order j 0) 0 ≡ true = rw (le-ltb j i h) at (all-at (λ m. ltb m i || eqb (getD order m 0) 0) 128 e j k) in
+        eqb-true (getD order j 0) 0 t
+
+    chain-clear : Chained b order → getD order i 0 ≡ 0 → clearB order i ≡ true
+    unfolding clearB
+    chain-clear c z =
+        all-of (λ j. ltb j i || eqb (getD order j 0) 0) 128
+        (λ j k. ⊎-elim (λ y. rw (le-ltb j i y, eq-eqb (getD order j 0) 0 (zero-at j y k))) (λ y. rw (lt-ltb j i y)) (from? i j))
+      where
+        zero-at : (j : ℕ) → i ≤ j → j < places → getD order j 0 ≡ 0
+        zero-at j y k =
+            ⊎-elim (λ h. c .rest j k h)
+            (λ h. absurd (⊎-elim (λ w. omega (arith, named-none (getD order i 0) z, ap (placeOn order) w))
+            (λ d. omega (arith, c .rises i j (omega (arith, d)) k h .0, named-none (getD order i 0) z)) (same? i j))) (from? places (placeOn order j))
+
+    -- ---- and where it ends well
+    data Seen (p : ℕ) : Type 0 where
+      on : (j : ℕ) → j < i → placeOn order j ≡ p → Seen p
+      off : keyAt b p ≡ 0 → versionAt b p ≡ 0 → lengthAt b p ≡ 0 → Seen p
+
+    module _ (seen : (p : ℕ) → p < places → Seen p) (rest : (j : ℕ) → i ≤ j → j < places → getD order j 0 ≡ 0)
+        (new : allBelow (newB (along (b .keys) order)) i ≡ true) (low : b .floor ≤ b .version) (high : b .version ≤ versionMost) (top : last ≤ b .version) where
+      sound-at : (p : ℕ) → p < places → Sound (entryAt b p) (b .version) (b .floor)
+      sound-at p k = go (seen p k)
+        where
+          go : Seen p → Sound (entryAt b p) (b .version) (b .floor)
+          go (on j m e) =
+              subst (λ (q : ℕ). Sound (entryAt b q) (b .version) (b .floor)) e
+              (fit-sound (entryAt b (placeOn order j)) (b .version) (b .floor) (a .fits j m) (a .risen .above j m) (omega (arith, a .risen .most j m)))
+          go (off x y z) =
+              record {
+                none = λ u. (y, z);
+                key = omega arith;
+                low = λ u. absurd (u x);
+                high = omega arith;
+                mark = λ u w. absurd (u x);
+                least = λ u. absurd (u z);
+                most = omega arith;
+                four = omega arith;
+              }
+
+      -- a used place is named
+      where-on : (p : ℕ) → p < places → Used b p → Hit (λ j. true) (placeOn order) i p
+      where-on p k u = go (seen p k)
+        where
+          go : Seen p → Hit (λ j. true) (placeOn order) i p
+          go (on j m e) = record { at = j; here = m; passes = refl; is = e }
+          go (off x y z) = absurd (u x)
+
+      -- keys along the order are distinct
+      keys-apart : (j k : ℕ) → j < k → k < i → keyAt b (placeOn order j) ≡ keyAt b (placeOn order k) → ⊥
+      unfolding newB freshB
+      keys-apart j k m n e =
+          let key : getD (along (b .keys) order) k 0 ≡ keyAt b (placeOn order k) = along-at (b .keys) order k (omega arith) in
+          let t = all-at (newB (along (b .keys) order)) i new k n in
+          let f : allBelow (λ q. not (eqb (getD (along (b .keys) order) q 0) (getD (along (b .keys) order) k 0))) k ≡ true =
+          rw (newB, ne-eqb (getD (along (b .keys) order) k 0) 0 (λ z. a .fits k n .used (sym key ∙ z))) at t in
+          eqb-false (getD (along (b .keys) order) j 0) (getD (along (b .keys) order) k 0)
+          (not-true _ (all-at (λ q. not (eqb (getD (along (b .keys) order) q 0) (getD (along (b .keys) order) k 0))) k f j m))
+          (along-at (b .keys) order j (omega arith) ∙ e ∙ sym key)
+
+      keys-distinct : (p q : ℕ) → p < places → q < places → Used b p → keyAt b p ≡ keyAt b q → p ≡ q
+      keys-distinct p q k m u e =
+          let x = where-on p k u in
+          let y = where-on q m (λ z. u (e ∙ z)) in
+          let f : keyAt b (placeOn order (x .at)) ≡ keyAt b (placeOn order (y .at)) = ap (keyAt b) (x .is) ∙ e ∙ sym (ap (keyAt b) (y .is)) in
+          ⊎-elim (λ g. ⊎-elim (λ z. sym (x .is) ∙ ap (placeOn order) z ∙ y .is) (λ d. absurd (keys-apart (x .at) (y .at) (omega (arith, d)) (y .here) f)) (same? (x .at) (y .at)))
+          (λ g. absurd (keys-apart (y .at) (x .at) g (x .here) (sym f))) (from? (x .at) (y .at))
+
+      chained : Chained b order
+      chained =
+          record {
+            used = λ j k h. a .fits j (inside j k h) .used;
+            all = λ p k u. let h = where-on p k u in record { at = h .at; here = omega (arith, h .here); is = h .is };
+            rises = λ j k m n h. let g = inside k n h in (a .risen .low j (omega arith), a .risen .up j k m g);
+            rest = λ j k h. ⊎-elim (λ m. rest j m k) (λ m. absurd (omega (arith, a .risen .low j m))) (from? i j);
+          }
+        where
+          inside : (j : ℕ) → j < places → placeOn order j < places → j < i
+          inside j k h = ⊎-elim (λ m. absurd (omega (arith, named-none (getD order j 0) (rest j m k)))) (λ m. m) (from? i j)
+
+      well : true ≡ (properB b && inOrder b order)
+      well = rw (is-proper b proper, chained-in b order chained)
+        where
+          proper : Proper b
+          proper =
+              sound-proper b low high sound-at keys-distinct
+              (λ p q k m u e. chain-apart b order chained p q k m u
+              (λ z. omega (arith, sound-at p k .low u, sound-at q m .none z .0, e)) e)
+
+    end-full : places ≤ i → allBelow (newB (along (b .keys) order)) i ≡ true → b .floor ≤ b .version → b .version ≤ versionMost → last ≤ b .version
+        → true ≡ (properB b && inOrder b order)
+    end-full h new low high top = well seen (λ j m k. absurd (omega arith)) new low high top
+      where
+        seen : (p : ℕ) → p < places → Seen p
+        seen p k = go (hits (λ j. true) (placeOn order) i p) refl
+          where
+            go : (t : Bool) → hits (λ j. true) (placeOn order) i p ≡ t → Seen p
+            go true e = let y = hits-where (λ j. true) (placeOn order) i p e in on (y .at) (y .here) (y .is)
+            go false e = absurd (omega (arith, count-less (hits (λ j. true) (placeOn order) i) 128 p k e, all-hit))
+
+    pub end-short : (n : ℕ) (r : Bool) → n ≡ countBelow none? places → n ≡ places - i → r ≡ clearB order i → allBelow (newB (along (b .keys) order)) i ≡ true
+        → b .floor ≤ b .version → b .version ≤ versionMost → last ≤ b .version → i < places → getD order i 0 ≡ 0
+        → r ≡ (properB b && inOrder b order)
+    end-short n r e f q new low high top m z = go (clearB order i) refl
+      where
+        seen : (p : ℕ) → p < places → Seen p
+        seen p k = pick (none? p) refl
+          where
+            shown : countBelow (λ x. not (none? x)) 128 ≤ countBelow (hits (λ j. true) (placeOn order) i) 128
+            shown = omega (arith, count-not none? 128, all-hit, e, f)
+
+            hit-shown : (x : ℕ) → x < 128 → hits (λ j. true) (placeOn order) i x ≡ true → not (none? x) ≡ true
+            hit-shown x u t = not-none (none? x) refl
+              where
+                not-none : (y : Bool) → none? x ≡ y → not y ≡ true
+                not-none true w = absurd (hit-used x t (none-is x w .0))
+                not-none false w = refl
+
+            pick : (y : Bool) → none? p ≡ y → Seen p
+            pick true w = let t = none-is p w in off (t .0) (t .1) (t .2)
+            pick false w =
+                let y = hits-where (λ j. true) (placeOn order) i p
+                (count-equal (hits (λ j. true) (placeOn order) i) (λ x. not (none? x)) 128 hit-shown shown p k (rw w)) in
+                on (y .at) (y .here) (y .is)
+
+        go : (t : Bool) → clearB order i ≡ t → r ≡ (properB b && inOrder b order)
+        go true w = q ∙ w ∙ well seen (clear-at w) new low high top
+        go false w = q ∙ w ∙ refuted (λ p c. true≢false (sym (chain-clear c z) ∙ w))
+
+    pub end-of : places ≤ i → allBelow (newB (along (b .keys) order)) i ≡ true → b .floor ≤ b .version → b .version ≤ versionMost
+        → leb last (b .version) ≡ (properB b && inOrder b order)
+    end-of h new low high = ⊎-elim (λ t. le-leb last (b .version) t ∙ end-full h new low high t) (λ t. lt-leb last (b .version) t ∙ stop-top i last l a t) (from? last (b .version))

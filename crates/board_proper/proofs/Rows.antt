@@ -1,0 +1,50 @@
+-- The numbers of a row so far name places whose versions rise from above 0. Assumes nothing.
+use Prim.Native.Nat.{ℕ, zero, suc, _+_, _<_, _≤_}
+use native.Mathlib.Omega.{arith}
+use mathlib.Core.Path.{_≡_, refl, sym, ap, _∙_}
+use mathlib.Core.List.{List}
+use mathlib.Core.Logic.{_⊎_, inl, inr, ⊎-elim}
+use lib.ListN.{getD}
+use Rattle.board_record.specs.Sizes.{places}
+use Rattle.board_record.specs.Order.{placeOn}
+use Rattle.board_record.proofs.Logic.{same?, from?}
+
+-- the first i numbers of a row are places, their versions rise, and the last of these is `last`
+pub record Risen (vs order : List ℕ) (i last : ℕ) : Type 0 where
+  pub low : (j : ℕ) → j < i → placeOn order j < places
+  pub above : (j : ℕ) → j < i → 0 < getD vs (placeOn order j) 0
+  pub most : (j : ℕ) → j < i → getD vs (placeOn order j) 0 ≤ last
+  pub up : (j k : ℕ) → j < k → k < i → getD vs (placeOn order j) 0 < getD vs (placeOn order k) 0
+  pub first : i ≡ 0 → last ≡ 0
+  pub is : (j : ℕ) → i ≡ suc j → last ≡ getD vs (placeOn order j) 0
+
+pub risen-none : (vs order : List ℕ) → Risen vs order 0 0
+risen-none vs order =
+    record {
+      low = λ j l. absurd (omega arith);
+      above = λ j l. absurd (omega arith);
+      most = λ j l. absurd (omega arith);
+      up = λ j k m l. absurd (omega arith);
+      first = λ e. refl;
+      is = λ j e. absurd (omega arith);
+    }
+
+pub risen-more : (vs order : List ℕ) (i last p v : ℕ) → Risen vs order i last → p ≡ placeOn order i → p < places → v ≡ getD vs p 0 → last < v
+    → Risen vs order (i + 1) v
+risen-more vs order i last p v r e l f h =
+    let q : v ≡ getD vs (placeOn order i) 0 = f ∙ ap (λ (x : ℕ). getD vs x 0) e in
+    record {
+      low = λ j k. ⊎-elim (λ z. omega (arith, ap (λ (x : ℕ). placeOn order x) z)) (λ d. r .low j (omega (arith, d))) (same? j i);
+      above = λ j k. ⊎-elim (λ z. omega (arith, ap (λ (x : ℕ). getD vs (placeOn order x) 0) z)) (λ d. r .above j (omega (arith, d))) (same? j i);
+      most = λ j k. ⊎-elim (λ z. omega (arith, ap (λ (x : ℕ). getD vs (placeOn order x) 0) z)) (λ d. omega (arith, r .most j (omega (arith, d)))) (same? j i);
+      up = λ j k m n.
+          ⊎-elim (λ z. omega (arith, ap (λ (x : ℕ). getD vs (placeOn order x) 0) z, r .most j (omega arith))) (λ d. r .up j k m (omega (arith, d))) (same? k i);
+      first = λ z. absurd (omega arith);
+      is = λ j z. let y : i ≡ j = omega arith in q ∙ ap (λ (x : ℕ). getD vs (placeOn order x) 0) y;
+    }
+
+-- they are different places
+pub risen-once : (vs order : List ℕ) (n last : ℕ) → Risen vs order n last → (i j : ℕ) → i < n → j < n → placeOn order i ≡ placeOn order j → i ≡ j
+risen-once vs order n last r i j l m e =
+    ⊎-elim (λ k. ⊎-elim (λ y. y) (λ d. absurd (omega (arith, r .up i j (omega (arith, d)) m, ap (λ (p : ℕ). getD vs p 0) e))) (same? i j))
+    (λ k. absurd (omega (arith, r .up j i k l, ap (λ (p : ℕ). getD vs p 0) e))) (from? i j)

@@ -1,0 +1,135 @@
+-- A call on the record of a proper table answers as on the table, and leaves the record of what it leaves there. So by the calls before it the record is always that of the
+-- table, which stays proper, and its order is sound. Assumes nothing.
+use Prim.Native.Nat.{ℕ}
+use mathlib.Core.Path.{_≡_, refl, sym, ap, _∙_}
+use mathlib.Core.Bool.{Bool, true, false, cond}
+use mathlib.Core.List.{List, [], _∷_}
+use mathlib.Core.Logic.{_⊎_, inl, inr, ⊎-elim}
+use native.Mathlib.Omega.{arith}
+use Prim.Native.Nat.{_<_, _≤_}
+use lib.ListN.{length, getD, replicate, length-replicate, getD-replicate}
+use Rattle.answers.specs.declared.verdict.Verdict.{Verdict}
+use Rattle.session.specs.declared.Session.{Session}
+use Rattle.board_record.specs.declared.record.Board.{Board}
+use Rattle.board_record.specs.Sizes.{places}
+use Rattle.board_record.specs.Table.{Table, emptyTable, Sized}
+use Rattle.board_record.specs.Proper.{Proper}
+use Rattle.board_record.specs.Order.{placeOn, Chained, orderOf}
+use Rattle.board_record.specs.Record.{tableIn, withOrder, recordOf, orderly, emptyBoard}
+use Rattle.board_record.proofs.Logic.{same?}
+use Rattle.board_record.proofs.Proper.{empty-sized, empty-proper}
+use Rattle.board_order.proofs.Names.{named-none}
+use Rattle.board_order.proofs.Chains.{proper-apart, in-order, order-is}
+use Rattle.board_rules.specs.Rules.{Outcome}
+use Rattle.board_rules.specs.Report.{reportAnswer, reportStore}
+use Rattle.board_rules.specs.Remove.{removeAnswer}
+use Rattle.board_rules.specs.Compact.{compactAnswer}
+use Rattle.board_rules.specs.Body.{bodyNumber, bodyOf}
+use Rattle.board_rules.specs.Next.{nextAnswer}
+use Rattle.board_rules.specs.OnRecord.{Result, resultOf, resultOn, reportOn, reportStoreOn, removeOn, compactOn, bodyNumberOn, bodyOn, nextOn}
+use Rattle.board_rules.proofs.Verdicts.{kept-old, kept-new}
+use Rattle.board_rules.proofs.Keeps.{report-proper, remove-proper, compact-proper, report-refused-keeps, remove-refused-keeps, compact-refused-keeps}
+use Rattle.board_rules.proofs.Stores.{report-sized, remove-sized, compact-sized}
+use Rattle.follow_record.specs.Calls.{Call, report, remove, compact, body, next, fresh, Reply, verdict, octets, handed, mark}
+use Rattle.follow_record.specs.Calls.{OnTable, replyOf, leftOf, repliesOf, OnRecord, replyOn, leftOn, repliesOn, AnswersAsTheTable}
+
+-- ---- the empty record is that of the empty table
+zeros : (i : ℕ) → i < places → getD {A = ℕ} (replicate 128 0) i 0 ≡ 0
+zeros i l = getD-replicate 128 i 0 0 l
+
+no-places : (i : ℕ) → i < places → placeOn (replicate 128 0) i ≡ places
+no-places i l = named-none (getD {A = ℕ} (replicate 128 0) i 0) (zeros i l)
+
+empty-chained : Chained emptyTable (replicate 128 0)
+empty-chained =
+    record {
+      used = λ i l h. absurd (omega (arith, no-places i l));
+      all = λ p l u. absurd (u (zeros p l));
+      rises = λ i j k l h. absurd (omega (arith, no-places j l));
+      rest = λ i l h. zeros i l;
+    }
+
+pub empty-record : emptyBoard ≡ recordOf emptyTable
+empty-record = ap (withOrder emptyTable) (order-is emptyTable (replicate 128 0) (length-replicate {A = ℕ} 128 0) empty-chained)
+
+-- ---- one call
+module _ (t : Table) (p : Proper t) where
+  sound : orderly (recordOf t) ≡ true
+  sound = in-order t (proper-apart t p)
+
+  result-is : (o : Outcome) → ((o .verdict .number ≡ 0 → ⊥) → o .table ≡ t) → resultOn (recordOf t) o ≡ resultOf (o .verdict) (recordOf (o .table))
+  unfolding resultOn
+  result-is o f =
+      rw sound
+      (⊎-elim (λ z. ap (resultOf (o .verdict)) (kept-new (o .verdict .number) (recordOf t) (recordOf (o .table)) z))
+      (λ d. ap (resultOf (o .verdict)) (kept-old (o .verdict .number) (recordOf t) (recordOf (o .table)) d ∙ ap recordOf (sym (f d)))) (same? (o .verdict .number) 0))
+
+  pub report-is : (store : List ℕ) (k : ℕ) (ero : List ℕ) (session : Session) (pst : ℕ) →
+      let o = reportAnswer t store k ero session pst in reportOn (recordOf t) store k ero session pst ≡ resultOf (o .verdict) (recordOf (o .table))
+  report-is store k ero session pst = result-is (reportAnswer t store k ero session pst) (report-refused-keeps t store k ero session pst)
+
+  pub store-is : (store : List ℕ) (k : ℕ) (ero : List ℕ) (session : Session) (pst : ℕ) → reportStoreOn (recordOf t) store k ero session pst ≡ reportStore t store k ero session pst
+  unfolding reportStoreOn
+  store-is store k ero session pst = rw sound
+
+  pub remove-is : (store : List ℕ) (k : ℕ) → let o = removeAnswer t store k in removeOn (recordOf t) store k ≡ resultOf (o .verdict) (recordOf (o .table))
+  remove-is store k = result-is (removeAnswer t store k) (remove-refused-keeps t store k)
+
+  pub compact-is : (store : List ℕ) (c : ℕ) → let o = compactAnswer t store c in compactOn (recordOf t) store c ≡ resultOf (o .verdict) (recordOf (o .table))
+  compact-is store c = result-is (compactAnswer t store c) (compact-refused-keeps t store c)
+
+  number-is : (store : List ℕ) (k : ℕ) → bodyNumberOn (recordOf t) store k ≡ bodyNumber t store k
+  unfolding bodyNumberOn
+  number-is store k = rw sound
+
+  body-is : (store : List ℕ) (k : ℕ) → bodyOn (recordOf t) store k ≡ bodyOf t store k
+  unfolding bodyOn
+  body-is store k = rw sound
+
+  pub next-is : (store : List ℕ) (s w : ℕ) → nextOn (recordOf t) store s w ≡ nextAnswer t store s w
+  unfolding nextOn
+  next-is store s w = rw sound
+
+-- ---- call for call
+abbrev recorded : OnTable → OnRecord
+recorded x = record { board = recordOf (x .table); store = x .store }
+
+reply-same : (x : OnTable) → Proper (x .table) → (c : Call) → replyOn (recorded x) c ≡ replyOf x c
+unfolding replyOn replyOf
+reply-same x p (report k ero session pst) = ap (λ (a : Result). verdict (a .verdict)) (report-is (x .table) p (x .store) k ero session pst)
+reply-same x p (remove k) = ap (λ (a : Result). verdict (a .verdict)) (remove-is (x .table) p (x .store) k)
+reply-same x p (compact c) = ap (λ (a : Result). verdict (a .verdict)) (compact-is (x .table) p (x .store) c)
+reply-same x p (body k) = rw (number-is (x .table) p (x .store) k, body-is (x .table) p (x .store) k)
+reply-same x p (next s w) = ap handed (next-is (x .table) p (x .store) s w)
+reply-same x p fresh = refl
+
+left-same : (x : OnTable) → Proper (x .table) → (c : Call) → leftOn (recorded x) c ≡ recorded (leftOf x c)
+unfolding leftOn leftOf
+left-same x p (report k ero session pst) =
+    rw (report-is (x .table) p (x .store) k ero session pst, store-is (x .table) p (x .store) k ero session pst)
+left-same x p (remove k) = ap (λ (a : Result). record { board = a .board; store = x .store }) (remove-is (x .table) p (x .store) k)
+left-same x p (compact c) = ap (λ (a : Result). record { board = a .board; store = x .store }) (compact-is (x .table) p (x .store) c)
+left-same x p (body k) = refl
+left-same x p (next s w) = refl
+left-same x p fresh = refl
+
+left-proper : (x : OnTable) → Sized (x .table) → Proper (x .table) → (c : Call) → Sized (leftOf x c .table) × Proper (leftOf x c .table)
+unfolding leftOf
+left-proper x s p (report k ero session pst) = (report-sized (x .table) (x .store) k ero session pst s, report-proper (x .table) (x .store) k ero session pst s p)
+left-proper x s p (remove k) = (remove-sized (x .table) (x .store) k s, remove-proper (x .table) (x .store) k s p)
+left-proper x s p (compact c) = (compact-sized (x .table) (x .store) c s, compact-proper (x .table) (x .store) c p)
+left-proper x s p (body k) = (s, p)
+left-proper x s p (next a w) = (s, p)
+left-proper x s p fresh = (s, p)
+
+pub replies-same : (x : OnTable) → Sized (x .table) → Proper (x .table) → (calls : List Call) → repliesOn (recorded x) calls ≡ repliesOf x calls
+unfolding repliesOn repliesOf
+replies-same x s p [] = refl
+replies-same x s p (c ∷ calls) =
+    let g = left-proper x s p c in
+    rw (reply-same x p c, left-same x p c, replies-same (leftOf x c) (g .0) (g .1) calls)
+
+pub answers-as-the-table : AnswersAsTheTable
+answers-as-the-table store calls =
+    ap (λ (b : Board). repliesOn (record { board = b; store = store }) calls) empty-record
+    ∙ replies-same (record { table = emptyTable; store = store }) empty-sized empty-proper calls

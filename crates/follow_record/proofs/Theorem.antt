@@ -1,0 +1,78 @@
+-- No follower of a record is fooled: the run on the record is the run on the table, with the record of its table, so what was shown of that run carries over. Assumes nothing.
+use Prim.Native.Nat.{ℕ, _≤_}
+use mathlib.Core.Path.{_≡_, refl, sym, ap, _∙_, subst}
+use mathlib.Core.Bool.{cond}
+use mathlib.Core.List.{List, [], _∷_}
+use lib.ListN.{length}
+use lib.Dec.{eqb}
+use Rattle.board_record.specs.declared.record.Board.{Board}
+use Rattle.board_record.specs.Sizes.{storeSize}
+use Rattle.board_record.specs.Table.{Table, emptyTable, Sized}
+use Rattle.board_record.specs.Proper.{Proper}
+use Rattle.board_record.specs.Record.{tableIn, recordOf, emptyBoard}
+use Rattle.board_record.proofs.Proper.{empty-sized, empty-proper}
+use Rattle.board_rules.specs.Report.{bodyIn}
+use Rattle.board_rules.specs.OnRecord.{Result}
+use Rattle.board_rules.proofs.Keeps.{report-proper, remove-proper, compact-proper}
+use Rattle.board_rules.proofs.Stores.{report-sized, remove-sized, compact-sized}
+use Rattle.follow.specs.Story.{sets, clears, Story, beginning, begun, did, compactedTo}
+use Rattle.follow.specs.Follower.{Follower, fresh}
+use Rattle.follow.specs.Heard.{Heard, heardIn, does, cutOff}
+use Rattle.follow.specs.Run.{World, Act, report, remove, compact, begin, ask, askCut, answerTo, following, step, run, start, allFresh}
+use Rattle.follow.specs.Promise.{Answered}
+use Rattle.follow.proofs.Theorem.{from-the-empty-start}
+use Rattle.follow_record.specs.Followers.{WorldOn, toldOn, answerToOn, followingOn, stepOn, runOn, startOn, NoFollowerOfARecordIsFooled}
+use Rattle.follow_record.proofs.Same.{empty-record, report-is, store-is, remove-is, compact-is, next-is}
+
+abbrev recordedWorld : World → WorldOn
+recordedWorld x = record { board = recordOf (x .table); store = x .store; story = x .story; followers = x .followers }
+
+answer-same : (x : World) → Proper (x .table) → (n : ℕ) → answerToOn (recordedWorld x) n ≡ answerTo x n
+answer-same x p n = ap (heardIn (x .store)) (next-is (x .table) p (x .store) (x .followers n .s) (x .followers n .w))
+
+step-same : (x : World) → Proper (x .table) → (a : Act) → stepOn (recordedWorld x) a ≡ recordedWorld (step x a)
+unfolding stepOn step
+step-same x p (report k ero session pst) =
+    rw (report-is (x .table) p (x .store) k ero session pst, store-is (x .table) p (x .store) k ero session pst)
+step-same x p (remove k) =
+    ap (λ (a : Result). record { board = a .board; store = x .store; story = toldOn a (did (clears k) (x .story)) (x .story); followers = x .followers })
+    (remove-is (x .table) p (x .store) k)
+step-same x p (compact c) =
+    ap (λ (a : Result). record { board = a .board; store = x .store; story = toldOn a (compactedTo c (x .story)) (x .story); followers = x .followers })
+    (compact-is (x .table) p (x .store) c)
+step-same x p (begin n) = refl
+step-same x p (ask n both) = ap (λ (h : Heard). followingOn (recordedWorld x) n (does (x .followers n) both h)) (answer-same x p n)
+step-same x p (askCut n) = ap (λ (h : Heard). followingOn (recordedWorld x) n (cutOff (x .followers n) h)) (answer-same x p n)
+
+step-proper : (x : World) → Sized (x .table) → Proper (x .table) → (a : Act) → Sized (step x a .table) × Proper (step x a .table)
+unfolding step
+step-proper x s p (report k ero session pst) = (report-sized (x .table) (x .store) k ero session pst s, report-proper (x .table) (x .store) k ero session pst s p)
+step-proper x s p (remove k) = (remove-sized (x .table) (x .store) k s, remove-proper (x .table) (x .store) k s p)
+step-proper x s p (compact c) = (compact-sized (x .table) (x .store) c s, compact-proper (x .table) (x .store) c p)
+step-proper x s p (begin n) = (s, p)
+step-proper x s p (ask n both) = (s, p)
+step-proper x s p (askCut n) = (s, p)
+
+pub run-same : (x : World) → Sized (x .table) → Proper (x .table) → (acts : List Act) → runOn (recordedWorld x) acts ≡ recordedWorld (run x acts)
+unfolding runOn run
+run-same x s p [] = refl
+run-same x s p (a ∷ acts) =
+    let g = step-proper x s p a in
+    ap (λ (y : WorldOn). runOn y acts) (step-same x p a) ∙ run-same (step x a) (g .0) (g .1) acts
+
+run-proper : (x : World) → Sized (x .table) → Proper (x .table) → (acts : List Act) → Proper (run x acts .table)
+unfolding run
+run-proper x s p [] = p
+run-proper x s p (a ∷ acts) = let g = step-proper x s p a in run-proper (step x a) (g .0) (g .1) acts
+
+start-same : (store : List ℕ) → startOn store ≡ recordedWorld (start emptyTable store (allFresh emptyTable))
+start-same store =
+    ap (λ (b : Board). record { board = b; store = store; story = begun (beginning emptyTable store); followers = λ n. fresh emptyTable }) empty-record
+
+pub no-follower-of-a-record-is-fooled : NoFollowerOfARecordIsFooled
+no-follower-of-a-record-is-fooled store e acts n =
+    let x = start emptyTable store (allFresh emptyTable) in
+    let q : runOn (startOn store) acts ≡ recordedWorld (run x acts) = ap (λ (y : WorldOn). runOn y acts) (start-same store) ∙ run-same x empty-sized empty-proper acts in
+    subst (λ (y : WorldOn). Answered (y .story) (y .followers n) (answerToOn y n)) (sym q)
+    (subst (λ (h : Heard). Answered (run x acts .story) (run x acts .followers n) h) (sym (answer-same (run x acts) (run-proper x empty-sized empty-proper acts) n))
+    (from-the-empty-start store e acts n))

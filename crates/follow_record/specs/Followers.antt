@@ -1,0 +1,63 @@
+-- A run on a record that keeps its places in order: as the run of the crate follow, where the calls are made on the record and the followers ask it. No follower of a record
+-- is fooled.
+use Prim.Native.Nat.{ℕ, _≤_}
+use mathlib.Core.Bool.{cond}
+use mathlib.Core.List.{List, [], _∷_}
+use lib.ListN.{length}
+use lib.Dec.{eqb}
+use Rattle.answers.specs.declared.verdict.Verdict.{Verdict}
+use Rattle.board_record.specs.declared.record.Board.{Board}
+use Rattle.board_record.specs.Sizes.{storeSize}
+use Rattle.board_record.specs.Record.{tableIn, emptyBoard}
+use Rattle.board_rules.specs.Report.{bodyIn}
+use Rattle.board_rules.specs.OnRecord.{Result, reportOn, reportStoreOn, removeOn, compactOn, nextOn}
+use Rattle.follow.specs.Story.{sets, clears, Story, beginning, begun, did, compactedTo}
+use Rattle.follow.specs.Follower.{Follower, fresh}
+use Rattle.follow.specs.Heard.{Heard, heardIn, does, cutOff}
+use Rattle.follow.specs.Run.{Act, report, remove, compact, begin, ask, askCut}
+use Rattle.follow.specs.Promise.{Answered}
+
+pub record WorldOn : Type 0 where
+  pub board : Board
+  pub store : List ℕ
+  pub story : Story
+  pub followers : ℕ → Follower
+
+-- the story goes on where the call was accepted
+abbrev pub toldOn : Result → Story → Story → Story
+toldOn a more h = cond (eqb (a .verdict .number) 0) more h
+
+-- what follower n hears if it asks
+abbrev pub answerToOn : WorldOn → ℕ → Heard
+answerToOn x n = heardIn (x .store) (nextOn (x .board) (x .store) (x .followers n .s) (x .followers n .w))
+
+abbrev pub followingOn : WorldOn → ℕ → Follower → WorldOn
+followingOn x n f = record { board = x .board; store = x .store; story = x .story; followers = λ m. cond (eqb m n) f (x .followers m) }
+
+unfoldable pub stepOn : WorldOn → Act → WorldOn
+stepOn x (report k ero session pst) =
+    let a = reportOn (x .board) (x .store) k ero session pst in
+    record { board = a .board; store = reportStoreOn (x .board) (x .store) k ero session pst; story = toldOn a (did (sets k (bodyIn ero)) (x .story)) (x .story); followers = x .followers }
+stepOn x (remove k) =
+    let a = removeOn (x .board) (x .store) k in
+    record { board = a .board; store = x .store; story = toldOn a (did (clears k) (x .story)) (x .story); followers = x .followers }
+stepOn x (compact c) =
+    let a = compactOn (x .board) (x .store) c in
+    record { board = a .board; store = x .store; story = toldOn a (compactedTo c (x .story)) (x .story); followers = x .followers }
+stepOn x (begin n) = followingOn x n (fresh (tableIn (x .board)))
+stepOn x (ask n both) = followingOn x n (does (x .followers n) both (answerToOn x n))
+stepOn x (askCut n) = followingOn x n (cutOff (x .followers n) (answerToOn x n))
+
+unfoldable pub runOn : WorldOn → List Act → WorldOn
+runOn x [] = x
+runOn x (a ∷ acts) = runOn (stepOn x a) acts
+
+-- the empty record and every follower fresh
+abbrev pub startOn : List ℕ → WorldOn
+startOn store =
+    record { board = emptyBoard; store = store; story = begun (beginning (tableIn emptyBoard) store); followers = λ n. fresh (tableIn emptyBoard) }
+
+-- After any acts of anyone, from the empty start, each follower that asks the record is answered as the story says.
+abbrev pub NoFollowerOfARecordIsFooled : Type 0
+NoFollowerOfARecordIsFooled = (store : List ℕ) → storeSize ≤ length store → (acts : List Act) (n : ℕ) →
+    let x = runOn (startOn store) acts in Answered (x .story) (x .followers n) (answerToOn x n)
