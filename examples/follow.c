@@ -19,7 +19,7 @@ static strundevi_session session;
 static void report(uint64_t key, uint8_t last) {
     uint8_t ero[] = {0x07, 0x10, 0x00, 0x1C, 0x28, 0x18, 0x00, 0x02, 0x00, 0x00, 0x00, 0x01, 0x20, 0x01,
                      0x0D, 0xB8, 0x00, 0x00, 0x00, 0x01, 0x00, 0x00, 0x00, 0x00, 0x00, 0x00, 0x00, last};
-    strundevi_verdict verdict = strundevi_report(&board, store, sizeof store, key, ero, sizeof ero, session, STRUNDEVI_PST_SRV6);
+    strundevi_verdict verdict = strundevi_report(&board, store, sizeof store, key, ero, sizeof ero, session, STRUNDEVI_PST_SRV6, NULL, 0);
     printf("board: report %llu answers %zu, version %llu\n", (unsigned long long)key, verdict.number, (unsigned long long)board.version);
 }
 
@@ -119,7 +119,8 @@ static int same(void) {
 }
 
 int main(void) {
-    strundevi_opened opened = strundevi_read_open(open_object, sizeof open_object);
+    strundevi_setup at = {0, 1}; /* where A and R stand */
+    strundevi_opened opened = strundevi_read_open(at, open_object, sizeof open_object);
     session = strundevi_agree(opened, opened);
     strundevi_empty(&board);
 

@@ -20,7 +20,8 @@ static int good(const char *call, size_t number) {
 }
 
 int main(void) {
-    strundevi_opened opened = strundevi_read_open(open_object, sizeof open_object);
+    strundevi_setup setup = {0, 1}; /* where A and R stand */
+    strundevi_opened opened = strundevi_read_open(setup, open_object, sizeof open_object);
     if (!good("open", opened.number))
         return 1;
     strundevi_session session = strundevi_agree(opened, opened);
@@ -41,11 +42,11 @@ int main(void) {
     size_t length = written.writer.at;
     printf("written: %zu octets\n", length);
 
-    strundevi_verdict verdict = strundevi_judge(buffer, length, STRUNDEVI_ERO, session, STRUNDEVI_PST_SRV6);
+    strundevi_verdict verdict = strundevi_judge(buffer, length, STRUNDEVI_ERO, session, STRUNDEVI_PST_SRV6, NULL, 0);
     if (!good("judge", verdict.number))
         return 1;
     printf("judged: %zu segments, %zu of them stray\n", verdict.count, verdict.stray);
-    strundevi_picked picked = strundevi_segment_at(buffer, length, STRUNDEVI_ERO, session, STRUNDEVI_PST_SRV6, 2);
+    strundevi_picked picked = strundevi_segment_at(buffer, length, STRUNDEVI_ERO, session, STRUNDEVI_PST_SRV6, NULL, 0, 2);
     if (!good("segment", picked.verdict.number))
         return 1;
     printf("segment 2: last octet of the SID %d\n", picked.segment.sid[15]);
@@ -62,11 +63,11 @@ int main(void) {
 
     strundevi_empty(&board);
     strundevi_mark mark = strundevi_fresh_mark(&board);
-    if (!good("report", strundevi_report(&board, store, sizeof store, 7, buffer, length, session, STRUNDEVI_PST_SRV6).number) ||
-        !good("report", strundevi_report(&board, store, sizeof store, 8, buffer, length, session, STRUNDEVI_PST_SRV6).number) ||
+    if (!good("report", strundevi_report(&board, store, sizeof store, 7, buffer, length, session, STRUNDEVI_PST_SRV6, NULL, 0).number) ||
+        !good("report", strundevi_report(&board, store, sizeof store, 8, buffer, length, session, STRUNDEVI_PST_SRV6, NULL, 0).number) ||
         !good("remove", strundevi_remove(&board, store, sizeof store, 7).number))
         return 1;
-    verdict = strundevi_report(&board, store, sizeof store, 0, buffer, length, session, STRUNDEVI_PST_SRV6);
+    verdict = strundevi_report(&board, store, sizeof store, 0, buffer, length, session, STRUNDEVI_PST_SRV6, NULL, 0);
     printf("key 0: %zu, %s\n", verdict.number, strundevi_text(verdict.number));
 
     /* each turn hands out another change, and there are no more changes than places */

@@ -55,10 +55,11 @@ int LLVMFuzzerTestOneInput(const uint8_t *data, size_t size) {
     size_t length = cut(route, size - first - second);
     enum strundevi_kind kind = length > 0 && route[0] == 8 ? STRUNDEVI_RRO : STRUNDEVI_ERO;
 
-    strundevi_session session = strundevi_agree(strundevi_read_open(data, first), strundevi_read_open(data + first, second));
+    strundevi_setup at = {0, 1};
+    strundevi_session session = strundevi_agree(strundevi_read_open(at, data, first), strundevi_read_open(at, data + first, second));
     strundevi_session free_session = {.agreed = 1, .n = 1};
-    strundevi_verdict strict = strundevi_judge(route, length, kind, session, STRUNDEVI_PST_SRV6);
-    strundevi_verdict verdict = strundevi_judge(route, length, kind, free_session, STRUNDEVI_PST_SRV6);
+    strundevi_verdict strict = strundevi_judge(route, length, kind, session, STRUNDEVI_PST_SRV6, NULL, 0);
+    strundevi_verdict verdict = strundevi_judge(route, length, kind, free_session, STRUNDEVI_PST_SRV6, NULL, 0);
     same(strict.number != 0 || verdict.number == 0);
     if (verdict.number != 0) {
         same(verdict.count == 0 && verdict.stray == 0 && verdict.place < 65536);
@@ -72,14 +73,14 @@ int LLVMFuzzerTestOneInput(const uint8_t *data, size_t size) {
         strundevi_stepped stepped = strundevi_step(route, length, kind, place);
         same(stepped.verdict.number == 0 && stepped.next > place);
         place = stepped.next;
-        strundevi_picked picked = strundevi_segment_at(route, length, kind, free_session, STRUNDEVI_PST_SRV6, i);
+        strundevi_picked picked = strundevi_segment_at(route, length, kind, free_session, STRUNDEVI_PST_SRV6, NULL, 0, i);
         same(picked.verdict.number == 0 && alike(&picked.segment, &stepped.segment));
         written = strundevi_add(buffer, sizeof buffer, written.writer, picked.segment);
         same(written.verdict.number == 0);
     }
-    same(strundevi_segment_at(route, length, kind, free_session, STRUNDEVI_PST_SRV6, verdict.count).verdict.number == STRUNDEVI_NO_SUCH_SEGMENT);
+    same(strundevi_segment_at(route, length, kind, free_session, STRUNDEVI_PST_SRV6, NULL, 0, verdict.count).verdict.number == STRUNDEVI_NO_SUCH_SEGMENT);
     same(strundevi_finish(buffer, sizeof buffer, written.writer).verdict.number == 0 && written.writer.at == length);
-    same(strundevi_judge(buffer, length, kind, free_session, STRUNDEVI_PST_SRV6).count == verdict.count);
+    same(strundevi_judge(buffer, length, kind, free_session, STRUNDEVI_PST_SRV6, NULL, 0).count == verdict.count);
 
     same(place == length && strundevi_step(route, length, kind, place).verdict.number == STRUNDEVI_NO_SUCH_SEGMENT);
 
@@ -91,7 +92,7 @@ int LLVMFuzzerTestOneInput(const uint8_t *data, size_t size) {
 
     /* a report that is taken is handed out again, octet for octet */
     strundevi_empty(&board);
-    verdict = strundevi_report(&board, store, sizeof store, 7, route, length, free_session, STRUNDEVI_PST_SRV6);
+    verdict = strundevi_report(&board, store, sizeof store, 7, route, length, free_session, STRUNDEVI_PST_SRV6, NULL, 0);
     if (verdict.number == 0) {
         strundevi_part body = strundevi_body(&board, store, sizeof store, 7);
         strundevi_change change = strundevi_next(&board, store, sizeof store, (strundevi_mark){0, 0});

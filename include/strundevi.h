@@ -75,7 +75,8 @@ enum strundevi_number {
     STRUNDEVI_ALL_PATHS = 21,          /* 128 paths */
     STRUNDEVI_NO_PATH = 22,            /* key has no path */
     STRUNDEVI_MARK_TOO_OLD = 23,       /* mark too old */
-    STRUNDEVI_MARK_AHEAD = 24          /* mark ahead */
+    STRUNDEVI_MARK_AHEAD = 24,         /* mark ahead */
+    STRUNDEVI_NOT_USABLE = 28          /* unusable bit positions, or address list not a multiple of 16 octets */
 };
 
 /* ---- sizes */
@@ -85,6 +86,8 @@ enum strundevi_size {
     STRUNDEVI_SID_OCTETS = 16,
     STRUNDEVI_NAI_OCTETS = 40,        /* of the longest NAI, NT 6 */
     STRUNDEVI_STRUCTURE_OCTETS = 4,   /* the four bit lengths */
+    STRUNDEVI_ADDRESS_OCTETS = 16,    /* of one of the head end's addresses */
+    STRUNDEVI_POSITION_MOST = 13,     /* of A and R among the 16 flags, from 0, the highest */
     STRUNDEVI_OBJECT_MOST = 65532,    /* octets of an object that is written */
     STRUNDEVI_PLACES = 128,           /* of the board */
     STRUNDEVI_PLACE_OCTETS = 384,     /* of the store for a place */
@@ -109,21 +112,40 @@ typedef struct strundevi_verdict {
     size_t stray;
 } strundevi_verdict;
 
-/* What an OPEN object says. Refused: all but the number is 0. Without SRv6, n is 0 and there is no limit. limited 0: limit does not count. */
+/* Where A and R stand among the 16 flags of sub-TLV 27: position 0 is the highest. They are still unassigned: two different ones of 0 to 13. */
+typedef struct strundevi_setup {
+    uint64_t a;
+    uint64_t r;
+} strundevi_setup;
+
+/* What an OPEN object says. Refused: all but the number is 0. Without SRv6, n, a and r are 0 and there are no limit, v and m. limited 0: limit does not
+ * count; hasv 0 (H.Encaps' smallest value) and hasm 0 (Segments Left's): likewise. */
 typedef struct strundevi_opened {
     size_t number;
     uint8_t srv6;
     uint8_t n;
     uint8_t limited;
     size_t limit;
+    uint8_t a;
+    uint8_t r;
+    uint8_t hasv;
+    uint8_t v;
+    uint8_t hasm;
+    uint8_t m;
 } strundevi_opened;
 
-/* SRv6 agreed or not, the PCC's N, the PCC's limit. */
+/* SRv6 agreed or not, the PCC's N; A and R agreed or not, the PCC's v, m and limit. */
 typedef struct strundevi_session {
     uint8_t agreed;
     uint8_t n;
+    uint8_t a;
+    uint8_t r;
+    uint8_t hasv;
+    uint8_t v;
+    uint8_t hasm;
+    uint8_t m;
     uint8_t limited;
-    size_t limit;
+    uint32_t limit;
 } strundevi_session;
 
 /* A segment. Octets of a part that is absent or shorter are 0. */
@@ -219,10 +241,12 @@ typedef struct strundevi_mark {
 
 /* ---- what the archive has: its functions take no null pointer */
 
-strundevi_opened strundevi_raw_read_open(const uint8_t *octets, size_t length);
+strundevi_opened strundevi_raw_read_open(strundevi_setup setup, const uint8_t *octets, size_t length);
 strundevi_session strundevi_raw_agree(strundevi_opened pcc, strundevi_opened pce);
-strundevi_verdict strundevi_raw_judge(const uint8_t *octets, size_t length, uint8_t ero, strundevi_session session, uint64_t pst);
-strundevi_picked strundevi_raw_segment_at(const uint8_t *octets, size_t length, uint8_t ero, strundevi_session session, uint64_t pst, uint64_t i);
+strundevi_verdict strundevi_raw_judge(const uint8_t *octets, size_t length, uint8_t ero, strundevi_session session, uint64_t pst,
+                                      const uint8_t *addresses, size_t given);
+strundevi_picked strundevi_raw_segment_at(const uint8_t *octets, size_t length, uint8_t ero, strundevi_session session, uint64_t pst,
+                                          const uint8_t *addresses, size_t given, uint64_t i);
 strundevi_stepped strundevi_raw_step(const uint8_t *octets, size_t length, uint8_t ero, size_t at);
 strundevi_written strundevi_raw_begin(uint8_t *buffer, size_t size, strundevi_writer writer, uint8_t ero);
 strundevi_written strundevi_raw_add(uint8_t *buffer, size_t size, strundevi_writer writer, strundevi_outline outline, const uint8_t *sid,
@@ -230,7 +254,8 @@ strundevi_written strundevi_raw_add(uint8_t *buffer, size_t size, strundevi_writ
 strundevi_written strundevi_raw_finish(uint8_t *buffer, size_t size, strundevi_writer writer);
 void strundevi_raw_empty(uint32_t *keys, uint64_t *versions, uint16_t *lengths, uint64_t *version, uint64_t *floor, uint8_t *order);
 strundevi_verdict strundevi_raw_report(uint32_t *keys, uint64_t *versions, uint16_t *lengths, uint64_t *version, uint64_t *floor, uint8_t *order,
-                                       uint8_t *store, size_t size, uint64_t key, const uint8_t *ero, size_t length, strundevi_session session, uint64_t pst);
+                                       uint8_t *store, size_t size, uint64_t key, const uint8_t *ero, size_t length, strundevi_session session, uint64_t pst,
+                                       const uint8_t *addresses, size_t given);
 strundevi_verdict strundevi_raw_remove(const uint32_t *keys, uint64_t *versions, uint16_t *lengths, uint64_t *version, uint64_t floor, uint8_t *order,
                                        const uint8_t *store, size_t size, uint64_t key);
 strundevi_verdict strundevi_raw_compact(uint32_t *keys, uint64_t *versions, const uint16_t *lengths, uint64_t version, uint64_t *floor, uint8_t *order,
@@ -263,9 +288,9 @@ static inline strundevi_verdict strundevi_no_board(void) {
     return refused;
 }
 
-/* Reads an OPEN object: 1, 2, 3. */
-STRUNDEVI_LOOK_AT static inline strundevi_opened strundevi_read_open(const uint8_t *octets, size_t length) {
-    return strundevi_raw_read_open(strundevi_from(octets), strundevi_lent(octets, length));
+/* Reads an OPEN object, with A and R at the positions of set-up: 28, 1, 2, 3. */
+STRUNDEVI_LOOK_AT static inline strundevi_opened strundevi_read_open(strundevi_setup setup, const uint8_t *octets, size_t length) {
+    return strundevi_raw_read_open(setup, strundevi_from(octets), strundevi_lent(octets, length));
 }
 
 /* The session of the PCC's and the PCE's answers. */
@@ -273,16 +298,19 @@ static inline strundevi_session strundevi_agree(strundevi_opened pcc, strundevi_
     return strundevi_raw_agree(pcc, pce);
 }
 
-/* Judges a route: 4, 5, 6, 14, 13; 8, 9, 7, 10, 11 segment by segment; 12. The counts are those of its segments and of the stray ones. */
+/* Judges a route: 28; 4, 5, 6, 14, 13; 8, 9, 7, 10, 11 segment by segment; 12. The counts are those of its segments and of the stray ones. The addresses
+ * are the head end's, 16 octets each; where A is agreed they say whether an ERO's first segment is one of its adjacencies. NULL and 0 for none. */
 STRUNDEVI_LOOK_AT static inline strundevi_verdict strundevi_judge(const uint8_t *octets, size_t length, enum strundevi_kind kind, strundevi_session session,
-                                                uint64_t pst) {
-    return strundevi_raw_judge(strundevi_from(octets), strundevi_lent(octets, length), kind != STRUNDEVI_RRO, session, pst);
+                                                uint64_t pst, const uint8_t *addresses, size_t given) {
+    return strundevi_raw_judge(strundevi_from(octets), strundevi_lent(octets, length), kind != STRUNDEVI_RRO, session, pst, strundevi_from(addresses),
+                               strundevi_lent(addresses, given));
 }
 
 /* Segment i, from 0, of a route: as in judging, then 15. */
 STRUNDEVI_LOOK_AT static inline strundevi_picked strundevi_segment_at(const uint8_t *octets, size_t length, enum strundevi_kind kind, strundevi_session session,
-                                              uint64_t pst, uint64_t i) {
-    return strundevi_raw_segment_at(strundevi_from(octets), strundevi_lent(octets, length), kind != STRUNDEVI_RRO, session, pst, i);
+                                              uint64_t pst, const uint8_t *addresses, size_t given, uint64_t i) {
+    return strundevi_raw_segment_at(strundevi_from(octets), strundevi_lent(octets, length), kind != STRUNDEVI_RRO, session, pst,
+                                    strundevi_from(addresses), strundevi_lent(addresses, given), i);
 }
 
 /* The segment at a place of a route that was judged, and the place behind it, from STRUNDEVI_FIRST_PLACE on: all segments in one pass. 15 at a place
@@ -317,14 +345,18 @@ static inline void strundevi_empty(strundevi_board *board) {
         strundevi_raw_empty(board->keys, board->versions, board->lengths, &board->version, &board->floor, board->order);
 }
 
-/* Reports a path: 17, 18, the route's numbers, 19, 20, 21. The counts are those of its segments and of the stray ones. */
+/* Reports a path: 28, 17, 18, the route's numbers, 19, 20, 21. The counts are those of its segments and of the stray ones. The addresses are the head
+ * end's, as in judging. */
 STRUNDEVI_LOOK_AT static inline strundevi_verdict strundevi_report(strundevi_board *board, uint8_t *store, size_t size, uint64_t key, const uint8_t *ero,
-                                                 size_t length, strundevi_session session, uint64_t pst) {
+                                                 size_t length, strundevi_session session, uint64_t pst, const uint8_t *addresses, size_t given) {
     uint8_t none[1];
-    if (board == NULL)
-        return strundevi_no_board();
+    if (board == NULL) {
+        strundevi_verdict unusable = {STRUNDEVI_NOT_USABLE, 0, 0, 0};
+        return strundevi_lent(addresses, given) % STRUNDEVI_ADDRESS_OCTETS != 0 ? unusable : strundevi_no_board();
+    }
     return strundevi_raw_report(board->keys, board->versions, board->lengths, &board->version, &board->floor, board->order,
-                                strundevi_into(store, none), strundevi_lent(store, size), key, strundevi_from(ero), strundevi_lent(ero, length), session, pst);
+                                strundevi_into(store, none), strundevi_lent(store, size), key, strundevi_from(ero), strundevi_lent(ero, length), session, pst,
+                                strundevi_from(addresses), strundevi_lent(addresses, given));
 }
 
 /* Removes a path: 17, 18, 22, 20. */
@@ -415,6 +447,7 @@ static inline const char *strundevi_text(size_t number) {
     case STRUNDEVI_NO_PATH: return "key has no path";
     case STRUNDEVI_MARK_TOO_OLD: return "mark too old";
     case STRUNDEVI_MARK_AHEAD: return "mark ahead";
+    case STRUNDEVI_NOT_USABLE: return "unusable bit positions, or address list not a multiple of 16 octets";
     default: return "no number of this library";
     }
 }

@@ -30,6 +30,7 @@ static int kept(void) {
 }
 
 int main(void) {
+    const strundevi_setup at = {0, 1};
     const strundevi_session session = {.agreed = 1, .n = 1};
     const strundevi_session yes = {.agreed = 200, .n = 7, .limited = 255, .limit = 1};
     const size_t lengths[] = {0, 1, 4, 28, 49152, PTRDIFF_MAX, SIZE_MAX};
@@ -40,18 +41,18 @@ int main(void) {
         strundevi_writer writer = {STRUNDEVI_ERO, 4};
         strundevi_segment segment = {.hassid = 1};
         strundevi_mark mark = {0, 0};
-        EXPECT(strundevi_read_open(NULL, n).number == STRUNDEVI_OPEN_MALFORMED);
-        EXPECT(refused(strundevi_judge(NULL, n, STRUNDEVI_ERO, session, 3), STRUNDEVI_FRAME_BROKEN));
-        EXPECT(refused(strundevi_segment_at(NULL, n, STRUNDEVI_RRO, session, 3, 0).verdict, STRUNDEVI_FRAME_BROKEN));
+        EXPECT(strundevi_read_open(at, NULL, n).number == STRUNDEVI_OPEN_MALFORMED);
+        EXPECT(refused(strundevi_judge(NULL, n, STRUNDEVI_ERO, session, 3, NULL, 0), STRUNDEVI_FRAME_BROKEN));
+        EXPECT(refused(strundevi_segment_at(NULL, n, STRUNDEVI_RRO, session, 3, NULL, 0, 0).verdict, STRUNDEVI_FRAME_BROKEN));
         EXPECT(refused(strundevi_step(NULL, n, STRUNDEVI_ERO, 4).verdict, STRUNDEVI_NO_SUCH_SEGMENT));
         EXPECT(refused(strundevi_begin(NULL, n, writer, STRUNDEVI_RRO).verdict, STRUNDEVI_BUFFER_FULL));
         EXPECT(refused(strundevi_add(NULL, n, writer, segment).verdict, STRUNDEVI_BUFFER_FULL));
         EXPECT(refused(strundevi_finish(NULL, n, writer).verdict, STRUNDEVI_BUFFER_FULL));
         EXPECT(strundevi_begin(NULL, n, writer, STRUNDEVI_RRO).writer.at == 4);
         EXPECT(strundevi_begin(NULL, n, writer, STRUNDEVI_RRO).writer.ero == 1);
-        EXPECT(refused(strundevi_report(&board, NULL, n, 1, route, sizeof route, session, 3), STRUNDEVI_NOT_A_BOARD));
-        EXPECT(refused(strundevi_report(NULL, store, n, 1, route, sizeof route, session, 3), STRUNDEVI_NOT_A_BOARD));
-        EXPECT(refused(strundevi_report(&board, store, sizeof store, 1, NULL, n, session, 3), STRUNDEVI_FRAME_BROKEN));
+        EXPECT(refused(strundevi_report(&board, NULL, n, 1, route, sizeof route, session, 3, NULL, 0), STRUNDEVI_NOT_A_BOARD));
+        EXPECT(refused(strundevi_report(NULL, store, n, 1, route, sizeof route, session, 3, NULL, 0), STRUNDEVI_NOT_A_BOARD));
+        EXPECT(refused(strundevi_report(&board, store, sizeof store, 1, NULL, n, session, 3, NULL, 0), STRUNDEVI_FRAME_BROKEN));
         EXPECT(refused(strundevi_remove(&board, NULL, n, 1), STRUNDEVI_NOT_A_BOARD));
         EXPECT(refused(strundevi_remove(NULL, store, n, 1), STRUNDEVI_NOT_A_BOARD));
         EXPECT(refused(strundevi_compact(&board, NULL, n, 0), STRUNDEVI_NOT_A_BOARD));
@@ -66,20 +67,31 @@ int main(void) {
     EXPECT(strundevi_fresh_mark(NULL).s == 0);
 
     /* a length that no buffer has */
-    EXPECT(strundevi_read_open(route, SIZE_MAX).number == STRUNDEVI_OPEN_MALFORMED);
-    EXPECT(refused(strundevi_judge(route, (size_t)PTRDIFF_MAX + 1, STRUNDEVI_ERO, session, 3), STRUNDEVI_FRAME_BROKEN));
-    EXPECT(refused(strundevi_report(&board, store, SIZE_MAX, 1, route, sizeof route, session, 3), STRUNDEVI_NOT_A_BOARD));
+    EXPECT(strundevi_read_open(at, route, SIZE_MAX).number == STRUNDEVI_OPEN_MALFORMED);
+    EXPECT(refused(strundevi_judge(route, (size_t)PTRDIFF_MAX + 1, STRUNDEVI_ERO, session, 3, NULL, 0), STRUNDEVI_FRAME_BROKEN));
+    EXPECT(refused(strundevi_report(&board, store, SIZE_MAX, 1, route, sizeof route, session, 3, NULL, 0), STRUNDEVI_NOT_A_BOARD));
     EXPECT(refused(strundevi_remove(&board, store, (size_t)PTRDIFF_MAX + 1, 1), STRUNDEVI_NOT_A_BOARD));
     EXPECT(kept());
 
     /* every flag but 0 is yes */
-    EXPECT(strundevi_judge(route, sizeof route, STRUNDEVI_ERO, yes, 3).count == 1);
-    EXPECT(refused(strundevi_judge(route, sizeof route, STRUNDEVI_ERO, session, 1), STRUNDEVI_NOT_AGREED));
+    EXPECT(strundevi_judge(route, sizeof route, STRUNDEVI_ERO, yes, 3, NULL, 0).count == 1);
+
+    /* unusable positions, and a list that is no multiple of 16 octets, go before everything else */
+    const strundevi_setup unusable[] = {{14, 0}, {0, 14}, {3, 3}, {UINT64_MAX, 0}};
+    for (size_t i = 0; i < sizeof unusable / sizeof *unusable; i++)
+        EXPECT(strundevi_read_open(unusable[i], NULL, 0).number == STRUNDEVI_NOT_USABLE);
+    EXPECT(refused(strundevi_judge(NULL, 0, STRUNDEVI_RRO, session, 3, route, 15), STRUNDEVI_NOT_USABLE));
+    EXPECT(refused(strundevi_segment_at(NULL, 0, STRUNDEVI_ERO, session, 3, route, 17, 0).verdict, STRUNDEVI_NOT_USABLE));
+    EXPECT(refused(strundevi_report(NULL, NULL, 0, 0, NULL, 0, session, 3, route, 1), STRUNDEVI_NOT_USABLE));
+    EXPECT(refused(strundevi_report(&board, NULL, 0, 0, NULL, 0, session, 3, route, 1), STRUNDEVI_NOT_USABLE));
+    EXPECT(strundevi_judge(route, sizeof route, STRUNDEVI_ERO, session, 3, NULL, 7).count == 1);
+    EXPECT(strundevi_judge(route, sizeof route, STRUNDEVI_ERO, session, 3, route, SIZE_MAX).count == 1);
+    EXPECT(refused(strundevi_judge(route, sizeof route, STRUNDEVI_ERO, session, 1, NULL, 0), STRUNDEVI_NOT_AGREED));
 
     /* keys, places and marks that are none */
     const uint64_t keys[] = {0, STRUNDEVI_KEY_MOST + 1, (uint64_t)1 << 32, ((uint64_t)1 << 32) + 1, UINT64_MAX};
     for (size_t i = 0; i < sizeof keys / sizeof *keys; i++) {
-        EXPECT(refused(strundevi_report(&board, store, sizeof store, keys[i], route, sizeof route, session, 3), STRUNDEVI_KEY_OUT_OF_RANGE));
+        EXPECT(refused(strundevi_report(&board, store, sizeof store, keys[i], route, sizeof route, session, 3, NULL, 0), STRUNDEVI_KEY_OUT_OF_RANGE));
         EXPECT(refused(strundevi_remove(&board, store, sizeof store, keys[i]), STRUNDEVI_KEY_OUT_OF_RANGE));
         EXPECT(strundevi_body(&board, store, sizeof store, keys[i]).number == STRUNDEVI_KEY_OUT_OF_RANGE);
     }
@@ -98,7 +110,7 @@ int main(void) {
     EXPECT(kept());
 
     /* a store that is an octet short, and records that are no boards */
-    EXPECT(refused(strundevi_report(&board, store, sizeof store - 1, 1, route, sizeof route, session, 3), STRUNDEVI_NOT_A_BOARD));
+    EXPECT(refused(strundevi_report(&board, store, sizeof store - 1, 1, route, sizeof route, session, 3, NULL, 0), STRUNDEVI_NOT_A_BOARD));
     for (int i = 0; i < 6; i++) {
         memset(&board, 0, sizeof board);
         switch (i) {
@@ -110,7 +122,7 @@ int main(void) {
         default: memset(&board, 0xFF, sizeof board); break;
         }
         before = board;
-        EXPECT(refused(strundevi_report(&board, store, sizeof store, 1, route, sizeof route, session, 3), STRUNDEVI_NOT_A_BOARD));
+        EXPECT(refused(strundevi_report(&board, store, sizeof store, 1, route, sizeof route, session, 3, NULL, 0), STRUNDEVI_NOT_A_BOARD));
         EXPECT(refused(strundevi_remove(&board, store, sizeof store, 1), STRUNDEVI_NOT_A_BOARD));
         EXPECT(refused(strundevi_compact(&board, store, sizeof store, 0), STRUNDEVI_NOT_A_BOARD));
         EXPECT(strundevi_body(&board, store, sizeof store, 1).number == STRUNDEVI_NOT_A_BOARD);
@@ -120,7 +132,7 @@ int main(void) {
 
     /* the border is no wall: what is good is taken */
     strundevi_empty(&board);
-    EXPECT(strundevi_report(&board, store, sizeof store, STRUNDEVI_KEY_MOST, route, sizeof route, session, 3).count == 1);
+    EXPECT(strundevi_report(&board, store, sizeof store, STRUNDEVI_KEY_MOST, route, sizeof route, session, 3, NULL, 0).count == 1);
     EXPECT(strundevi_body(&board, store, sizeof store, STRUNDEVI_KEY_MOST).length == 24);
     EXPECT(memcmp(store, route + 4, 24) == 0);
     EXPECT(strundevi_fresh_mark(&board).s == 1 && strundevi_fresh_mark(&board).w == 0);

@@ -9,13 +9,14 @@ static strundevi_session session;
 static strundevi_writer writer;
 
 int main(void) {
-    strundevi_opened opened = strundevi_read_open(route, sizeof route);
+    strundevi_setup at = {0, 1};
+    strundevi_opened opened = strundevi_read_open(at, route, sizeof route);
     if (opened.number != STRUNDEVI_OPEN_MALFORMED || strundevi_agree(opened, opened).agreed)
         return 1;
     session.agreed = 1;
-    if (strundevi_judge(route, sizeof route, STRUNDEVI_ERO, session, STRUNDEVI_PST_SRV6).count != 1)
+    if (strundevi_judge(route, sizeof route, STRUNDEVI_ERO, session, STRUNDEVI_PST_SRV6, NULL, 0).count != 1)
         return 1;
-    strundevi_picked picked = strundevi_segment_at(route, sizeof route, STRUNDEVI_ERO, session, STRUNDEVI_PST_SRV6, 0);
+    strundevi_picked picked = strundevi_segment_at(route, sizeof route, STRUNDEVI_ERO, session, STRUNDEVI_PST_SRV6, NULL, 0, 0);
     if (picked.verdict.number != STRUNDEVI_ACCEPTED || picked.segment.sid[15] != 1)
         return 1;
 
@@ -37,7 +38,7 @@ int main(void) {
 
     strundevi_empty(&board);
     strundevi_mark mark = strundevi_fresh_mark(&board);
-    if (strundevi_report(&board, store, sizeof store, 9, route, sizeof route, session, STRUNDEVI_PST_SRV6).number != STRUNDEVI_ACCEPTED ||
+    if (strundevi_report(&board, store, sizeof store, 9, route, sizeof route, session, STRUNDEVI_PST_SRV6, NULL, 0).number != STRUNDEVI_ACCEPTED ||
         strundevi_body(&board, store, sizeof store, 9).length != sizeof route - 4)
         return 1;
     strundevi_change next = strundevi_next(&board, store, sizeof store, mark);

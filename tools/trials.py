@@ -43,6 +43,11 @@ def srv6(flags, pairs, pad=None):
     return tlv(27, bytes([0, 0, 0, flags]) + bytes(pairs), pad)
 
 
+# With all 16 flags.
+def flagged(flags, pairs, types=(3,)):
+    return opened(setup(list(types), tlv(27, bytes([0, 0, flags // 256, flags % 256]) + bytes(pairs))))
+
+
 # A subobject of an ERO or RRO, from its fields; the length is the true one unless given.
 def sub(nt=0, s=0, f=None, t=0, v=0, l=0, behaviour=1, kind=40, length=None, bits=(40, 24, 16, 48), sid=SID, nai=None, reserved=0):
     f = (1 if nt == 0 else 0) if f is None else f
@@ -67,6 +72,10 @@ def wire(b, k):
 
 
 # -- the OPEN -----------------------------------------------------------------------------------------------------
+
+
+def bare_open():
+    return opened(setup([0], b""))
 
 
 def trial_open():
@@ -135,6 +144,22 @@ def trial_open():
         out.append("# " + name)
         for b in opens:
             pcc(b)
+    out.append("# A and R: each of the 16 flags alone, all, and none, at these positions; at the start 0 and 1")
+    for at in (None, (0, 1), (1, 0), (13, 0), (0, 13), (12, 13), (7, 8), (6, 5)):
+        if at is not None:
+            out.append("positions %d %d" % at)
+        for flags in [0, 0xFFFF, 0xFFFE, 0xFFFD, 0xFFFC] + [1 << k for k in range(16)]:
+            pcc(flagged(flags, [44, 3, 41, 7]))
+    pcc(flagged(0xFFFC, [44, 3], [0]))
+    pcc(flagged(0xFFFC, [7, 3]))
+    out.append("# positions of no use: 28 before everything else; they are kept all the same")
+    for at in ((14, 0), (0, 14), (15, 0), (16, 1), (0, 0), (13, 13), (2**32, 0), (0, ALL64), (ALL64, ALL64), (14, 14)):
+        out.append("positions %d %d" % at)
+        for b in (O, b"", O[:28] + b"\0" + O[29:], opened(setup([3], b"")), bare_open()):
+            pcc(b)
+        out.append("pce " + hexes(O))
+        out.append("ero 3 " + hexes(E))
+    out += ["positions 13 12", "pcc " + hexes(flagged(0x000C, [44, 3])), "positions 0 1"]
     out.append("# a session: SRv6 is agreed if both carry it; N and the limit are the PCC's")
     bare = opened(setup([0], b""))
     able = opened(setup([3], srv6(2, [44, 1])))
@@ -277,6 +302,52 @@ def trial_route():
     out += ["report 7 3 " + two, "body 7"]
     agree(out, 0, (44, 1))
     out += ["body 7", "next 0 0", "report 7 3 " + two, "body 7", "report 8 3 " + two, "report 8 3 " + hexes(E), "body 7", "pcc -", "report 7 3 " + hexes(E), "body 7", "next 0 0", "next 0 1", "board"]
+    out.append("# one segment more where both ends set R, or both set A and the first segment is an adjacency of the head end")
+    here, there = bytes([5] * 16), bytes([6] * 16)
+    adjacent = [sub(nt, s, t=t, nai=here + there + (bytes(8) if nt == 6 else b"")) for nt in (4, 6) for s in (0, 1) for t in (0, 1)]
+    others = [sub(), sub(2, nai=here), sub(2, 1, nai=here), sub(4, nai=there + here), sub(6, nai=there + here + here[:8]), sub(4, sid=here, nai=there + there), sub(4, 1, nai=there + here)]
+    lists = [b"", here, there, there + here, here + there, there * 3 + here + there * 2, here[:15] + b"\4", b"\4" + here[1:], here[1:] + here[:1] + bytes(16)]
+    for pcc in (0, 0x8002, 0x4002, 0xC002, 0x0002):
+        for pce in (0, 0x8000, 0x4000, 0xC000):
+            out += ["pcc " + hexes(flagged(pcc, [44, 2])), "pce " + hexes(flagged(pce, [44, 9]))]
+            for addresses in (b"", there + here):
+                out.append("addresses " + hexes(addresses))
+                for first in (adjacent[0], sub(2, nai=here)):
+                    for n in (2, 3, 4):
+                        out.append("ero 3 " + hexes(route([first] + [sub()] * (n - 1))))
+    out += ["pcc " + hexes(flagged(0x8002, [44, 2])), "pce " + hexes(flagged(0x8000, []))]
+    for addresses in lists:
+        out.append("addresses " + hexes(addresses))
+        for first in adjacent + others:
+            for n in (2, 3, 4):
+                out.append("ero 3 " + hexes(route([first] + [sub()] * (n - 1))))
+    out.append("addresses " + hexes(there + here))
+    for first in adjacent[:2] + others[:2]:
+        three = route([first, sub(), sub()])
+        out += ["ero-segment 3 2 " + hexes(three), "report 71 3 " + hexes(three), "rro 3 " + hexes(route([first, sub(), sub()], 8)), "ero 1 " + hexes(three)]
+    out.append("# the values: H.Encaps' v permits v + 1, 1 where it is 0; Segments Left's m + 1 as before; with neither no limit")
+    for v, m in ((0, None), (1, None), (2, None), (0, 0), (0, 5), (5, 0), (1, 1), (1, 2), (2, 1), (2, 2), (3, 2), (None, 0), (None, 1), (None, 2), (None, None), (255, None), (255, 254), (255, 255)):
+        pairs = ([] if v is None else [44, v]) + ([] if m is None else [41, m])
+        for flags in (0x0002, 0x8002, 0x4002):
+            out += ["pcc " + hexes(flagged(flags, pairs)), "pce " + hexes(flagged(flags, []))]
+            for n in (1, 2, 3, 4, 5) if (v or 0) < 255 else (254, 255, 256, 257):
+                out.append("ero 3 " + hexes(route([adjacent[1]] + [sub()] * (n - 1))))
+    out.append("# X set: no v, no m, no limit; and a type 3 that only one end lists")
+    out += ["pcc " + hexes(flagged(0xC003, [44, 1])), "pce " + hexes(flagged(0xC000, [])), "ero 3 " + hexes(route([sub()] * 9))]
+    out += ["pcc " + hexes(flagged(0xC002, [44, 1])), "pce " + hexes(flagged(0xC000, [], [0])), "ero 3 " + hexes(route([sub()] * 2)), "ero 3 " + hexes(E)]
+    out.append("# a list that is no multiple of 16 octets: 28 before everything else, in an RRO too; of other calls it is none's")
+    out += ["pcc " + hexes(O), "pce " + hexes(O)]
+    for n in (1, 8, 15, 17, 31, 33):
+        out.append("addresses " + hexes(bytes(n)))
+        out += ["ero 3 " + hexes(E), "ero 3 -", "ero 1 " + hexes(E), "rro 3 -", "rro 3 " + hexes(b"\x08" + E[1:]), "ero-segment 3 0 " + hexes(E), "ero-segment 3 9 -", "rro-segment 3 0 -",
+                "report 7 3 " + hexes(E), "report 0 3 -", "body 7", "board", "mark", "next 0 0", "pcc " + hexes(O)]
+    out += ["addresses " + hexes(bytes(16)), "ero 3 " + hexes(E), "addresses -", "ero 3 " + hexes(E)]
+    out.append("# a route that is cut where its first segment's address would lie")
+    out += ["pcc " + hexes(flagged(0x8002, [44, 1])), "pce " + hexes(flagged(0x8000, [])), "addresses " + hexes(here + bytes(16))]
+    for first in (adjacent[0], adjacent[2]):
+        whole = route([first, sub()])
+        out += ["ero 3 " + hexes(wire(whole, k)) for k in range(0, len(whole) + 1, 4)]
+    out += ["addresses -"]
     out.append("# segments: each of a route, then 15")
     agree(out, 2, ())
     for i in (0, 1, 2, 3, 4, 2**32, ALL64):
@@ -429,6 +500,8 @@ def console():
             "ero 000000000000000000000000000000000000000000000000000000000000003 " + hexes(E), "ero 0000000000000000000018446744073709551616 " + hexes(E), "next 18446744073709551615 18446744073709551615", "next 18446744073709551616 0", "compact 18446744073709551615", "remove 18446744073709551615"]
     out += ["# octets", "pcc", "pcc ", "pcc 0", "pcc 01 10", "pcc 0G", "pcc G0", "pcc @0", "pcc `0", "pcc :0", "pcc /0", "pcc g0", "pcc 0x01", "pcc -01", "pcc 01-", "pcc --", "pcc -", "ero 3 " + hexes(E)[:-1], "ero 3 " + hexes(E) + "0", "ero 3 " + hexes(E)[:20] + " " + hexes(E)[20:],
             "ero 3 " + hexes(E), "pcc " + hexes(O), "ero 3 " + hexes(E)]
+    out += ["# the positions and the addresses", "positions", "positions 0", "positions 0 1 2", "positions 0 x", "positions  0 1", "positions -", "positions 18446744073709551615 0", "pcc " + hexes(O), "positions 18446744073709551616 0",
+            "positions 000 0001", "pcc " + hexes(O), "addresses", "addresses ", "addresses 0", "addresses 00 00", "addresses 0g", "addresses -", "addresses 0a", "ero 3 " + hexes(E), "addresses " + "aB" * 16, "ero 3 " + hexes(E), "addresses --", "ero 3 " + hexes(E), "addresses " + "00" * 16 + " -", "Addresses -", "addresses -"]
     sid = hexes(SID)
     out += ["# the writer's words", "begin", "begin ero", "begin ero 65537", "begin ero 65536 ", "begin Ero 4", "begin pro 4", "begin 4 ero", "begin ero -", "begin ero 0", "begin ero 00028", "lent", "begin ero 18446744073709551644",
             "add 0 0 0 1 " + sid + " - -", "finish", "add 2 0 0 1 " + sid + " - -", "add 0 2 0 1 " + sid + " - -", "add 0 0 256 1 " + sid + " - -", "add 0 0 0 65536 " + sid + " - -", "add 0 0 0 1 " + sid[:-2] + " - -", "add 0 0 0 1 " + sid + "00 - -", "add 0 0 0 1 " + sid + " " + "00" * 41 + " -",
@@ -444,7 +517,8 @@ def console():
     digits = 131200 - len(long)
     text += long + "0" * digits + "\n"
     text += "ero 000000 " + "0" * digits + "\n"
-    text += "mark\nboard"
+    text += "addresses " + "0" * (131200 - 10) + "\n"
+    text += "ero 3 " + hexes(E) + "\naddresses " + "0" * 131072 + "\nero 3 " + hexes(E) + "\nlent\nmark\nboard"
     return text
 
 
@@ -465,6 +539,11 @@ def trial_checker():
         for b in (O, bare, wide, O[:28] + b"\0" + O[29:], opened(setup([3], b""))):
             for r in (E, route([sub(nt=2, s=1)]), route([sub()] * 5)):
                 out.append(a + b + r)
+    for flags in (0x8000, 0x4000, 0x2000):
+        for r in (route([sub()] * 3), route([sub(4), sub(), sub()])):
+            out.append(flagged(flags, [44, 2]) + flagged(flags, [44, 2]) + r)
+        out.append(flagged(flags, [44, 2]) + O + route([sub()] * 3))
+    out.append(flagged(0x4000, [44, 2]) + flagged(0x4000, []) + route([sub()] * 4))
     return [x.hex().upper() for x in out]
 
 

@@ -20,7 +20,8 @@ const E: [u8; 28] = [
 const PST: u64 = 3;
 const PLACES: usize = 128;
 const ERO: u8 = 1;
-const FREE: raw::Session = raw::Session { agreed: 1, n: 1, limited: 0, limit: 0 };
+const FREE: raw::Session = raw::Session { agreed: 1, n: 1, limited: 0, limit: 0, a: 0, r: 0, hasv: 0, v: 0, hasm: 0, m: 0 };
+const AT: raw::Setup = raw::Setup { a: 0, r: 1 };
 
 /// O with other pairs of MSD type and value, an even number of them.
 fn open_with(pairs: &[u8]) -> Vec<u8> {
@@ -119,41 +120,41 @@ impl Bench {
     }
 
     fn judge(&mut self, duty: &str, route: &[u8]) {
-        let theirs = reference::Session { agreed: true, n: true, limit: None };
-        let counts = reference::judge(route, reference::Kind::Ero, &theirs, PST).unwrap();
-        let ours = raw::judge(route, ERO, FREE, PST);
+        let theirs = reference::Session { agreed: true, n: true, ..Default::default() };
+        let counts = reference::judge(route, reference::Kind::Ero, &theirs, PST, &[]).unwrap();
+        let ours = raw::judge(route, ERO, FREE, PST, &[]);
         assert_eq!((ours.count, ours.stray), (counts.segments, counts.stray));
         self.time(
             duty,
             |_| {
-                black_box(raw::judge(black_box(route), ERO, black_box(FREE), PST));
+                black_box(raw::judge(black_box(route), ERO, black_box(FREE), PST, &[]));
             },
             |_| {
-                black_box(reference::judge(black_box(route), reference::Kind::Ero, black_box(&theirs), PST)).ok();
+                black_box(reference::judge(black_box(route), reference::Kind::Ero, black_box(&theirs), PST, &[])).ok();
             },
         );
     }
 
     fn segment(&mut self, duty: &str, route: &[u8], i: u64) {
-        let theirs = reference::Session { agreed: true, n: true, limit: None };
-        let sid = reference::segment(route, reference::Kind::Ero, &theirs, PST, i).unwrap().0.sid;
-        assert_eq!(raw::segment(route, ERO, FREE, PST, i).segment.sid, sid);
+        let theirs = reference::Session { agreed: true, n: true, ..Default::default() };
+        let sid = reference::segment(route, reference::Kind::Ero, &theirs, PST, &[], i).unwrap().0.sid;
+        assert_eq!(raw::segment(route, ERO, FREE, PST, &[], i).segment.sid, sid);
         self.time(
             duty,
             |_| {
-                black_box(raw::segment(black_box(route), ERO, black_box(FREE), PST, black_box(i)));
+                black_box(raw::segment(black_box(route), ERO, black_box(FREE), PST, &[], black_box(i)));
             },
             |_| {
-                black_box(reference::segment(black_box(route), reference::Kind::Ero, black_box(&theirs), PST, black_box(i))).ok();
+                black_box(reference::segment(black_box(route), reference::Kind::Ero, black_box(&theirs), PST, &[], black_box(i))).ok();
             },
         );
     }
 
     /// All segments of a route, one after the other: judged once, then stepped through.
     fn steps(&mut self, duty: &str, route: &[u8]) {
-        let theirs = reference::Session { agreed: true, n: true, limit: None };
+        let theirs = reference::Session { agreed: true, n: true, ..Default::default() };
         let library = |route: &[u8]| {
-            let count = raw::judge(route, ERO, black_box(FREE), PST).count;
+            let count = raw::judge(route, ERO, black_box(FREE), PST, &[]).count;
             let mut at = strundevi::FIRST_PLACE;
             for _ in 0..count {
                 let stepped = raw::step(route, ERO, at);
@@ -163,7 +164,7 @@ impl Bench {
             at
         };
         let reference = |route: &[u8]| {
-            let count = reference::judge(route, reference::Kind::Ero, black_box(&theirs), PST).map_or(0, |counts| counts.segments);
+            let count = reference::judge(route, reference::Kind::Ero, black_box(&theirs), PST, &[]).map_or(0, |counts| counts.segments);
             let mut at = strundevi::FIRST_PLACE;
             for _ in 0..count {
                 let Ok((segment, next)) = reference::step(route, reference::Kind::Ero, at) else { break };
@@ -228,13 +229,13 @@ impl Bench {
     /// Board calls with `used` places in use, all of them paths; keys and marks change from turn to turn. Keys one after another spread evenly
     /// over any hash, keys at random do not.
     fn board(&mut self, used: usize, name: &str, keys: &[u64]) {
-        let other = reference::Session { agreed: true, n: true, limit: None };
+        let other = reference::Session { agreed: true, n: true, ..Default::default() };
         let ero = plain_route(4);
         let key = |turn: usize| keys[turn * 37 % used];
         let mut store = vec![0; reference::STORE_OCTETS];
         let mut board = reference::Board::default();
         for &key in &keys[..used] {
-            board.report(&mut store, key, &ero, &other, PST).unwrap();
+            board.report(&mut store, key, &ero, &other, PST, &[]).unwrap();
         }
         let start = (record(&board), store.clone(), board, store);
 
@@ -242,10 +243,10 @@ impl Bench {
         self.time(
             &format!("report, {name}"),
             |turn| {
-                assert_eq!(raw::report(black_box(&mut r), &mut rs, key(turn), black_box(&ero), FREE, PST).number, 0);
+                assert_eq!(raw::report(black_box(&mut r), &mut rs, key(turn), black_box(&ero), FREE, PST, &[]).number, 0);
             },
             |turn| {
-                assert!(black_box(&mut b).report(&mut bs, key(turn), black_box(&ero), &other, PST).is_ok());
+                assert!(black_box(&mut b).report(&mut bs, key(turn), black_box(&ero), &other, PST, &[]).is_ok());
             },
         );
 
@@ -300,13 +301,13 @@ impl Bench {
     /// A follower's next calls on a full board: one whose mark lies so many changes behind, one that is handed the first path behind so many
     /// removals that it does not want, and all from fresh to level.
     fn follow(&mut self) {
-        let other = reference::Session { agreed: true, n: true, limit: None };
+        let other = reference::Session { agreed: true, n: true, ..Default::default() };
         let ero = plain_route(4);
         let keys = random_keys();
         let mut store = vec![0; reference::STORE_OCTETS];
         let mut full = reference::Board::default();
         for &key in &keys {
-            full.report(&mut store, key, &ero, &other, PST).unwrap();
+            full.report(&mut store, key, &ero, &other, PST, &[]).unwrap();
         }
         let mut next = |duty: &str, b: &reference::Board, s: u64, w: u64| {
             let r = record(b);
@@ -329,7 +330,7 @@ impl Bench {
             for &key in &keys[..removals] {
                 b.remove(&store, key).unwrap();
             }
-            b.report(&mut store.clone(), keys[127], &ero, &other, PST).unwrap();
+            b.report(&mut store.clone(), keys[127], &ero, &other, PST, &[]).unwrap();
             next(&format!("next, unwanted removals: {removals}"), &b, b.version, PLACES as u64);
         }
         let r = record(&full);
@@ -362,25 +363,25 @@ fn main() {
     let mut bench = Bench { rounds, worst: 0.0 };
 
     bench.title("duty");
-    assert_eq!(raw::read_open(&O).limit, 4);
+    assert_eq!(raw::read_open(AT, &O).limit, 4);
     bench.time(
         "OPEN",
         |_| {
-            black_box(raw::read_open(black_box(&O)));
+            black_box(raw::read_open(AT, black_box(&O)));
         },
         |_| {
-            black_box(reference::read_open(black_box(&O))).ok();
+            black_box(reference::read_open(reference::Setup { a: 0, r: 1 }, black_box(&O))).ok();
         },
     );
     let eight = open_with(&[41, 9, 42, 1, 44, 7, 45, 2, 44, 8, 41, 6, 42, 0, 45, 5]);
-    assert_eq!(raw::read_open(&eight).limit, 7);
+    assert_eq!(raw::read_open(AT, &eight).limit, 7);
     bench.time(
         "OPEN, pairs: 8",
         |_| {
-            black_box(raw::read_open(black_box(&eight)));
+            black_box(raw::read_open(AT, black_box(&eight)));
         },
         |_| {
-            black_box(reference::read_open(black_box(&eight))).ok();
+            black_box(reference::read_open(reference::Setup { a: 0, r: 1 }, black_box(&eight))).ok();
         },
     );
     for n in [1, 4, 16, 2729] {

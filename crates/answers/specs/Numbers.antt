@@ -96,3 +96,7 @@ markTooOld = 23
 -- mark ahead
 abbrev pub markAhead : ℕ
 markAhead = 24
+
+-- unusable bit positions, or address list not a multiple of 16 octets
+abbrev pub notUsable : ℕ
+notUsable = 28

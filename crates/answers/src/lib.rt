@@ -19,6 +19,7 @@ pub use number::NO_SRV6;
 pub use number::NO_SUCH_SEGMENT;
 pub use number::NOT_A_BOARD;
 pub use number::NOT_AGREED;
+pub use number::NOT_USABLE;
 pub use number::NOTHING_THERE;
 pub use number::OPEN_MALFORMED;
 pub use number::ROUTE_EMPTY;

@@ -71,3 +71,6 @@ pub const MARK_TOO_OLD: usize = 23;
 
 // mark ahead
 pub const MARK_AHEAD: usize = 24;
+
+// unusable bit positions, or address list not a multiple of 16 octets
+pub const NOT_USABLE: usize = 28;

@@ -10,13 +10,13 @@ use Rattle.board_rules.specs.declared.answer.Mark.{Mark}
 use Rattle.board_by_value.specs.declared.answer.Answer.{Answer}
 use Rattle.board_by_value.specs.ByValue.{reportOn, reportStoreOn, removeOn, compactOn, bodyNumberOn, bodyOn, nextOn, freshMarkOn}
 
-pub report-determined : (b : Board) (store : List ℕ) (k : ℕ) (ero : List ℕ) (session : Session) (pst : ℕ) (v w : Answer) (x y : List ℕ)
-    → v ≡ reportOn b store k ero session pst
-    → w ≡ reportOn b store k ero session pst
-    → x ≡ reportStoreOn b store k ero session pst
-    → y ≡ reportStoreOn b store k ero session pst
+pub report-determined : (b : Board) (store : List ℕ) (k : ℕ) (ero : List ℕ) (session : Session) (pst : ℕ) (addresses : List ℕ) (v w : Answer) (x y : List ℕ)
+    → v ≡ reportOn b store k ero session pst addresses
+    → w ≡ reportOn b store k ero session pst addresses
+    → x ≡ reportStoreOn b store k ero session pst addresses
+    → y ≡ reportStoreOn b store k ero session pst addresses
     → (v ≡ w) × (x ≡ y)
-report-determined b store k ero session pst v w x y p q r t = (p ∙ sym q, r ∙ sym t)
+report-determined b store k ero session pst addresses v w x y p q r t = (p ∙ sym q, r ∙ sym t)
 
 pub remove-determined : (b : Board) (store : List ℕ) (k : ℕ) (v w : Answer) → v ≡ removeOn b store k → w ≡ removeOn b store k → v ≡ w
 remove-determined b store k v w p q = p ∙ sym q

@@ -9,17 +9,18 @@ use Rattle.board_rules.specs.declared.answer.Handed.{Handed}
 use Rattle.board_rules.specs.declared.answer.Mark.{Mark}
 use Rattle.board_rules.specs.Next.{freshMark}
 use Rattle.board_rules.specs.OnRecord as lent
+use Rattle.report_call.specs.Reported as called
 use Rattle.board_by_value.specs.declared.answer.Answer.{Answer}
 
 -- a verdict and a record, handed back
 abbrev pub answerOf : lent.Result → Answer
 answerOf o = record { verdict = o .verdict; board = o .board }
 
-unfoldable pub reportOn : Board → List ℕ → ℕ → List ℕ → Session → ℕ → Answer
-reportOn b store k ero session pst = answerOf (lent.reportOn b store k ero session pst)
+unfoldable pub reportOn : Board → List ℕ → ℕ → List ℕ → Session → ℕ → List ℕ → Answer
+reportOn b store k ero session pst addresses = answerOf (called.reportForOn b store k ero session pst addresses)
 
-abbrev pub reportStoreOn : Board → List ℕ → ℕ → List ℕ → Session → ℕ → List ℕ
-reportStoreOn b store k ero session pst = lent.reportStoreOn b store k ero session pst
+abbrev pub reportStoreOn : Board → List ℕ → ℕ → List ℕ → Session → ℕ → List ℕ → List ℕ
+reportStoreOn b store k ero session pst addresses = called.reportStoreForOn b store k ero session pst addresses
 
 unfoldable pub removeOn : Board → List ℕ → ℕ → Answer
 removeOn b store k = answerOf (lent.removeOn b store k)

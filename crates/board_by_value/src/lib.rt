@@ -1,6 +1,6 @@
 // The board's calls with the record by value (document 01, "The board"): report, remove and compact hand it back, changed
 // or after a refusal as it was; body hands back a part of the lent store; next hands out a change. Each lends the record's
-// arrays to the call of board_report, board_remove or board_look.
+// arrays to the call of report_call, board_remove or board_look.
 mod answer;
 
 ghost use mathlib.Core.Path.{_≡_};
@@ -12,7 +12,7 @@ use board_rules::Handed;
 use board_rules::Mark;
 use session::Session;
 
-// Report (key, ERO, session, PST).
+// Report (key, ERO, session, PST, addresses).
 pub fn report(
     b: Board,
     store: &mut [u8],
@@ -20,9 +20,10 @@ pub fn report(
     ero: &[u8],
     session: Session,
     pst: u64,
+    addresses: &[u8],
 ) -> Answer
-    ensures answer { λ r. ⌜ r ≡ reportOn b (now (store .entry)) key (now (ero .entry)) session pst ⌝ }
-    ensures octets { λ r. ⌜ now (store .exit) ≡ reportStoreOn b (now (store .entry)) key (now (ero .entry)) session pst ⌝ }
+    ensures answer { λ r. ⌜ r ≡ reportOn b (now (store .entry)) key (now (ero .entry)) session pst (now (addresses .entry)) ⌝ }
+    ensures octets { λ r. ⌜ now (store .exit) ≡ reportStoreOn b (now (store .entry)) key (now (ero .entry)) session pst (now (addresses .entry)) ⌝ }
 {
     let mut keys = b.keys;
     let mut versions = b.versions;
@@ -30,7 +31,7 @@ pub fn report(
     let mut version = b.version;
     let mut floor = b.floor;
     let mut order = b.order;
-    let verdict = board_report::report(
+    let verdict = report_call::report(
         &mut keys,
         &mut versions,
         &mut lengths,
@@ -42,6 +43,7 @@ pub fn report(
         ero,
         session,
         pst,
+        addresses,
     );
     let stored = Board {
         keys: keys,

@@ -3,7 +3,8 @@
 ghost use mathlib.Core.Path.{_≡_};
 ghost use Rattle.board_record.specs.Table.{tableOf};
 ghost use Rattle.board_record.specs.Record.{withOrder, emptyBoard};
-ghost use Rattle.board_rules.specs.OnRecord.{reportOn, reportStoreOn, removeOn, compactOn};
+ghost use Rattle.board_rules.specs.OnRecord.{removeOn, compactOn};
+ghost use Rattle.report_call.specs.Reported.{reportForOn, reportStoreForOn};
 ghost use Rattle.border_records.specs.Records.{sessionIn, verdictOut};
 use border_records::SessionRecord;
 use border_records::VerdictRecord;
@@ -42,20 +43,21 @@ pub fn report(
     ero: &[u8],
     session: SessionRecord,
     pst: u64,
+    addresses: &[u8],
 ) -> VerdictRecord
     ensures verdict { λ r.
         let before = withOrder (tableOf (now (keys .entry)) (now (versions .entry)) (now (lengths .entry)) (now (version .entry)) (now (floor .entry))) (now (order .entry)) in
-        ⌜ r ≡ verdictOut (reportOn before (now (store .entry)) key (now (ero .entry)) (sessionIn session) pst .verdict) ⌝ }
+        ⌜ r ≡ verdictOut (reportForOn before (now (store .entry)) key (now (ero .entry)) (sessionIn session) pst (now (addresses .entry)) .verdict) ⌝ }
     ensures board { λ _.
         let before = withOrder (tableOf (now (keys .entry)) (now (versions .entry)) (now (lengths .entry)) (now (version .entry)) (now (floor .entry))) (now (order .entry)) in
         let after = withOrder (tableOf (now (keys .exit)) (now (versions .exit)) (now (lengths .exit)) (now (version .exit)) (now (floor .exit))) (now (order .exit)) in
-        ⌜ after ≡ reportOn before (now (store .entry)) key (now (ero .entry)) (sessionIn session) pst .board ⌝ }
+        ⌜ after ≡ reportForOn before (now (store .entry)) key (now (ero .entry)) (sessionIn session) pst (now (addresses .entry)) .board ⌝ }
     ensures octets { λ _.
         let before = withOrder (tableOf (now (keys .entry)) (now (versions .entry)) (now (lengths .entry)) (now (version .entry)) (now (floor .entry))) (now (order .entry)) in
-        ⌜ now (store .exit) ≡ reportStoreOn before (now (store .entry)) key (now (ero .entry)) (sessionIn session) pst ⌝ }
+        ⌜ now (store .exit) ≡ reportStoreForOn before (now (store .entry)) key (now (ero .entry)) (sessionIn session) pst (now (addresses .entry)) ⌝ }
 {
     let agreed = border_records::session_in(session);
-    let v = board_report::report(
+    let v = report_call::report(
         keys,
         versions,
         lengths,
@@ -67,6 +69,7 @@ pub fn report(
         ero,
         agreed,
         pst,
+        addresses,
     );
     border_records::verdict_out(v)
 }

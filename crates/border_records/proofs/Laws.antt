@@ -1,15 +1,19 @@
 -- What is handed out and comes back is what it was, in the order of specs/Records; and a record leaves no choice.
-use Prim.Native.Nat.{ℕ}
-use mathlib.Core.Path.{_≡_, refl}
-use mathlib.Core.Bool.{Bool, true, false}
+use Prim.Native.Nat.{ℕ, _≤_}
+use native.Mathlib.Omega.{arith}
+use mathlib.Core.Path.{_≡_, refl, ap}
+use mathlib.Core.Bool.{Bool, true, false, cond}
+use lib.Dec.{ltb}
+use borrow.Author.Tests.{ltb-false}
 use Rattle.answers.proofs.Determined.{determined}
 use Rattle.answers.specs.declared.verdict.Verdict.{Verdict}
+use Rattle.msd.specs.Msd.{absent}
 use Rattle.session.specs.declared.Limit.{Limit}
 use Rattle.session.specs.declared.Limit.the-variants.{Free, Most}
 use Rattle.session.specs.declared.Opened.{Opened}
 use Rattle.session.specs.declared.Session.{Session}
 use Rattle.border_records.specs.declared.verdict.VerdictRecord.{VerdictRecord}
-use Rattle.border_records.specs.Records.{isYes, flagOf, limitIn, limitedOf, mostOf, verdictOut, openedIn, openedOut, sessionIn, sessionOut}
+use Rattle.border_records.specs.Records.{isYes, flagOf, limitIn, limitedOf, mostOf, largest, shortOf, depthFrom, thereOf, valueOf, verdictOut, openedIn, openedOut, sessionIn, sessionOut}
 
 pub flag-back : (b : Bool) → isYes (flagOf b) ≡ b
 flag-back true = refl
@@ -19,11 +23,46 @@ pub limit-back : (l : Limit) → limitIn (limitedOf l) (mostOf l) ≡ l
 limit-back Free = refl
 limit-back (Most n) = refl
 
-pub opened-back : (o : Opened) → openedIn (openedOut o) ≡ o
-opened-back o = rw (flag-back (o .srv6), flag-back (o .n), limit-back (o .limit))
+-- In 32 bits, of a limit that they hold.
+abbrev pub Held : Limit → Type 0
+Held Free = Unit {0}
+Held (Most n) = n ≤ largest
 
-pub session-back : (s : Session) → sessionIn (sessionOut s) ≡ s
-session-back s = rw (flag-back (s .agreed), flag-back (s .n), limit-back (s .limit))
+pub short-back : (l : Limit) → Held l → limitIn (limitedOf l) (shortOf l) ≡ l
+short-back Free h = refl
+short-back (Most n) h = ap Most (omega (arith, h))
+
+pub depth-back : (d : ℕ) → d ≤ absent → depthFrom (thereOf d) (valueOf d) ≡ d
+depth-back d h = go (ltb d absent) refl
+  where
+    go : (b : Bool) → ltb d absent ≡ b → depthFrom (cond b 1 0) (cond b d 0) ≡ d
+    go true e = refl
+    go false e = omega (arith, ltb-false d absent e)
+
+-- v and m of an answer, and of the session of two, are at most 256, and so is the limit.
+pub opened-back : (o : Opened) → o .v ≤ absent → o .m ≤ absent → openedIn (openedOut o) ≡ o
+opened-back o v m =
+    rw (
+      flag-back (o .srv6),
+      flag-back (o .n),
+      limit-back (o .limit),
+      flag-back (o .a),
+      flag-back (o .r),
+      depth-back (o .v) v,
+      depth-back (o .m) m,
+    )
+
+pub session-back : (s : Session) → Held (s .limit) → s .v ≤ absent → s .m ≤ absent → sessionIn (sessionOut s) ≡ s
+session-back s l v m =
+    rw (
+      flag-back (s .agreed),
+      flag-back (s .n),
+      short-back (s .limit) l,
+      flag-back (s .a),
+      flag-back (s .r),
+      depth-back (s .v) v,
+      depth-back (s .m) m,
+    )
 
 -- Any two records that fit the contract of `verdict_out` are equal.
 pub verdict-determined : (v : Verdict) (x y : VerdictRecord) → x ≡ verdictOut v → y ≡ verdictOut v → x ≡ y

@@ -1,6 +1,7 @@
-// A limit is a flag and a number. Without the flag there is none, whatever the number is.
+// A limit is a flag and a number. Without the flag there is none, whatever the number is. In a session the number has 32 bits.
+ghost use Prim.Native.Nat.{min};
 ghost use mathlib.Core.Path.{_≡_};
-ghost use Rattle.border_records.specs.Records.{limitIn, limitedOf, mostOf};
+ghost use Rattle.border_records.specs.Records.{limitIn, limitedOf, mostOf, largest, shortOf};
 use session::Limit;
 
 pub fn limit_in(limited: u8, limit: usize) -> Limit
@@ -29,5 +30,36 @@ pub fn most(limit: Limit) -> usize
     match limit {
         Limit::Free => 0,
         Limit::Most(n) => n,
+    }
+}
+
+// The largest number of 32 bits.
+const LARGEST: usize = 4294967295;
+
+pub fn short_in(limited: u8, limit: u32) -> Limit
+    ensures limit { λ r. ⌜ r ≡ limitIn limited limit ⌝ }
+{
+    if limited == 0 {
+        return Limit::Free;
+    }
+    Limit::Most(limit as usize)
+}
+
+fn cut(n: usize) -> u32
+    ensures cut { λ r. ⌜ r ≡ min n largest ⌝ }
+{
+    if n < LARGEST {
+        return n as u32;
+    }
+    4294967295
+}
+
+// The limit in 32 bits, 0 where there is none.
+pub fn short(limit: Limit) -> u32
+    ensures short { λ r. ⌜ r ≡ shortOf limit ⌝ }
+{
+    match limit {
+        Limit::Free => 0,
+        Limit::Most(n) => cut(n),
     }
 }

@@ -1,6 +1,7 @@
 // The answer to an OPEN object.
 ghost use mathlib.Core.Path.{_≡_};
 ghost use Rattle.border_records.specs.Records.{openedIn, openedOut};
+use super::depth;
 use super::flag;
 use super::limit;
 use session::Opened;
@@ -12,6 +13,12 @@ pub struct OpenedRecord {
     pub n: u8,
     pub limited: u8,
     pub limit: usize,
+    pub a: u8,
+    pub r: u8,
+    pub hasv: u8,
+    pub v: u8,
+    pub hasm: u8,
+    pub m: u8,
 }
 
 pub fn opened_in(o: OpenedRecord) -> Opened
@@ -22,6 +29,10 @@ pub fn opened_in(o: OpenedRecord) -> Opened
         srv6: flag::yes(o.srv6),
         n: flag::yes(o.n),
         limit: limit::limit_in(o.limited, o.limit),
+        a: flag::yes(o.a),
+        r: flag::yes(o.r),
+        v: depth::depth_in(o.hasv, o.v),
+        m: depth::depth_in(o.hasm, o.m),
     }
 }
 
@@ -35,5 +46,11 @@ pub fn opened_out(o: Opened) -> OpenedRecord
         n: flag::flag_of(o.n),
         limited: limit::limited(theirs),
         limit: limit::most(theirs),
+        a: flag::flag_of(o.a),
+        r: flag::flag_of(o.r),
+        hasv: depth::there(o.v),
+        v: depth::value(o.v),
+        hasm: depth::there(o.m),
+        m: depth::value(o.m),
     }
 }

@@ -4,11 +4,14 @@ use mathlib.Core.Path.{_≡_, refl, ap, _∙_}
 use mathlib.Core.List.{List, [], _∷_}
 use mathlib.Core.Bool.{Bool, true, false, cond}
 use Rattle.answers.specs.declared.verdict.Verdict.{Verdict}
+use Rattle.answers.specs.Numbers.{notUsable}
 use Rattle.answers.specs.Verdicts.{refusedBy}
 use Rattle.session.specs.declared.Session.{Session}
 use Rattle.frame.specs.Checks.{Check, firstBroken}
 use Rattle.route.specs.declared.picking.Picked.{Picked}
-use Rattle.route.specs.Routes.{judgeOf, segmentOf, checksOf, acceptanceOf}
+use Rattle.route.specs.Routes.{judgeOf, checksOf, acceptanceOf}
+use Rattle.route_limit.specs.FirstOff.{sessionFor}
+use Rattle.route_call.specs.Called.{rule28, judgedFor, segmentFor}
 use Rattle.border_records.specs.declared.verdict.VerdictRecord.{VerdictRecord}
 use Rattle.border_records.specs.declared.agreement.SessionRecord.{SessionRecord}
 use Rattle.border_records.specs.Records.{isYes, sessionIn, verdictOut}
@@ -29,26 +32,31 @@ counted (c ∷ cs) after d =
     let e = counted-at (c .broken) (c .number) (c .place) (firstBroken cs after) d in
     e ∙ counted cs after (λ z. d (ap (λ (v : Verdict). v .count) e ∙ z))
 
-module _ (s : List ℕ) (ero : ℕ) (session : SessionRecord) (k : Bool) (g : Session) (f : k ≡ isYes ero) (h : g ≡ sessionIn session) where
+module _ (s addresses : List ℕ) (ero : ℕ) (session : SessionRecord) (k : Bool) (g : Session) (f : k ≡ isYes ero) (h : g ≡ sessionIn session) where
   -- What is asked of the call below is what is asked at the border.
   same : {A : Type 0} (answer : Bool → Session → A) → answer k g ≡ answer (isYes ero) (sessionIn session)
   same answer = rw (f, h)
 
-  pub judge-told : (pst : ℕ) (v : Verdict) (r : VerdictRecord) → v ≡ judgeOf s k g pst → r ≡ verdictOut v
-      → r ≡ verdictOut (judgeOf s (isYes ero) (sessionIn session) pst)
-  judge-told pst v r e o = o ∙ ap verdictOut (e ∙ same (λ (x : Bool) (y : Session). judgeOf s x y pst))
+  pub judge-told : (pst : ℕ) (v : Verdict) (r : VerdictRecord) → v ≡ judgedFor s k g pst addresses → r ≡ verdictOut v
+      → r ≡ verdictOut (judgedFor s (isYes ero) (sessionIn session) pst addresses)
+  judge-told pst v r e o = o ∙ ap verdictOut (e ∙ same (λ (x : Bool) (y : Session). judgedFor s x y pst addresses))
 
-  accepted : (pst : ℕ) (v : Verdict) → v ≡ judgeOf s k g pst → (v .count ≡ 0 → ⊥) → record { number = 0; place = 0; count = v .count; stray = v .stray } ≡ verdictOut v
-  unfolding judgeOf
-  accepted pst v e d = rw (e ∙ counted (checksOf s k g pst) (acceptanceOf s k) (λ z. d (ap (λ (x : Verdict). x .count) e ∙ z)))
+  accepted : (pst : ℕ) (v : Verdict) → v ≡ judgedFor s k g pst addresses → (v .count ≡ 0 → ⊥)
+      → record { number = 0; place = 0; count = v .count; stray = v .stray } ≡ verdictOut v
+  unfolding judgedFor judgeOf
+  accepted pst v e d =
+      let under = sessionFor s k g addresses in
+      let judged = firstBroken (checksOf s k under pst) (acceptanceOf s k) in
+      let f = e ∙ counted-at (rule28 addresses) notUsable 0 judged (λ z. d (ap (λ (x : Verdict). x .count) e ∙ z)) in
+      rw (f ∙ counted (checksOf s k under pst) (acceptanceOf s k) (λ z. d (ap (λ (x : Verdict). x .count) f ∙ z)))
 
-  pub judge-counted : (pst : ℕ) (v : Verdict) → v ≡ judgeOf s k g pst → (v .count ≡ 0 → ⊥)
-      → record { number = 0; place = 0; count = v .count; stray = v .stray } ≡ verdictOut (judgeOf s (isYes ero) (sessionIn session) pst)
+  pub judge-counted : (pst : ℕ) (v : Verdict) → v ≡ judgedFor s k g pst addresses → (v .count ≡ 0 → ⊥)
+      → record { number = 0; place = 0; count = v .count; stray = v .stray } ≡ verdictOut (judgedFor s (isYes ero) (sessionIn session) pst addresses)
   judge-counted pst v e d = judge-told pst v _ e (accepted pst v e d)
 
-  pub segment-told : (pst i : ℕ) (p : Picked) (r : PickedRecord) → p ≡ segmentOf s k g pst i → r ≡ pickedOut p
-      → r ≡ pickedOut (segmentOf s (isYes ero) (sessionIn session) pst i)
-  segment-told pst i p r e o = o ∙ ap pickedOut (e ∙ same (λ (x : Bool) (y : Session). segmentOf s x y pst i))
+  pub segment-told : (pst i : ℕ) (p : Picked) (r : PickedRecord) → p ≡ segmentFor s k g pst addresses i → r ≡ pickedOut p
+      → r ≡ pickedOut (segmentFor s (isYes ero) (sessionIn session) pst addresses i)
+  segment-told pst i p r e o = o ∙ ap pickedOut (e ∙ same (λ (x : Bool) (y : Session). segmentFor s x y pst addresses i))
 
 pub step-told : (s : List ℕ) (ero at : ℕ) (k : Bool) (x : Stepped) (r : SteppedRecord) → k ≡ isYes ero → x ≡ stepOf s k at → r ≡ steppedOut x
     → r ≡ steppedOut (stepOf s (isYes ero) at)

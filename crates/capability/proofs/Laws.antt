@@ -1,23 +1,27 @@
 -- Laws of the octet-by-octet loop, in the order of the definitions.
-use Prim.Native.Nat.{ℕ, _+_, _≤_, _<_}
+use Prim.Native.Nat.{ℕ, _+_, _/_, _%_, _≤_, _<_}
 use native.Mathlib.Numerals.{add-one}
-use mathlib.Core.Path.{_≡_, refl}
+use mathlib.Core.Path.{_≡_, refl, sym, ap, _∙_}
 use mathlib.Core.Logic.{_↔_, _⊎_, inl, inr, ⊎-elim}
 use mathlib.Core.List.{List, []}
 use mathlib.Core.Bool.{Bool, true, false, cond, _&&_, false≢true}
 use lib.ListN.{length, getD, take, drop, drop-of-length-le}
 use lib.Seq.{drop-cons}
-use lib.Dec.{leb}
+use lib.Dec.{eqb, leb}
 use borrow.Author.Tests.{eq-eqb, ne-eqb, leb-true}
 use Rattle.answers.proofs.Determined.{determined}
+use Rattle.positions.specs.declared.Setup.{Setup}
+use Rattle.session.specs.declared.Limit.{Limit}
 use Rattle.session.specs.declared.Limit.the-variants.{Free}
 use Rattle.session.specs.declared.Opened.{Opened}
-use Rattle.msd.specs.Msd.{maxSegmentsLeft, maxHEncaps}
-use Rattle.msd_limit.specs.Limits.{limitIn, present, onlyEnds}
+use Rattle.session.specs.Sessions.{openCarries}
+use Rattle.msd.specs.declared.Gathered.{Gathered}
+use Rattle.msd.specs.Msd.{maxSegmentsLeft, maxHEncaps, wrongPairs, smallestOf, numberOf, depthIn, Stands, gatheredOf}
+use Rattle.msd_limit.specs.Limits.{limitBy, limitIn, present, onlyEnds}
 use Rattle.msd_limit.proofs.Theorems.{free-exactly, only-ends-limit-nothing}
-use Rattle.octets.specs.Octets.{part}
+use Rattle.octets.specs.Octets.{octetOf, part}
 use Rattle.capability.specs.SetupTypes.{typesAt, typeCount, hasOf, listSize, listsType}
-use Rattle.capability.specs.Srv6.{xOf, pairsOf, hEncapsOf, segmentsLeftOf, limitOf, announcedOf}
+use Rattle.capability.specs.Srv6.{flagsAt, sizedOf, nOf, xOf, aOf, rOf, pairsOf, wrongOf, hEncapsOf, segmentsLeftOf, limitOf, announcedOf}
 
 -- tests --------------------------------------------------------------------------------------------------------
 
@@ -64,6 +68,30 @@ module _ (w : List ℕ) where
       go true = refl
       go false = only-ends-limit-nothing (pairsOf w) e
 
+-- what sub-TLV 27 announces --------------------------------------------------------------------------------------
+
+module _ (p : Setup) (w : List ℕ) where
+  -- X and N as the code reads them.
+  x-told : (flags : ℕ) (x : Bool) → flags ≡ octetOf w flagsAt → eqb (flags / 1 % 2) 1 ≡ x → xOf w ≡ x
+  unfolding xOf
+  x-told flags x e f = rw (← e) f
+
+  n-told : (flags : ℕ) → flags ≡ octetOf w flagsAt → eqb (flags / 2 % 2) 1 ≡ nOf w
+  unfolding nOf
+  n-told flags e = rw e
+
+  -- The last way out of the code: X is 0 and no pair is wrong.
+  pub announced-pairs : (flags : ℕ) (a r : Bool) (g : Gathered) (l : Limit) {o : Opened} → flags ≡ octetOf w flagsAt → sizedOf w ≡ true
+      → eqb (flags / 1 % 2) 1 ≡ false → wrongPairs (pairsOf w) ≡ false → a ≡ aOf p w → r ≡ rOf p w → g ≡ gatheredOf (pairsOf w)
+      → Stands (g .encaps) (g .left) (pairsOf w) → l ≡ limitBy (depthIn (g .encaps)) (depthIn (g .left))
+      → o ≡ openCarries true (eqb (flags / 2 % 2) 1) l a r (g .encaps) (g .left) → o ≡ announcedOf p w
+  unfolding announcedOf wrongOf limitOf hEncapsOf segmentsLeftOf
+  announced-pairs flags a r g l e s x none f h k t m o =
+      let v : g .encaps ≡ numberOf (smallestOf maxHEncaps (pairsOf w)) = rw (k, none) in
+      let n : g .left ≡ numberOf (smallestOf maxSegmentsLeft (pairsOf w)) = rw (k, none) in
+      let limit = rw (t .0, t .1) at m in
+      o ∙ rw (s, x-told flags false e x, none, n-told flags e, f, h, limit, v, n)
+
 -- Any two answers that fit the contract of a call are equal ----------------------------------------------------
 
 pub list_size-determined : (v : List ℕ) {x y : ℕ} → x ≡ listSize v → y ≡ listSize v → x ≡ y
@@ -72,5 +100,5 @@ list_size-determined v = determined
 pub lists-determined : (kind : ℕ) (v : List ℕ) {x y : Bool} → x ≡ listsType kind v → y ≡ listsType kind v → x ≡ y
 lists-determined kind v = determined
 
-pub announced-determined : (w : List ℕ) {x y : Opened} → x ≡ announcedOf w → y ≡ announcedOf w → x ≡ y
-announced-determined w = determined
+pub announced-determined : (p : Setup) (w : List ℕ) {x y : Opened} → x ≡ announcedOf p w → y ≡ announcedOf p w → x ≡ y
+announced-determined p w = determined

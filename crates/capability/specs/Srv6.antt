@@ -5,19 +5,24 @@ use mathlib.Core.Bool.{Bool, true, cond, not, _&&_}
 use mathlib.Core.Option.{Option}
 use lib.ListN.{length, drop}
 use lib.Dec.{eqb, leb}
-use Rattle.octets.specs.Octets.{octetOf}
+use Rattle.octets.specs.Octets.{octetOf, be16}
 use Rattle.answers.specs.Numbers.{openMalformed, wrongMsd}
+use Rattle.positions.specs.declared.Setup.{Setup}
+use Rattle.positions.specs.Positions.{flagAt}
 use Rattle.session.specs.declared.Limit.{Limit}
 use Rattle.session.specs.declared.Opened.{Opened}
 use Rattle.session.specs.Sessions.{openRefused, openCarries}
-use Rattle.msd.specs.Msd.{maxSegmentsLeft, maxHEncaps, Pair, pairsIn, wrongPairs, smallestOf}
+use Rattle.msd.specs.Msd.{maxSegmentsLeft, maxHEncaps, Pair, pairsIn, wrongPairs, smallestOf, numberOf}
 use Rattle.msd_limit.specs.Limits.{limitBy}
 
 -- The type of the sub-TLV.
 abbrev pub srv6Capability : ℕ
 srv6Capability = 27
 
--- The places of the second flag octet and of the first pair.
+-- The places of the flag octets, of the second of them, and of the first pair.
+abbrev pub bothFlagsAt : ℕ
+bothFlagsAt = 2
+
 abbrev pub flagsAt : ℕ
 flagsAt = 3
 
@@ -37,6 +42,13 @@ nOf w = flagIn 2 w
 
 unfoldable pub xOf : List ℕ → Bool
 xOf w = flagIn 1 w
+
+-- A and R, at their positions among the 16 flags (document 02, C-15).
+unfoldable pub aOf : Setup → List ℕ → Bool
+aOf p w = flagAt (p .a) (be16 w bothFlagsAt)
+
+unfoldable pub rOf : Setup → List ℕ → Bool
+rOf p w = flagAt (p .r) (be16 w bothFlagsAt)
 
 abbrev pub pairsOf : List ℕ → List Pair
 pairsOf w = pairsIn (drop pairsAt w)
@@ -60,11 +72,11 @@ unfoldable pub limitOf : List ℕ → Limit
 limitOf w = limitBy (hEncapsOf w) (segmentsLeftOf w)
 
 -- What the value of sub-TLV 27 carries where none of its rules is broken.
-abbrev pub carriesBy : List ℕ → Opened
-carriesBy w = openCarries true (nOf w) (limitOf w)
+abbrev pub carriesBy : Setup → List ℕ → Opened
+carriesBy p w = openCarries true (nOf w) (limitOf w) (aOf p w) (rOf p w) (numberOf (hEncapsOf w)) (numberOf (segmentsLeftOf w))
 
 -- What a side that lists type 3 announces by the value of sub-TLV 27, in the order 1, 3.
-unfoldable pub announcedOf : List ℕ → Opened
-announcedOf w =
+unfoldable pub announcedOf : Setup → List ℕ → Opened
+announcedOf p w =
     cond (not (sizedOf w)) (openRefused openMalformed)
-    (cond (wrongOf w) (openRefused wrongMsd) (carriesBy w))
+    (cond (wrongOf w) (openRefused wrongMsd) (carriesBy p w))

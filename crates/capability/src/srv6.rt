@@ -1,5 +1,5 @@
 // Sub-TLV 27 holds 2 reserved octets, 2 flag octets, then pairs of MSD type and MSD value.
-// N is the bit worth 2 and X the bit worth 1 of the second flag octet.
+// N is the bit worth 2 and X the bit worth 1 of the second flag octet; A and R stand at the positions of set-up.
 //
 // It must have an even length of at least 4: else 1. X is 0 and a pair's type is unknown: 3.
 // With X set the pairs are not looked at, and there is no limit.
@@ -7,13 +7,17 @@ ghost use mathlib.Core.Path.{_≡_};
 ghost use Rattle.capability.specs.Srv6.{announcedOf};
 use answers::OPEN_MALFORMED;
 use answers::WRONG_MSD;
+use msd::ABSENT;
+use positions::Setup;
 use session::Limit;
 use session::Opened;
 
 // The type of the sub-TLV.
 pub const SRV6_CAPABILITY: usize = 27;
 
-// The place of the second flag octet, and what N and X are worth in it.
+// The places of the two flag octets, and what N and X are worth in the second.
+const BOTH_FLAGS: usize = 2;
+
 const FLAGS: usize = 3;
 
 const N: usize = 2;
@@ -24,20 +28,25 @@ const X: usize = 1;
 const PAIRS: usize = 4;
 
 // What a side that lists setup type 3 announces by the value of its sub-TLV 27.
-pub fn announced(w: &[u8]) -> Opened
-    ensures announced { λ r. ⌜ r ≡ announcedOf (now (w .entry)) ⌝ }
+pub fn announced(p: Setup, w: &[u8]) -> Opened
+    ensures announced { λ r. ⌜ r ≡ announcedOf p (now (w .entry)) ⌝ }
 {
     if !octets::both(w.len() % 2 == 0, PAIRS <= w.len()) {
         return session::refused_open(OPEN_MALFORMED);
     }
     let flags = octets::octet(w, FLAGS);
     let n = flags / N % 2 == 1;
+    let all = octets::read16(w, BOTH_FLAGS);
+    let a = positions::flag(all, p.a);
+    let r = positions::flag(all, p.r);
     if flags / X % 2 == 1 {
-        return session::carried(true, n, Limit::Free);
+        return session::carried(true, n, Limit::Free, a, r, ABSENT, ABSENT);
     }
     let pairs = msd::gather(&w[PAIRS..]);
     if pairs.wrong {
         return session::refused_open(WRONG_MSD);
     }
-    session::carried(true, n, msd_limit::limit(pairs.encaps, pairs.left))
+    let v = pairs.encaps;
+    let m = pairs.left;
+    session::carried(true, n, msd_limit::limit(v, m), a, r, v, m)
 }

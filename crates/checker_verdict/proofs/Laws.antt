@@ -2,16 +2,24 @@
 use Prim.Native.Nat.{ℕ}
 use mathlib.Core.Path.{_≡_, refl, sym, _∙_}
 use mathlib.Core.Bool.{true}
-use mathlib.Core.List.{List}
+use mathlib.Core.List.{List, []}
 use borrow.Author.Tests.{eq-eqb, ne-eqb}
 use Rattle.objects.specs.Objects.{srv6Setup}
 use Rattle.answers.proofs.Determined.{determined}
 use Rattle.answers.specs.declared.verdict.Verdict.{Verdict}
 use Rattle.answers.specs.Verdicts.{refusedBy}
+use Rattle.positions.specs.declared.Setup.{Setup}
+use Rattle.positions.specs.Positions.{firstTwo}
+use Rattle.open.specs.Open.{openOf}
 use Rattle.session.specs.declared.Opened.{Opened}
+use Rattle.session.specs.declared.Session.{Session}
 use Rattle.session.specs.Sessions.{sessionOf}
-use Rattle.route.specs.Routes.{judgeOf}
+use Rattle.route_call.specs.Called.{judgedFor}
 use Rattle.checker_verdict.specs.Checking.{pccOf, pceOf, eroOf, checkedOf}
+
+-- An OPEN read at the positions 0 and 1, of octets that were cut off.
+pub opened-told : {p : Setup} {x y : List ℕ} {o : Opened} → p ≡ firstTwo → x ≡ y → o ≡ openOf p x → o ≡ openOf firstTwo y
+opened-told e f g = g ∙ (λ i. openOf (e i) (f i))
 
 module _ (s : List ℕ) where
   pub pcc-refused : (o : Opened) → o ≡ pccOf s → (o .number ≡ 0 → ⊥) → refusedBy (o .number) 0 ≡ checkedOf s
@@ -22,10 +30,11 @@ module _ (s : List ℕ) where
   unfolding checkedOf
   pce-refused o p e h f k = rw (← e, ← f, eq-eqb (o .number) 0 h, ne-eqb (p .number) 0 k)
 
-  pub ero-judged : (o p : Opened) → o ≡ pccOf s → o .number ≡ 0 → p ≡ pceOf s → p .number ≡ 0
-      → judgeOf (eroOf s) true (sessionOf o p) srv6Setup ≡ checkedOf s
+  pub ero-judged : (o p : Opened) (g : Session) (x : List ℕ) {v : Verdict} → o ≡ pccOf s → o .number ≡ 0 → p ≡ pceOf s → p .number ≡ 0 → g ≡ sessionOf o p
+      → x ≡ eroOf s → v ≡ judgedFor x true g srv6Setup [] → v ≡ checkedOf s
   unfolding checkedOf
-  ero-judged o p e h f k = rw (← e, ← f, eq-eqb (o .number) 0 h, eq-eqb (p .number) 0 k)
+  ero-judged o p g x e h f k a b j =
+      j ∙ (λ i. judgedFor (b i) true (a i) srv6Setup []) ∙ rw (← e, ← f, eq-eqb (o .number) 0 h, eq-eqb (p .number) 0 k)
 
   -- Of any two answers that fit the contract, equality.
   pub check-determined : {a b : Verdict} → a ≡ checkedOf s → b ≡ checkedOf s → a ≡ b

@@ -37,6 +37,8 @@ rows =
     record { name = ascii "mark"; verb = v.Mark } ∷
     record { name = ascii "board"; verb = v.Board } ∷
     record { name = ascii "chain"; verb = v.Chain } ∷
+    record { name = ascii "positions"; verb = v.Positions } ∷
+    record { name = ascii "addresses"; verb = v.Addresses } ∷
     []
 
 -- The command of the first row that has this name; `Bad` where none has it.
@@ -115,6 +117,8 @@ kindsOf v.Next = number ∷ number ∷ []
 kindsOf v.Mark = []
 kindsOf v.Board = []
 kindsOf v.Chain = []
+kindsOf v.Positions = number ∷ number ∷ []
+kindsOf v.Addresses = octets ∷ []
 
 -- Words i, i + 1, .. are of these kinds.
 abbrev pub fitFrom : List Kind → List ℕ → ℕ → Bool

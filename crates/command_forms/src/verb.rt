@@ -31,6 +31,8 @@ pub enum Verb {
     Mark,
     Board,
     Chain,
+    Positions,
+    Addresses,
 }
 
 pub const ERO: [u8; 3] = *b"ero";
@@ -39,7 +41,7 @@ pub const RRO: [u8; 3] = *b"rro";
 
 // The letters: n a number, 1 one of 0 or 1, 8 of 0 to 255, 6 of 0 to 65,535, z a size, o octets, e `ero` or `rro`,
 // s a SID, a a NAI, t a structure.
-pub const ROWS: [u8; 152] = *b"\
+pub const ROWS: [u8; 177] = *b"\
 pcc o\n\
 pce o\n\
 ero no\n\
@@ -57,7 +59,9 @@ body n\n\
 next nn\n\
 mark\n\
 board\n\
-chain";
+chain\n\
+positions nn\n\
+addresses o";
 
 // The place of the row that has this name, from 0; behind the last where none has it.
 pub fn place_named(w: &[u8]) -> usize
@@ -99,6 +103,8 @@ pub fn verb_at(place: usize) -> Verb
         15 => Verb::Mark,
         16 => Verb::Board,
         17 => Verb::Chain,
+        18 => Verb::Positions,
+        19 => Verb::Addresses,
         _ => Verb::Bad,
     }
 }

@@ -3,12 +3,14 @@ use Prim.Native.Nat.{ℕ, zero, suc, _+_, _/_, _%_, _<_}
 use mathlib.Core.Path.{_≡_, refl, sym, _∙_, ap}
 use mathlib.Core.Bool.{Bool, true, false, cond, _&&_}
 use mathlib.Core.List.{List, [], _∷_, _++_, append-assoc}
+use mathlib.Core.Option.{Option, none, some}
 use lib.Dec.{eqb, ltb}
 use lib.ListN.{take, getD}
 use native.Mathlib.Omega.{arith}
 use borrow.Author.Tests.{lt-ltb}
 use Rattle.octets.proofs.Said.{both-true}
 use Rattle.answers.specs.declared.verdict.Verdict.{Verdict}
+use Rattle.msd.specs.Msd.{depthIn}
 use Rattle.session.specs.declared.Limit.{Limit}
 use Rattle.session.specs.declared.Limit.the-variants.{Free, Most}
 use Rattle.session.specs.declared.Opened.{Opened}
@@ -23,7 +25,7 @@ use Rattle.board_by_value.specs.ByValue.{bodyNumberOn, bodyOn, nextOn, freshMar
 use Rattle.printing.specs.Text.{spell, decimalOf, glyphOf, hexOf, octetsText, furtherText, listText}
 use Rattle.words.specs.Words.{newline, space, comma, ascii}
 use Rattle.console_lines.specs.Lines.{lineOf, acceptance, refusalLine, badLine, doneLine, oneLine, twoLine, octetsLine, listLine}
-use Rattle.console_fields.specs.Shown.{bitOf, limitText, openLine, openedLine, structureText, strayWords, segmentLine}
+use Rattle.console_fields.specs.Shown.{bitOf, limitText, depthText, openLine, openedLine, structureText, strayWords, segmentLine}
 use Rattle.command_forms.specs.declared.verb.Verb.{Verb}
 use Rattle.command_forms.specs.declared.verb.Verb.the-variants as v
 use Rattle.command.specs.declared.Command.{Command}
@@ -106,6 +108,11 @@ unfolding clear
 clear-limit Free = refl
 clear-limit (Most n) = clear-decimal n
 
+clear-depth : (d : Option ℕ) → clear (depthText d) ≡ true
+unfolding clear
+clear-depth none = refl
+clear-depth (some v) = clear-decimal v
+
 clear-comma : (n : ℕ) (t : List ℕ) → clear t ≡ true → clear (decimalOf n ++ (comma ∷ t)) ≡ true
 clear-comma n t h = clear-append (decimalOf n) (comma ∷ t) (clear-decimal n) (clear-cons comma t (omega arith) h)
 
@@ -169,7 +176,11 @@ list-one : (s : List ℕ) → OneLine (listLine s)
 list-one s = accepted-one (listText s ∷ []) (all-cons (listText s) [] (clear-list s) all-none)
 
 open-one : (o : Opened) → OneLine (openLine o)
-open-one o = accepted-one _ (numbers-clear (bitOf (o .srv6)) (bitOf (o .n)) (limitText (o .limit) ∷ []) (all-cons (limitText (o .limit)) [] (clear-limit (o .limit)) all-none))
+open-one o =
+    let v = depthText (depthIn (o .v)) in
+    let m = depthText (depthIn (o .m)) in
+    accepted-one _ (numbers-clear (bitOf (o .srv6)) (bitOf (o .n)) _ (all-cons (limitText (o .limit)) _ (clear-limit (o .limit))
+    (numbers-clear (bitOf (o .a)) (bitOf (o .r)) (v ∷ m ∷ []) (all-cons v (m ∷ []) (clear-depth (depthIn (o .v))) (all-cons m [] (clear-depth (depthIn (o .m))) all-none)))))
 
 opened-one : (o : Opened) → OneLine (openedLine o)
 opened-one o = go (eqb (o .number) 0) where
@@ -226,8 +237,8 @@ by-verb-one : (w : Verb) → (w ≡ v.Skip → ⊥) → (k : Console) (c : Comma
 unfolding routeLine segmentAnswer finishLine bodyLine nextLine
 by-verb-one v.Skip h k c line n = absurd (h refl)
 by-verb-one v.Bad h k c line n = bad-one n
-by-verb-one v.Pcc h k c line n = opened-one (openIn line)
-by-verb-one v.Pce h k c line n = opened-one (openIn line)
+by-verb-one v.Pcc h k c line n = opened-one (openIn (k .positions) line)
+by-verb-one v.Pce h k c line n = opened-one (openIn (k .positions) line)
 by-verb-one v.Ero h k c line n = count-one _
 by-verb-one v.Rro h k c line n = count-one _
 by-verb-one v.EroSegment h k c line n = picked-one _
@@ -244,6 +255,8 @@ by-verb-one v.Next h k c line n = handed-one (k .store) (nextOn (k .board) (k .s
 by-verb-one v.Mark h k c line n = two-one (freshMarkOn (k .board) .s) (freshMarkOn (k .board) .w)
 by-verb-one v.Board h k c line n = two-one (k .board .version) (k .board .floor)
 by-verb-one v.Chain h k c line n = list-one (chainOf (k .board .order))
+by-verb-one v.Positions h k c line n = accepted-one [] all-none
+by-verb-one v.Addresses h k c line n = accepted-one [] all-none
 
 pub turn-one : (k : Console) (line : List ℕ) (n : ℕ) → (commandOf line .verb ≡ v.Skip → ⊥) → OneLine (turnOf k line n .answer)
 unfolding turnOf

@@ -22,12 +22,12 @@ pub record Boarding : Type 0 where
   pub store : List ℕ
   pub answer : List ℕ
 
--- `report KEY PST OCTETS`: "reports a path to the board"; `0 0 COUNT STRAY`
-abbrev pub reportTurn : Board → List ℕ → Session → Command → List ℕ → Boarding
-reportTurn b store session c line = record {
-  board = reportOn b store (c .one) (octetsIn line 3) session (c .two) .board;
-  store = reportStoreOn b store (c .one) (octetsIn line 3) session (c .two);
-  answer = countLine (reportOn b store (c .one) (octetsIn line 3) session (c .two) .verdict);
+-- `report KEY PST OCTETS`: "reports a path to the board"; `0 0 COUNT STRAY`. The head end's addresses are those set by `addresses`.
+abbrev pub reportTurn : Board → List ℕ → Session → List ℕ → Command → List ℕ → Boarding
+reportTurn b store session addresses c line = record {
+  board = reportOn b store (c .one) (octetsIn line 3) session (c .two) addresses .board;
+  store = reportStoreOn b store (c .one) (octetsIn line 3) session (c .two) addresses;
+  answer = countLine (reportOn b store (c .one) (octetsIn line 3) session (c .two) addresses .verdict);
 }
 
 -- `remove KEY`; `0 0`

@@ -3,10 +3,12 @@ ghost use Prim.Native.Nat.{_*_, _≤_};
 ghost use mathlib.Core.Path.{_≡_};
 ghost use lib.ListN.{length};
 ghost use Rattle.printing.specs.Text.{Behind};
+ghost use Rattle.console_state.specs.Standing.{listIn};
 ghost use Rattle.console_board.specs.Boarding.{reportTurn, removeTurn, compactTurn};
 use board_record::Board;
 use command::Command;
 use command::octets_at;
+use console_state::listed;
 use session::Session;
 
 // The board after a command, and the end of the line in the buffer.
@@ -22,16 +24,19 @@ pub fn reported(
     c: Command,
     session: Session,
     store: &mut [u8],
+    memory: &[u8],
+    given: usize,
     room: &mut [u8],
     out: &mut [u8],
 ) -> Boarded
     requires { ⌜ (length (now line) ≤ 2 * length (now room)) × (128 ≤ length (now out)) ⌝ }
-    ensures board { λ r. ⌜ r .board ≡ reportTurn b (now (store .entry)) session c (now (line .entry)) .board ⌝ }
-    ensures store { λ r. ⌜ now (store .exit) ≡ reportTurn b (now (store .entry)) session c (now (line .entry)) .store ⌝ }
-    ensures told { λ r. ⌜ Behind (now (out .entry)) (now (out .exit)) 0 (r .end) (reportTurn b (now (store .entry)) session c (now (line .entry)) .answer) ⌝ }
+    ensures board { λ r. ⌜ r .board ≡ reportTurn b (now (store .entry)) session (listIn given (now (memory .entry))) c (now (line .entry)) .board ⌝ }
+    ensures store { λ r. ⌜ now (store .exit) ≡ reportTurn b (now (store .entry)) session (listIn given (now (memory .entry))) c (now (line .entry)) .store ⌝ }
+    ensures told { λ r. ⌜ Behind (now (out .entry)) (now (out .exit)) 0 (r .end) (reportTurn b (now (store .entry)) session (listIn given (now (memory .entry))) c (now (line .entry)) .answer) ⌝ }
 {
     let n = octets_at(line, 3, room);
-    let a = board_by_value::report(b, store, c.one, &room[..n], session, c.two);
+    let list = listed(memory, given);
+    let a = board_by_value::report(b, store, c.one, &room[..n], session, c.two, list);
     let v = a.verdict;
     let after = a.board;
     Boarded {

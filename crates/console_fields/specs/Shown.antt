@@ -1,10 +1,12 @@
 -- What an OPEN carries and what a segment says, as lines (console.md, the table's last column).
 use Prim.Native.Nat.{ℕ}
 use mathlib.Core.Bool.{Bool, true, false, cond}
+use mathlib.Core.Option.{Option, none, some}
 use mathlib.Core.List.{List, [], _∷_, _++_}
 use lib.Dec.{eqb}
 use lib.ListN.{getD, take}
 use Rattle.words.specs.Words.{comma, dash}
+use Rattle.msd.specs.Msd.{depthIn}
 use Rattle.session.specs.declared.Limit.{Limit}
 use Rattle.session.specs.declared.Limit.the-variants.{Free, Most}
 use Rattle.session.specs.declared.Opened.{Opened}
@@ -14,7 +16,7 @@ use Rattle.subobject.specs.Layout.{naiLength}
 use Rattle.printing.specs.Text.{decimalOf, octetsText}
 use Rattle.console_lines.specs.Lines.{acceptance, refusalLine}
 
--- the octets that the line of a segment takes at most
+-- the octets that the line of an OPEN or of a segment takes at most
 abbrev pub long : ℕ
 long = 512
 
@@ -27,9 +29,18 @@ abbrev pub limitText : Limit → List ℕ
 limitText Free = dash ∷ []
 limitText (Most n) = decimalOf n
 
--- `0 0 SRV6 N LIMIT`
+abbrev pub depthText : Option ℕ → List ℕ
+depthText none = dash ∷ []
+depthText (some v) = decimalOf v
+
+-- `A R V M`, "V and M numbers or `-`"
+abbrev pub flagWords : Opened → List (List ℕ)
+flagWords o = decimalOf (bitOf (o .a)) ∷ decimalOf (bitOf (o .r)) ∷ depthText (depthIn (o .v)) ∷ depthText (depthIn (o .m)) ∷ []
+
+-- `0 0 SRV6 N LIMIT A R V M`
 abbrev pub openLine : Opened → List ℕ
-openLine o = acceptance (decimalOf (bitOf (o .srv6)) ∷ decimalOf (bitOf (o .n)) ∷ limitText (o .limit) ∷ [])
+openLine o =
+    acceptance (decimalOf (bitOf (o .srv6)) ∷ decimalOf (bitOf (o .n)) ∷ limitText (o .limit) ∷ flagWords o)
 
 -- An OPEN's answer, a refusal too.
 abbrev pub openedLine : Opened → List ℕ

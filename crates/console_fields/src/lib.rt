@@ -6,10 +6,12 @@ ghost use mathlib.Core.Bool.{cond, true};
 ghost use lib.ListN.{length, take};
 ghost use Rattle.subobject.specs.Layout.{naiLength};
 ghost use Rattle.printing.specs.Text.{Behind, spaced, octetsText};
+ghost use Rattle.msd.specs.Msd.{depthIn};
 ghost use Rattle.console_lines.specs.Lines.{short, furtherWords};
-ghost use Rattle.console_fields.specs.Shown.{long, bitOf, limitText, openLine, openedLine, structureText, strayWords, segmentLine};
+ghost use Rattle.console_fields.specs.Shown.{long, bitOf, limitText, depthText, flagWords, openLine, openedLine, structureText, strayWords, segmentLine};
 use console_lines::ACCEPTED;
 use console_lines::END;
+use msd::ABSENT;
 use session::Limit;
 use session::Opened;
 use subobject::SID_LENGTH;
@@ -42,25 +44,50 @@ fn limit_field(out: &mut [u8], at: usize, limit: Limit) -> usize
     }
 }
 
-// `0 0 SRV6 N LIMIT`
+// A space and a number, or `-`.
+fn depth_field(out: &mut [u8], at: usize, d: usize) -> usize
+    requires { ⌜ at + 21 ≤ length (now out) ⌝ }
+    ensures behind { λ r. ⌜ Behind (now (out .entry)) (now (out .exit)) at r (spaced (depthText (depthIn d))) ⌝ }
+    ensures short { λ r. ⌜ r ≤ at + 21 ⌝ }
+{
+    if ABSENT <= d {
+        return printing::push(out, at, &NONE);
+    }
+    printing::field(out, at, d as u64)
+}
+
+// ` A R V M`, and the end of the line.
+fn flags_end(out: &mut [u8], at: usize, o: Opened) -> usize
+    requires { ⌜ at + 128 ≤ length (now out) ⌝ }
+    ensures behind { λ r. ⌜ Behind (now (out .entry)) (now (out .exit)) at r (furtherWords (flagWords o)) ⌝ }
+    ensures short { λ r. ⌜ r ≤ at + 128 ⌝ }
+{
+    let end = printing::field(out, at, bit(o.a));
+    let end = printing::field(out, end, bit(o.r));
+    let end = depth_field(out, end, o.v);
+    let end = depth_field(out, end, o.m);
+    printing::push(out, end, &END)
+}
+
+// `0 0 SRV6 N LIMIT A R V M`
 fn carried(out: &mut [u8], o: Opened) -> usize
-    requires { ⌜ short ≤ length (now out) ⌝ }
+    requires { ⌜ long ≤ length (now out) ⌝ }
     ensures told { λ r. ⌜ Behind (now (out .entry)) (now (out .exit)) 0 r (openLine o) ⌝ }
-    ensures within { λ r. ⌜ r ≤ short ⌝ }
+    ensures within { λ r. ⌜ r ≤ long ⌝ }
 {
     let at = printing::push(out, 0, &ACCEPTED);
     let at = printing::field(out, at, bit(o.srv6));
     let at = printing::field(out, at, bit(o.n));
     let limit = o.limit;
     let at = limit_field(out, at, limit);
-    printing::push(out, at, &END)
+    flags_end(out, at, o)
 }
 
 // An OPEN's answer, a refusal too.
 pub fn opened(out: &mut [u8], o: Opened) -> usize
-    requires { ⌜ short ≤ length (now out) ⌝ }
+    requires { ⌜ long ≤ length (now out) ⌝ }
     ensures told { λ r. ⌜ Behind (now (out .entry)) (now (out .exit)) 0 r (openedLine o) ⌝ }
-    ensures within { λ r. ⌜ r ≤ short ⌝ }
+    ensures within { λ r. ⌜ r ≤ long ⌝ }
 {
     if o.number != 0 {
         return console_lines::refusal(out, o.number, 0);

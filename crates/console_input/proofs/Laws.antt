@@ -201,5 +201,6 @@ still-ready p a b c d e h = record {
     buffer = omega (arith, p .rooms .buffer);
     stored = omega (arith, p .rooms .stored);
     lent = omega (arith, p .rooms .lent);
+    listed = omega (arith, p .rooms .listed);
   };
 }

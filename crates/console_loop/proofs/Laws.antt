@@ -5,7 +5,7 @@ use mathlib.Core.List.{List, [], _∷_, _++_}
 use lib.ListN.{length, drop, drop-of-length-le}
 use Rattle.words.specs.Words.{newline}
 use Rattle.console_state.specs.declared.state.State.{State}
-use Rattle.console_state.specs.Standing.{stateAtStart, storeAtStart}
+use Rattle.console_state.specs.Standing.{stateAtStart, storeAtStart, writerPart, listIn}
 use Rattle.console_input.proofs.Portions.{hear-append}
 use Rattle.console_input.specs.Hearing.{Dialogue, heardAtStart, heardOf, hearAll, lineEnded}
 use Rattle.console_loop.specs.Reached.{Reached}
@@ -30,4 +30,5 @@ heard-all g read at h = rw (drop-of-length-le read h)
 
 pub start-made : {s : State} {store : List ℕ} (line memory : List ℕ) → s ≡ stateAtStart → store ≡ storeAtStart
     → heardOf (record { state = s; kept = 0; lines = 0 }) line store memory ≡ heardAtStart
+unfolding writerPart listIn
 start-made line memory p q = rw (p, q)

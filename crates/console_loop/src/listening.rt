@@ -18,6 +18,9 @@ const KEPT: usize = LONGEST + 1;
 // the octets that a line spells
 const SPELLED: usize = KEPT / 2 + 1;
 
+// the writer's buffer, and behind it the head end's addresses
+const MEMORY: usize = MOST_SIZE + SPELLED;
+
 // a line of octets, and words before them
 const ANSWER: usize = 2 * MOST_SIZE + 512;
 
@@ -121,7 +124,7 @@ fn go_on(
 pub fn converse() {
     let mut line = [0u8; KEPT];
     let mut store = [0u8; STORE];
-    let mut memory = [0u8; MOST_SIZE];
+    let mut memory = [0u8; MEMORY];
     let mut room = [0u8; SPELLED];
     let mut out = [0u8; ANSWER];
     let h = go_on(&mut line, &mut store, &mut memory, &mut room, &mut out);

@@ -1,25 +1,31 @@
-// The console's commands about OPENs and routes: pcc, pce, ero, rro, ero-segment, rro-segment (console.md). `room`
-// takes the octets that the line spells.
-ghost use Prim.Native.Nat.{_≤_};
+// The console's commands about OPENs and routes: pcc, pce, ero, rro, ero-segment, rro-segment, addresses (console.md).
+// `room` takes the octets that the line spells; the head end's addresses lie in `memory`, behind the writer's part.
+ghost use Prim.Native.Nat.{_-_, _*_, _≤_};
 ghost use mathlib.Core.Path.{_≡_};
-ghost use lib.ListN.{length};
+ghost use lib.ListN.{length, take};
 ghost use Rattle.printing.specs.Text.{Behind};
 ghost use Rattle.console_lines.specs.Lines.{short};
 ghost use Rattle.console_fields.specs.Shown.{long};
+ghost use Rattle.command_forms.specs.Forms.{mostSize};
 ghost use Rattle.console_state.specs.Rooms.{Spells};
+ghost use Rattle.console_state.specs.Standing.{listIn};
+ghost use Rattle.console_state.specs.Spelled.{octetsIn};
 ghost use Rattle.console_routes.specs.Routing.{openIn, routeLine, segmentAnswer};
 use command::Command;
 use command::octets_at;
+use command_forms::MOST_SIZE;
+use console_state::listed;
+use positions::Setup;
 use session::Opened;
 use session::Session;
 
 // `pcc OCTETS`, `pce OCTETS`: the answer to the OPEN of the line.
-pub fn heard(line: &[u8], room: &mut [u8]) -> Opened
+pub fn heard(p: Setup, line: &[u8], room: &mut [u8]) -> Opened
     requires { ⌜ Spells (now line) (now room) ⌝ }
-    ensures read { λ r. ⌜ r ≡ openIn (now (line .entry)) ⌝ }
+    ensures read { λ r. ⌜ r ≡ openIn p (now (line .entry)) ⌝ }
 {
     let n = octets_at(line, 1, room);
-    open::read_open(&room[..n])
+    open::read_open(p, &room[..n])
 }
 
 // `ero PST OCTETS`, `rro PST OCTETS`
@@ -28,14 +34,17 @@ pub fn judged(
     c: Command,
     ero: bool,
     session: Session,
+    memory: &[u8],
+    given: usize,
     room: &mut [u8],
     out: &mut [u8],
 ) -> usize
     requires { ⌜ Spells (now line) (now room) × (short ≤ length (now out)) ⌝ }
-    ensures told { λ r. ⌜ Behind (now (out .entry)) (now (out .exit)) 0 r (routeLine ero session c (now (line .entry))) ⌝ }
+    ensures told { λ r. ⌜ Behind (now (out .entry)) (now (out .exit)) 0 r (routeLine ero session (listIn given (now (memory .entry))) c (now (line .entry))) ⌝ }
 {
     let n = octets_at(line, 2, room);
-    let v = route::judge(&room[..n], ero, session, c.one);
+    let list = listed(memory, given);
+    let v = route_call::judge(&room[..n], ero, session, c.one, list);
     console_state::counted(out, v)
 }
 
@@ -45,14 +54,17 @@ pub fn picked(
     c: Command,
     ero: bool,
     session: Session,
+    memory: &[u8],
+    given: usize,
     room: &mut [u8],
     out: &mut [u8],
 ) -> usize
     requires { ⌜ Spells (now line) (now room) × (long ≤ length (now out)) ⌝ }
-    ensures told { λ r. ⌜ Behind (now (out .entry)) (now (out .exit)) 0 r (segmentAnswer ero session c (now (line .entry))) ⌝ }
+    ensures told { λ r. ⌜ Behind (now (out .entry)) (now (out .exit)) 0 r (segmentAnswer ero session (listIn given (now (memory .entry))) c (now (line .entry))) ⌝ }
 {
     let n = octets_at(line, 3, room);
-    let p = route::segment(&room[..n], ero, session, c.one, c.two);
+    let list = listed(memory, given);
+    let p = route_call::segment(&room[..n], ero, session, c.one, list, c.two);
     let v = p.verdict;
     if v.number != 0 {
         return console_lines::refusal(out, v.number, v.place);
@@ -60,4 +72,13 @@ pub fn picked(
     let g = p.segment;
     let x = p.strays;
     console_fields::segment(out, g, x)
+}
+
+// `addresses OCTETS`: the list laid behind the writer's part, and its octets.
+pub fn addressed(line: &[u8], memory: &mut [u8]) -> usize
+    requires { ⌜ (mostSize ≤ length (now memory)) × (length (now line) ≤ 2 * (length (now memory) - mostSize)) ⌝ }
+    ensures list { λ r. ⌜ listIn r (now (memory .exit)) ≡ octetsIn (now (line .entry)) 1 ⌝ }
+    ensures writer { λ _. ⌜ take mostSize (now (memory .exit)) ≡ take mostSize (now (memory .entry)) ⌝ }
+{
+    octets_at(line, 1, &mut memory[MOST_SIZE..])
 }

@@ -1,9 +1,9 @@
 -- Laws of what a command answers by and of the octets of a lent buffer's start.
-use Prim.Native.Nat.{ℕ, min}
-use mathlib.Core.Path.{_≡_, refl, sym}
+use Prim.Native.Nat.{ℕ, zero, suc, _+_, _-_, _≤_, _<_, min}
+use mathlib.Core.Path.{_≡_, refl, sym, ap, _∙_}
 use mathlib.Core.Bool.{Bool, true, false}
-use mathlib.Core.List.{List}
-use lib.ListN.{length, take, drop}
+use mathlib.Core.List.{List, []}
+use lib.ListN.{length, take, drop, drop-of-length-le, length-drop}
 use lib.Seq.{take-at, take-all, take-length}
 use lib.Dec.{leb}
 use native.Mathlib.Omega.{arith}
@@ -12,6 +12,8 @@ use Rattle.answers.specs.declared.verdict.Verdict.{Verdict}
 use Rattle.octets.specs.Octets.{over}
 use Rattle.printing.specs.Text.{Behind}
 use Rattle.console_lines.specs.Lines.{refusalLine}
+use Rattle.command_forms.specs.Forms.{mostSize}
+use Rattle.console_state.specs.Standing.{listIn}
 use Rattle.console_state.specs.Answers.{answerLine}
 
 -- ## Answers
@@ -44,3 +46,18 @@ take-fit size m {n} e = go (leb size (length m)) refl where
       let l = leb-false size (length m) h in
       let k : n ≡ length m = omega arith in
       rw (k, take-length) (sym (take-all size m (omega arith)))
+
+-- The list of addresses, where the memory ends before it and where it doesn't.
+take-none : (n : ℕ) → take {A = ℕ} n [] ≡ []
+take-none zero = refl
+take-none (suc n) = refl
+
+pub list-short : (given : ℕ) (m : List ℕ) → length m < mostSize → take 0 m ≡ listIn given m
+unfolding listIn
+list-short given m h = let k : length m ≤ mostSize = omega (arith, h) in rw (drop-of-length-le m k) (sym (take-none given))
+
+pub list-part : (given : ℕ) (m : List ℕ) {n : ℕ} → n ≡ min given (length m - mostSize) → take (mostSize + n - mostSize) (drop mostSize m) ≡ listIn given m
+unfolding listIn
+list-part given m {n} e =
+    let k : mostSize + n - mostSize ≡ n = omega arith in
+    rw k (take-fit given (drop mostSize m) (e ∙ ap (min given) (sym (length-drop mostSize m))))

@@ -2,8 +2,11 @@
 use Prim.Native.Nat.{ℕ}
 use mathlib.Core.Bool.{true}
 use mathlib.Core.List.{List, []}
-use lib.ListN.{take, replicate}
+use lib.ListN.{take, drop, replicate}
 use Rattle.answers.specs.Numbers.{openMalformed}
+use Rattle.positions.specs.declared.Setup.{Setup}
+use Rattle.positions.specs.Positions.{firstTwo}
+use Rattle.command_forms.specs.Forms.{mostSize}
 use Rattle.session.specs.declared.Opened.{Opened}
 use Rattle.session.specs.Sessions.{openRefused}
 use Rattle.board_record.specs.declared.record.Board.{Board}
@@ -12,7 +15,7 @@ use Rattle.board_record.specs.Record.{emptyBoard}
 use Rattle.writer.specs.declared.state.Writer.{Writer}
 use Rattle.console_state.specs.declared.state.State.{State}
 
--- "the board", "its store", "both OPENs", "the writer" and its "buffer"
+-- "the board", "its store", "both OPENs", "the writer" and its "buffer"; "the two bit positions" and "the head end's addresses"
 pub record Console : Type 0 where
   pub board : Board
   pub store : List ℕ
@@ -20,6 +23,8 @@ pub record Console : Type 0 where
   pub pce : Opened
   pub writer : Writer
   pub lent : List ℕ
+  pub positions : Setup
+  pub addresses : List ℕ
 
 -- "the writer stands at place 0 of an ERO"
 abbrev pub writerAtStart : Writer
@@ -30,7 +35,7 @@ unfoldable pub storeAtStart : List ℕ
 storeAtStart = replicate storeSize 0
 
 -- "At the start the board is the empty one, its store is 49,152 octets of 0, both OPENs count as refused, the writer stands at place 0 of an ERO,
--- and it has a buffer of no octets."
+-- and it has a buffer of no octets." The positions are "at the start 0 and 1", the addresses "at the start none".
 abbrev pub atStart : Console
 atStart = record {
   board = emptyBoard;
@@ -39,9 +44,19 @@ atStart = record {
   pce = openRefused openMalformed;
   writer = writerAtStart;
   lent = [];
+  positions = firstTwo;
+  addresses = [];
 }
 
--- The console that a state stands for with a store and a memory, of which the first octets are the writer's buffer.
+-- The writer's buffer: the first octets of the memory, of the 65,536 that are the writer's.
+unfoldable pub writerPart : ℕ → List ℕ → List ℕ
+writerPart size memory = take size (take mostSize memory)
+
+-- The head end's addresses: so many octets of the memory, behind the writer's.
+unfoldable pub listIn : ℕ → List ℕ → List ℕ
+listIn given memory = take given (drop mostSize memory)
+
+-- The console that a state stands for with a store and a memory.
 abbrev pub consoleOf : State → List ℕ → List ℕ → Console
 consoleOf s store memory = record {
   board = s .board;
@@ -49,22 +64,31 @@ consoleOf s store memory = record {
   pcc = s .pcc;
   pce = s .pce;
   writer = s .writer;
-  lent = take (s .size) memory;
+  lent = writerPart (s .size) memory;
+  positions = s .positions;
+  addresses = listIn (s .given) memory;
 }
 
 -- ## States
 
 abbrev pub stateAtStart : State
-stateAtStart = record { board = emptyBoard; pcc = openRefused openMalformed; pce = openRefused openMalformed; writer = writerAtStart; size = 0 }
+stateAtStart = record { board = emptyBoard; pcc = openRefused openMalformed; pce = openRefused openMalformed; writer = writerAtStart; size = 0; positions = firstTwo; given = 0 }
 
 abbrev pub withBoard : State → Board → State
-withBoard s board = record { board = board; pcc = s .pcc; pce = s .pce; writer = s .writer; size = s .size }
+withBoard s board = record { board = board; pcc = s .pcc; pce = s .pce; writer = s .writer; size = s .size; positions = s .positions; given = s .given }
 
 abbrev pub withPcc : State → Opened → State
-withPcc s pcc = record { board = s .board; pcc = pcc; pce = s .pce; writer = s .writer; size = s .size }
+withPcc s pcc = record { board = s .board; pcc = pcc; pce = s .pce; writer = s .writer; size = s .size; positions = s .positions; given = s .given }
 
 abbrev pub withPce : State → Opened → State
-withPce s pce = record { board = s .board; pcc = s .pcc; pce = pce; writer = s .writer; size = s .size }
+withPce s pce = record { board = s .board; pcc = s .pcc; pce = pce; writer = s .writer; size = s .size; positions = s .positions; given = s .given }
 
 abbrev pub withWriter : State → Writer → ℕ → State
-withWriter s writer size = record { board = s .board; pcc = s .pcc; pce = s .pce; writer = writer; size = size }
+withWriter s writer size = record { board = s .board; pcc = s .pcc; pce = s .pce; writer = writer; size = size; positions = s .positions; given = s .given }
+
+abbrev pub withPositions : State → ℕ → ℕ → State
+withPositions s a r =
+    record { board = s .board; pcc = s .pcc; pce = s .pce; writer = s .writer; size = s .size; positions = record { a = a; r = r }; given = s .given }
+
+abbrev pub withGiven : State → ℕ → State
+withGiven s given = record { board = s .board; pcc = s .pcc; pce = s .pce; writer = s .writer; size = s .size; positions = s .positions; given = given }

@@ -3,6 +3,8 @@ ghost use Prim.Native.Nat.{min};
 ghost use mathlib.Core.Path.{_≡_};
 ghost use lib.ListN.{length};
 ghost use Rattle.io.specs.Counts.{Counts};
+ghost use Rattle.console_state.specs.Standing.{listIn};
+use command_forms::MOST_SIZE;
 
 // A number of octets at the start of `s`, at most `n`.
 pub fn fit(n: usize, s: &[u8]) -> usize
@@ -10,4 +12,21 @@ pub fn fit(n: usize, s: &[u8]) -> usize
     ensures cut { λ r. ⌜ r ≡ min n (length (now (s .entry))) ⌝ }
 {
     if n < s.len() { n } else { s.len() }
+}
+
+fn least(a: usize, b: usize) -> usize
+    ensures least { λ r. ⌜ r ≡ min a b ⌝ }
+{
+    if a < b { a } else { b }
+}
+
+// The list of addresses, which lies behind the writer's part of the memory.
+pub fn listed(memory: &[u8], given: usize) -> &[u8]
+    ensures listed { λ r. ⌜ now r ≡ listIn given (now (memory .entry)) ⌝ }
+{
+    if memory.len() < MOST_SIZE {
+        return &memory[..0];
+    }
+    let n = least(given, memory.len() - MOST_SIZE);
+    &memory[MOST_SIZE..MOST_SIZE + n]
 }

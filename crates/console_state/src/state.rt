@@ -1,7 +1,8 @@
 // What the console keeps by value between two lines.
 ghost use mathlib.Core.Path.{_≡_};
-ghost use Rattle.console_state.specs.Standing.{stateAtStart, withBoard, withPcc, withPce, withWriter};
+ghost use Rattle.console_state.specs.Standing.{stateAtStart, withBoard, withPcc, withPce, withWriter, withPositions, withGiven};
 use board_record::Board;
+use positions::Setup;
 use session::Opened;
 use writer::Writer;
 
@@ -11,6 +12,8 @@ pub struct State {
     pub pce: Opened,
     pub writer: Writer,
     pub size: usize,
+    pub positions: Setup,
+    pub given: usize,
 }
 
 // The start.
@@ -23,6 +26,8 @@ pub fn start() -> State
         pce: session::refused_open(answers::OPEN_MALFORMED),
         writer: Writer { ero: true, at: 0 },
         size: 0,
+        positions: positions::first_two(),
+        given: 0,
     }
 }
 
@@ -32,12 +37,15 @@ pub fn with_board(state: State, board: Board) -> State
     let pcc = state.pcc;
     let pce = state.pce;
     let writer = state.writer;
+    let positions = state.positions;
     State {
         board: board,
         pcc: pcc,
         pce: pce,
         writer: writer,
         size: state.size,
+        positions: positions,
+        given: state.given,
     }
 }
 
@@ -47,12 +55,15 @@ pub fn with_pcc(state: State, pcc: Opened) -> State
     let board = state.board;
     let pce = state.pce;
     let writer = state.writer;
+    let positions = state.positions;
     State {
         board: board,
         pcc: pcc,
         pce: pce,
         writer: writer,
         size: state.size,
+        positions: positions,
+        given: state.given,
     }
 }
 
@@ -62,12 +73,15 @@ pub fn with_pce(state: State, pce: Opened) -> State
     let board = state.board;
     let pcc = state.pcc;
     let writer = state.writer;
+    let positions = state.positions;
     State {
         board: board,
         pcc: pcc,
         pce: pce,
         writer: writer,
         size: state.size,
+        positions: positions,
+        given: state.given,
     }
 }
 
@@ -78,11 +92,53 @@ pub fn with_writer(state: State, writer: Writer, size: usize) -> State
     let board = state.board;
     let pcc = state.pcc;
     let pce = state.pce;
+    let positions = state.positions;
     State {
         board: board,
         pcc: pcc,
         pce: pce,
         writer: writer,
         size: size,
+        positions: positions,
+        given: state.given,
+    }
+}
+
+// A and R at two other positions.
+pub fn with_positions(state: State, a: u64, r: u64) -> State
+    ensures positions { λ x. ⌜ x ≡ withPositions state a r ⌝ }
+{
+    let board = state.board;
+    let pcc = state.pcc;
+    let pce = state.pce;
+    let writer = state.writer;
+    State {
+        board: board,
+        pcc: pcc,
+        pce: pce,
+        writer: writer,
+        size: state.size,
+        positions: Setup { a: a, r: r },
+        given: state.given,
+    }
+}
+
+// Another number of octets in the list of addresses.
+pub fn with_given(state: State, given: usize) -> State
+    ensures given { λ x. ⌜ x ≡ withGiven state given ⌝ }
+{
+    let board = state.board;
+    let pcc = state.pcc;
+    let pce = state.pce;
+    let writer = state.writer;
+    let positions = state.positions;
+    State {
+        board: board,
+        pcc: pcc,
+        pce: pce,
+        writer: writer,
+        size: state.size,
+        positions: positions,
+        given: given,
     }
 }

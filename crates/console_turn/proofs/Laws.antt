@@ -1,7 +1,11 @@
 -- A turn, from what its command's call promises: one law for all rows of the table.
 use Prim.Native.Nat.{ℕ}
-use mathlib.Core.Path.{_≡_, sym, _∙_, ap, subst}
-use mathlib.Core.List.{List}
+use mathlib.Core.Path.{_≡_, refl, sym, _∙_, ap, subst}
+use mathlib.Core.List.{List, _++_}
+use lib.ListN.{length, take, drop}
+use lib.Seq.{take-at, drop-at}
+use Rattle.positions.specs.declared.Setup.{Setup}
+use Rattle.command_forms.specs.Forms.{mostSize}
 use Rattle.session.specs.declared.Opened.{Opened}
 use Rattle.session.specs.declared.Session.{Session}
 use Rattle.board_record.specs.declared.record.Board.{Board}
@@ -11,8 +15,9 @@ use Rattle.command_forms.specs.declared.verb.Verb.{Verb}
 use Rattle.command.specs.declared.Command.{Command}
 use Rattle.command.specs.Commands.{commandOf}
 use Rattle.console_state.specs.declared.state.State.{State}
-use Rattle.console_state.specs.Standing.{Console, consoleOf}
-use Rattle.console_turn.specs.Turns.{Turned, turnBy, turnOf, Does}
+use Rattle.console_state.specs.Standing.{Console, writerPart, listIn, consoleOf, withWriter}
+use Rattle.console_writer.specs.Composing.{Composing}
+use Rattle.console_turn.specs.Turns.{Turned, composes, turnBy, turnOf, Does}
 
 -- The turn of a line is that of its command.
 turn-by : (w : Verb) (k : Console) (c : Command) (line : List ℕ) (n : ℕ) → c ≡ commandOf line → c .verb ≡ w → turnBy w k c line n ≡ turnOf k line n
@@ -39,17 +44,63 @@ does w {s} {c = c} {store} {memory} {line} {store′} {memory′} {before} {afte
 -- ## What `refl` does not compute
 
 -- The session that was agreed is the console's.
-pub under : (f : Session → Command → List ℕ → List ℕ) {s t : Session} {c : Command} {line : List ℕ} → s ≡ t → f s c line ≡ f t c line
-under f {c = c} {line = line} e = ap (λ (x : Session). f x c line) e
+pub under : (f : Session → List ℕ → Command → List ℕ → List ℕ) (addresses : List ℕ) {s t : Session} {c : Command} {line : List ℕ} → s ≡ t
+    → f s addresses c line ≡ f t addresses c line
+under f addresses {c = c} {line = line} e = ap (λ (x : Session). f x addresses c line) e
 
 -- The console part by part, after a command that changes it.
-pub parts : {board b : Board} {store s : List ℕ} {pcc o pce p : Opened} {writer w : Writer} {lent l : List ℕ}
+pub parts : {board b : Board} {store s : List ℕ} {pcc o pce p : Opened} {writer w : Writer} {lent l : List ℕ} {at : Setup} {addresses list : List ℕ}
     → board ≡ b
     → store ≡ s
     → pcc ≡ o
     → pce ≡ p
     → writer ≡ w
     → lent ≡ l
-    → _≡_ {A = Console} (record { board = board; store = store; pcc = pcc; pce = pce; writer = writer; lent = lent })
-    (record { board = b; store = s; pcc = o; pce = p; writer = w; lent = l })
-parts a b c d e f = λ i. record { board = a i; store = b i; pcc = c i; pce = d i; writer = e i; lent = f i }
+    → addresses ≡ list
+    → _≡_ {A = Console} (record { board = board; store = store; pcc = pcc; pce = pce; writer = writer; lent = lent; positions = at; addresses = addresses })
+    (record { board = b; store = s; pcc = o; pce = p; writer = w; lent = l; positions = at; addresses = list })
+parts {at = at} a b c d e f g = λ i. record { board = a i; store = b i; pcc = c i; pce = d i; writer = e i; lent = f i; positions = at; addresses = g i }
+
+-- The writer's part of the memory after a command that wrote y into it, and the list of addresses behind, which stays.
+writer-back : (size : ℕ) (m y : List ℕ) {x : List ℕ} → length y ≡ mostSize → take size y ≡ x → writerPart size (y ++ drop mostSize m) ≡ x
+unfolding writerPart
+writer-back size m y {x} = go mostSize
+  where
+    go : (a : ℕ) → length y ≡ a → take size y ≡ x → take size (take a (y ++ drop a m)) ≡ x
+    go a e f = ap (take size) (take-at y (drop a m) a e) ∙ f
+
+list-back : (given : ℕ) (m y : List ℕ) → length y ≡ mostSize → listIn given (y ++ drop mostSize m) ≡ listIn given m
+unfolding listIn
+list-back given m y = go mostSize
+  where
+    go : (a : ℕ) → length y ≡ a → take given (drop a (y ++ drop a m)) ≡ take given (drop a m)
+    go a e = ap (take given) (drop-at y (drop a m) a e)
+
+-- The writer's part, as its commands are lent it; it stays where the octets before the list stay.
+pub part-is : (size : ℕ) (m : List ℕ) → take size (take mostSize m) ≡ writerPart size m
+unfolding writerPart
+part-is size m = refl
+
+pub part-stays : (size : ℕ) (m l : List ℕ) → take mostSize l ≡ take mostSize m → writerPart size l ≡ writerPart size m
+unfolding writerPart
+part-stays size m l e = ap (take size) e
+
+-- A turn of the writer, from what its call promises of the writer's part of the memory, into which it wrote y.
+pub composed-does : (turn : Writer → List ℕ → Composing) (w : Verb) (s : State) (c : Command) (store m y line : List ℕ) (n : ℕ) {r : State} {u : Writer} {size : ℕ}
+    {before after : List ℕ} {e end : ℕ}
+    → ((k : Console) → turnBy w k c line n ≡ composes k (turn (k .writer) (k .lent)))
+    → c ≡ commandOf line
+    → c .verb ≡ w
+    → (r ≡ withWriter s u size) × (e ≡ end)
+    → length y ≡ mostSize
+    → u ≡ turn (s .writer) (take (s .size) (take mostSize m)) .writer
+    → take size y ≡ turn (s .writer) (take (s .size) (take mostSize m)) .lent
+    → Behind before after 0 end (turn (s .writer) (take (s .size) (take mostSize m)) .answer)
+    → Does s store m line n r store (y ++ drop mostSize m) before after e
+composed-does turn w s c store m y line n {size = size} {before} {after} {end = end} row p q h l f g b =
+    let k = consoleOf s store m in
+    let part = part-is (s .size) m in
+    let told = subst (λ (x : List ℕ). Behind before after 0 end (turn (s .writer) x .answer)) part b in
+    does w p q h told (sym (ap (λ (t : Turned). t .answer) (row k)))
+    (parts refl refl refl refl (f ∙ ap (λ (x : List ℕ). turn (s .writer) x .writer) part)
+    (writer-back size m y l (g ∙ ap (λ (x : List ℕ). turn (s .writer) x .lent) part)) (list-back (s .given) m y l) ∙ sym (ap (λ (t : Turned). t .console) (row k)))

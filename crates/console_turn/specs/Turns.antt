@@ -6,7 +6,7 @@ use mathlib.Core.List.{List, []}
 use Rattle.session.specs.declared.Session.{Session}
 use Rattle.session.specs.Sessions.{sessionOf}
 use Rattle.printing.specs.Text.{Behind}
-use Rattle.console_lines.specs.Lines.{badLine}
+use Rattle.console_lines.specs.Lines.{badLine, doneLine}
 use Rattle.console_fields.specs.Shown.{openedLine}
 use Rattle.command_forms.specs.declared.verb.Verb.{Verb}
 use Rattle.command_forms.specs.declared.verb.Verb.the-variants as v
@@ -14,6 +14,7 @@ use Rattle.command.specs.declared.Command.{Command}
 use Rattle.command.specs.Commands.{commandOf}
 use Rattle.console_state.specs.declared.state.State.{State}
 use Rattle.console_state.specs.Standing.{Console, consoleOf}
+use Rattle.console_state.specs.Spelled.{octetsIn}
 use Rattle.console_routes.specs.Routing.{openIn, routeLine, segmentAnswer}
 use Rattle.console_writer.specs.Composing.{Composing, beginTurn, addTurn, finishTurn, lentLine}
 use Rattle.console_board.specs.Boarding.{Boarding, reportTurn, removeTurn, compactTurn, bodyLine, nextLine, markLine, boardLine, chainLine}
@@ -27,18 +28,18 @@ pub record Turned : Type 0 where
 abbrev pub stays : Console → List ℕ → Turned
 stays k answer = record { console = k; answer = answer }
 
--- `pcc OCTETS`: "reads an OPEN object; its answer, a refusal too, becomes that side's half of the session"; `0 0 SRV6 N LIMIT`
+-- `pcc OCTETS`: "reads an OPEN object; its answer, a refusal too, becomes that side's half of the session"; `0 0 SRV6 N LIMIT A R V M`
 abbrev pub pccTurn : Console → List ℕ → Turned
 pccTurn k line = record {
-  console = record { board = k .board; store = k .store; pcc = openIn line; pce = k .pce; writer = k .writer; lent = k .lent };
-  answer = openedLine (openIn line);
+  console = record { board = k .board; store = k .store; pcc = openIn (k .positions) line; pce = k .pce; writer = k .writer; lent = k .lent; positions = k .positions; addresses = k .addresses };
+  answer = openedLine (openIn (k .positions) line);
 }
 
 -- `pce OCTETS`, the same for the other side
 abbrev pub pceTurn : Console → List ℕ → Turned
 pceTurn k line = record {
-  console = record { board = k .board; store = k .store; pcc = k .pcc; pce = openIn line; writer = k .writer; lent = k .lent };
-  answer = openedLine (openIn line);
+  console = record { board = k .board; store = k .store; pcc = k .pcc; pce = openIn (k .positions) line; writer = k .writer; lent = k .lent; positions = k .positions; addresses = k .addresses };
+  answer = openedLine (openIn (k .positions) line);
 }
 
 -- "the session" of both halves
@@ -48,15 +49,47 @@ agreedIn k = sessionOf (k .pcc) (k .pce)
 -- What a command about the writer leaves, and its line.
 abbrev pub composes : Console → Composing → Turned
 composes k t = record {
-  console = record { board = k .board; store = k .store; pcc = k .pcc; pce = k .pce; writer = t .writer; lent = t .lent };
+  console = record { board = k .board; store = k .store; pcc = k .pcc; pce = k .pce; writer = t .writer; lent = t .lent; positions = k .positions; addresses = k .addresses };
   answer = t .answer;
 }
 
 -- What a command about the board leaves, and its line.
 abbrev pub boards : Console → Boarding → Turned
 boards k t = record {
-  console = record { board = t .board; store = t .store; pcc = k .pcc; pce = k .pce; writer = k .writer; lent = k .lent };
+  console = record { board = t .board; store = t .store; pcc = k .pcc; pce = k .pce; writer = k .writer; lent = k .lent; positions = k .positions; addresses = k .addresses };
   answer = t .answer;
+}
+
+-- `positions A R`: "sets the two bit positions for later reading and writing of OPENs, any numbers .. Never refused"; `0 0`
+abbrev pub positionsTurn : Console → Command → Turned
+positionsTurn k c = record {
+  console = record {
+    board = k .board;
+    store = k .store;
+    pcc = k .pcc;
+    pce = k .pce;
+    writer = k .writer;
+    lent = k .lent;
+    positions = record { a = c .one; r = c .two };
+    addresses = k .addresses;
+  };
+  answer = doneLine;
+}
+
+-- `addresses OCTETS`: "sets the head end's addresses for later routes and reports, any octets .. Never refused"; `0 0`
+abbrev pub addressesTurn : Console → List ℕ → Turned
+addressesTurn k line = record {
+  console = record {
+    board = k .board;
+    store = k .store;
+    pcc = k .pcc;
+    pce = k .pce;
+    writer = k .writer;
+    lent = k .lent;
+    positions = k .positions;
+    addresses = octetsIn line 1;
+  };
+  answer = doneLine;
 }
 
 -- the table of commands, row by row
@@ -70,13 +103,13 @@ turnBy v.Pcc k c line n = pccTurn k line
 -- `pce OCTETS`
 turnBy v.Pce k c line n = pceTurn k line
 -- `ero PST OCTETS`: "judges a route under the session"
-turnBy v.Ero k c line n = stays k (routeLine true (agreedIn k) c line)
+turnBy v.Ero k c line n = stays k (routeLine true (agreedIn k) (k .addresses) c line)
 -- `rro PST OCTETS`
-turnBy v.Rro k c line n = stays k (routeLine false (agreedIn k) c line)
+turnBy v.Rro k c line n = stays k (routeLine false (agreedIn k) (k .addresses) c line)
 -- `ero-segment PST I OCTETS`: "asks for segment I of a route"
-turnBy v.EroSegment k c line n = stays k (segmentAnswer true (agreedIn k) c line)
+turnBy v.EroSegment k c line n = stays k (segmentAnswer true (agreedIn k) (k .addresses) c line)
 -- `rro-segment PST I OCTETS`
-turnBy v.RroSegment k c line n = stays k (segmentAnswer false (agreedIn k) c line)
+turnBy v.RroSegment k c line n = stays k (segmentAnswer false (agreedIn k) (k .addresses) c line)
 -- `begin ero SIZE` · `begin rro SIZE`
 turnBy v.Begin k c line n = composes k (beginTurn (k .writer) (k .lent) c)
 -- `add L V NT BEHAVIOUR SID NAI STRUCTURE`: "adds a segment"
@@ -86,7 +119,7 @@ turnBy v.Finish k c line n = composes k (finishTurn (k .writer) (k .lent))
 -- `lent`: "shows the writer's whole buffer"
 turnBy v.Lent k c line n = stays k (lentLine (k .lent))
 -- `report KEY PST OCTETS`: "reports a path to the board"
-turnBy v.Report k c line n = boards k (reportTurn (k .board) (k .store) (agreedIn k) c line)
+turnBy v.Report k c line n = boards k (reportTurn (k .board) (k .store) (agreedIn k) (k .addresses) c line)
 -- `remove KEY`
 turnBy v.Remove k c line n = boards k (removeTurn (k .board) (k .store) c)
 -- `compact C`
@@ -101,6 +134,10 @@ turnBy v.Mark k c line n = stays k (markLine (k .board))
 turnBy v.Board k c line n = stays k (boardLine (k .board))
 -- `chain`: "the used places from the oldest change to the newest"
 turnBy v.Chain k c line n = stays k (chainLine (k .board))
+-- `positions A R`: "sets the two bit positions"
+turnBy v.Positions k c line n = positionsTurn k c
+-- `addresses OCTETS`: "sets the head end's addresses"
+turnBy v.Addresses k c line n = addressesTurn k line
 
 -- What a line does, the n-th of all.
 unfoldable pub turnOf : Console → List ℕ → ℕ → Turned

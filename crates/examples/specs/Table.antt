@@ -1,4 +1,4 @@
--- P1 to P10 (document 01, "Examples on either side").
+-- P1 to P10 (document 01, "Examples on either side"), with A and R at the positions 0 and 1 and no addresses (document 02, C-15).
 use Prim.Native.Nat.{ℕ}
 use mathlib.Core.Bool.{true, false}
 use mathlib.Core.List.{List, [], _∷_, _++_}
@@ -11,8 +11,10 @@ use Rattle.session.specs.declared.Limit.the-variants.{Free, Most}
 use Rattle.session.specs.declared.Opened.{Opened}
 use Rattle.session.specs.declared.Session.{Session}
 use Rattle.session.specs.Sessions.{openRefused, openCarries, sessionOf}
+use Rattle.msd.specs.Msd.{absent}
+use Rattle.positions.specs.Positions.{firstTwo}
 use Rattle.open.specs.Open.{openOf}
-use Rattle.route.specs.Routes.{judgeOf}
+use Rattle.route_call.specs.Called.{judgedFor}
 
 -- Object O.
 abbrev pub objectO : List ℕ
@@ -42,11 +44,11 @@ pub data Answer : Type 0 where
   judged : Verdict → Answer
 
 abbrev pub agreedO : Session
-agreedO = sessionOf (openOf objectO) (openOf objectO)
+agreedO = sessionOf (openOf firstTwo objectO) (openOf firstTwo objectO)
 
 abbrev pub exampleAnswer : Example → Answer
-exampleAnswer (opening s) = opened (openOf s)
-exampleAnswer (route s pst) = judged (judgeOf s true agreedO pst)
+exampleAnswer (opening s) = opened (openOf firstTwo s)
+exampleAnswer (route s pst) = judged (judgedFor s true agreedO pst [])
 
 abbrev pub examples : List Example
 examples =
@@ -62,12 +64,12 @@ examples =
     ∷ route (withBits 64 64 64 64) srv6Setup
     ∷ []
 
--- P1: "SRv6, N 0, limit 4"; P2: "accepted without SRv6"; P3: "3"; P4: "one segment", not stray; P5: "13"; P6: "9 at 4"; P7: "7 at 4";
+-- P1: "SRv6, N 0, limit 4", v 4 and no m; P2: "accepted without SRv6"; P3: "3"; P4: "one segment", not stray; P5: "13"; P6: "9 at 4"; P7: "7 at 4";
 -- P8: "pass"; P9: "11"; P10: "11".
 abbrev pub answers : List Answer
 answers =
-    opened (openCarries true false (Most 4))
-    ∷ opened (openCarries false false Free)
+    opened (openCarries true false (Most 4) false false 4 absent)
+    ∷ opened (openCarries false false Free false false absent absent)
     ∷ opened (openRefused wrongMsd)
     ∷ judged (acceptedWith 1)
     ∷ judged (refusedBy notAgreed 0)

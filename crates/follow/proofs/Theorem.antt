@@ -11,7 +11,7 @@ use mathlib.Core.Logic.{_⊎_, ⊎-elim}
 use lib.ListN.{length}
 use lib.Dec.{eqb, ltb}
 use borrow.Author.Tests.{ne-eqb, lt-ltb, le-ltb}
-use Rattle.answers.specs.Numbers.{markTooOld}
+use Rattle.answers.specs.Numbers.{markTooOld, notUsable}
 use Rattle.answers.specs.Verdicts.{refusedBy, acceptedWith, kept}
 use Rattle.board_record.specs.Sizes.{places, storeSize}
 use Rattle.board_record.specs.Table.{Table, emptyTable, keyAt, versionAt, lengthAt}
@@ -19,7 +19,7 @@ use Rattle.board_record.specs.Search.{targetOf, nextOf}
 use Rattle.board_record.proofs.Logic.{from?}
 use Rattle.board_record.proofs.Proper.{empty-sized, empty-proper}
 use Rattle.board_record.proofs.Search.{report-place-is}
-use Rattle.board_rules.specs.Rules.{Outcome, isBoard}
+use Rattle.board_rules.specs.Rules.{Outcome, outcomeOf, isBoard}
 use Rattle.board_rules.proofs.Verdicts.{whole-board, report-passed, remove-passed, compact-passed}
 use Rattle.board_rules.proofs.Keeps.{reported-proper, removed-proper}
 use Rattle.board_rules.specs.Body.{octetsAt}
@@ -30,6 +30,9 @@ use Rattle.board_rules.specs.declared.answer.Handed.the-variants.{Path, Removed
 use Rattle.board_rules.specs.Next.{nextRules, nextVerdict, changeAt, handedAt, nextAnswer}
 use Rattle.session.specs.declared.Session.{Session}
 use Rattle.route.specs.Routes.{judgeOf}
+use Rattle.route_limit.specs.FirstOff.{sessionFor}
+use Rattle.route_call.specs.Called.{rule28}
+use Rattle.report_call.specs.Reported.{reportFor, reportStoreFor}
 use Rattle.route.proofs.Answer.{accepted-body}
 use Rattle.follow.specs.Story.{Deed, sets, clears, Story, beginning, Ordered, begun, did, compactedTo, beginningOf, version, keyOf, leaves, held, last}
 use Rattle.follow.specs.Floor.{floorOf, floorPut}
@@ -156,9 +159,11 @@ kept-same : (n : ℕ) (s : List ℕ) → kept n s s ≡ s
 kept-same zero s = refl
 kept-same (suc n) s = refl
 
-good-report : (x : World) (k : ℕ) (ero : List ℕ) (session : Session) (pst : ℕ) → Good x → Good (step x (report k ero session pst))
-unfolding step reportAnswer reportStore reportWith storeWith reported floorOf
-good-report x k ero session pst g =
+good-under : (x : World) (k : ℕ) (ero : List ℕ) (session : Session) (pst : ℕ) → Good x
+    → (let a = reportAnswer (x .table) (x .store) k ero session pst in
+    InStep (a .table) (reportStore (x .table) (x .store) k ero session pst) (told a (did (sets k (bodyIn ero)) (x .story)) (x .story)))
+unfolding reportAnswer reportStore reportWith storeWith reported floorOf
+good-under x k ero session pst g =
     let route = judgeOf ero true session pst in
     let b = x .table in
     by-number InStep (reportVerdict b (x .store) k ero route .number) b _ (x .store) _ (x .story) _ g
@@ -172,6 +177,18 @@ good-report x k ero session pst g =
           floor-put b (x .store) (x .story) (g .stands) k (targetOf b k) (t .place) (t .key-least) (report-place-is b k (t .place))
           ∙ ap (λ (m : ℕ). floorPut (x .story) m k) (g .floor-is);
     })
+
+-- 28 leaves all as it was; else it is the report under the limit for this route
+good-report : (x : World) (k : ℕ) (ero : List ℕ) (session : Session) (pst : ℕ) (addresses : List ℕ) → Good x → Good (step x (report k ero session pst addresses))
+unfolding step reportFor reportStoreFor
+good-report x k ero session pst addresses g = go (rule28 addresses)
+  where
+    go : (b : Bool)
+        → (let under = sessionFor ero true session addresses in
+        let a = cond b (outcomeOf (refusedBy notUsable 0) (x .table)) (reportAnswer (x .table) (x .store) k ero under pst) in
+        InStep (a .table) (cond b (x .store) (reportStore (x .table) (x .store) k ero under pst)) (told a (did (sets k (bodyIn ero)) (x .story)) (x .story)))
+    go true = g
+    go false = good-under x k ero (sessionFor ero true session addresses) pst g
 
 good-remove : (x : World) (k : ℕ) → Good x → Good (step x (remove k))
 unfolding step removeAnswer removed floorOf
@@ -199,7 +216,7 @@ good-compact x c g =
 
 good-step : (x : World) (a : Act) → Good x → Good (step x a)
 unfolding step
-good-step x (report k ero session pst) g = good-report x k ero session pst g
+good-step x (report k ero session pst addresses) g = good-report x k ero session pst addresses g
 good-step x (remove k) g = good-remove x k g
 good-step x (compact c) g = good-compact x c g
 good-step x (begin n) g = g
@@ -238,8 +255,8 @@ keeps-following x n f r k m = cases (Keeps (x .story)) (eqb m n) f (x .followers
 
 keeps-step : (x : World) (a : Act) → Good x → AllKeep x → AllKeep (step x a)
 unfolding step
-keeps-step x (report k ero session pst) g r n =
-    keeps-told (reportAnswer (x .table) (x .store) k ero session pst) _ (x .story) (x .followers n) (keeps-change (sets k (bodyIn ero)) (x .story) (x .followers n)) (r n)
+keeps-step x (report k ero session pst addresses) g r n =
+    keeps-told (reportFor (x .table) (x .store) k ero session pst addresses) _ (x .story) (x .followers n) (keeps-change (sets k (bodyIn ero)) (x .story) (x .followers n)) (r n)
 keeps-step x (remove k) g r n =
     keeps-told (removeAnswer (x .table) (x .store) k) _ (x .story) (x .followers n) (keeps-change (clears k) (x .story) (x .followers n)) (r n)
 keeps-step x (compact c) g r n =

@@ -10,7 +10,8 @@ use mathlib.Core.List.{List, [], _∷_}
 use lib.Dec.{eqb}
 use Rattle.board_record.specs.Table.{Table}
 use Rattle.board_rules.specs.Rules.{Outcome}
-use Rattle.board_rules.specs.Report.{bodyIn, reportAnswer, reportStore}
+use Rattle.board_rules.specs.Report.{bodyIn}
+use Rattle.report_call.specs.Reported.{reportFor, reportStoreFor}
 use Rattle.board_rules.specs.Remove.{removeAnswer}
 use Rattle.board_rules.specs.Compact.{compactAnswer}
 use Rattle.board_rules.specs.Next.{nextAnswer}
@@ -27,10 +28,10 @@ pub record World : Type 0 where
 
 -- ---- the acts
 
--- Anyone reports (key, ERO, session, PST), removes (key) or compacts (c); follower n starts afresh; follower n asks for the next change; follower n
+-- Anyone reports (key, ERO, session, PST, addresses), removes (key) or compacts (c); follower n starts afresh; follower n asks for the next change; follower n
 -- asks and is cut off once it has made the change.
 pub data Act : Type 0 where
-  report : ℕ → List ℕ → Session → ℕ → Act
+  report : ℕ → List ℕ → Session → ℕ → List ℕ → Act
   remove : ℕ → Act
   compact : ℕ → Act
   begin : ℕ → Act
@@ -50,9 +51,14 @@ abbrev pub following : World → ℕ → Follower → World
 following x n f = record { table = x .table; store = x .store; story = x .story; followers = λ m. cond (eqb m n) f (x .followers m) }
 
 unfoldable pub step : World → Act → World
-step x (report k ero session pst) =
-    let a = reportAnswer (x .table) (x .store) k ero session pst in
-    record { table = a .table; store = reportStore (x .table) (x .store) k ero session pst; story = told a (did (sets k (bodyIn ero)) (x .story)) (x .story); followers = x .followers }
+step x (report k ero session pst addresses) =
+    let a = reportFor (x .table) (x .store) k ero session pst addresses in
+    record {
+      table = a .table;
+      store = reportStoreFor (x .table) (x .store) k ero session pst addresses;
+      story = told a (did (sets k (bodyIn ero)) (x .story)) (x .story);
+      followers = x .followers;
+    }
 step x (remove k) =
     let a = removeAnswer (x .table) (x .store) k in
     record { table = a .table; store = x .store; story = told a (did (clears k) (x .story)) (x .story); followers = x .followers }

@@ -20,7 +20,12 @@ use Rattle.board_record.proofs.Logic.{same?}
 use Rattle.board_record.proofs.Proper.{empty-sized, empty-proper}
 use Rattle.board_order.proofs.Names.{named-none}
 use Rattle.board_order.proofs.Chains.{proper-apart, in-order, order-is}
-use Rattle.board_rules.specs.Rules.{Outcome}
+use Rattle.answers.specs.Numbers.{notUsable}
+use Rattle.answers.specs.Verdicts.{refusedBy}
+use Rattle.route_limit.specs.FirstOff.{sessionFor}
+use Rattle.route_call.specs.Called.{rule28}
+use Rattle.report_call.specs.Reported.{reportFor, reportStoreFor, reportForOn, reportStoreForOn}
+use Rattle.board_rules.specs.Rules.{Outcome, outcomeOf}
 use Rattle.board_rules.specs.Report.{reportAnswer, reportStore}
 use Rattle.board_rules.specs.Remove.{removeAnswer}
 use Rattle.board_rules.specs.Compact.{compactAnswer}
@@ -64,13 +69,26 @@ module _ (t : Table) (p : Proper t) where
       (⊎-elim (λ z. ap (resultOf (o .verdict)) (kept-new (o .verdict .number) (recordOf t) (recordOf (o .table)) z))
       (λ d. ap (resultOf (o .verdict)) (kept-old (o .verdict .number) (recordOf t) (recordOf (o .table)) d ∙ ap recordOf (sym (f d)))) (same? (o .verdict .number) 0))
 
-  pub report-is : (store : List ℕ) (k : ℕ) (ero : List ℕ) (session : Session) (pst : ℕ) →
+  report-is : (store : List ℕ) (k : ℕ) (ero : List ℕ) (session : Session) (pst : ℕ) →
       let o = reportAnswer t store k ero session pst in reportOn (recordOf t) store k ero session pst ≡ resultOf (o .verdict) (recordOf (o .table))
   report-is store k ero session pst = result-is (reportAnswer t store k ero session pst) (report-refused-keeps t store k ero session pst)
 
-  pub store-is : (store : List ℕ) (k : ℕ) (ero : List ℕ) (session : Session) (pst : ℕ) → reportStoreOn (recordOf t) store k ero session pst ≡ reportStore t store k ero session pst
-  unfolding reportStoreOn
-  store-is store k ero session pst = rw sound
+  pub report-for-is : (store : List ℕ) (k : ℕ) (ero : List ℕ) (session : Session) (pst : ℕ) (addresses : List ℕ) →
+      let o = reportFor t store k ero session pst addresses in reportForOn (recordOf t) store k ero session pst addresses ≡ resultOf (o .verdict) (recordOf (o .table))
+  unfolding reportFor reportForOn
+  report-for-is store k ero session pst addresses = go (rule28 addresses)
+    where
+      go : (b : Bool) →
+          let under = sessionFor ero true session addresses in
+          let o = cond b (outcomeOf (refusedBy notUsable 0) t) (reportAnswer t store k ero under pst) in
+          cond b (resultOf (refusedBy notUsable 0) (recordOf t)) (reportOn (recordOf t) store k ero under pst) ≡ resultOf (o .verdict) (recordOf (o .table))
+      go true = refl
+      go false = report-is store k ero (sessionFor ero true session addresses) pst
+
+  pub store-for-is : (store : List ℕ) (k : ℕ) (ero : List ℕ) (session : Session) (pst : ℕ) (addresses : List ℕ)
+      → reportStoreForOn (recordOf t) store k ero session pst addresses ≡ reportStoreFor t store k ero session pst addresses
+  unfolding reportStoreOn reportStoreFor reportStoreForOn
+  store-for-is store k ero session pst addresses = rw sound
 
   pub remove-is : (store : List ℕ) (k : ℕ) → let o = removeAnswer t store k in removeOn (recordOf t) store k ≡ resultOf (o .verdict) (recordOf (o .table))
   remove-is store k = result-is (removeAnswer t store k) (remove-refused-keeps t store k)
@@ -90,13 +108,26 @@ module _ (t : Table) (p : Proper t) where
   unfolding nextOn
   next-is store s w = rw sound
 
+-- ---- what a report leaves
+pub for-proper : (t : Table) → Sized t → Proper t → (store : List ℕ) (k : ℕ) (ero : List ℕ) (session : Session) (pst : ℕ) (addresses : List ℕ) →
+    let o = reportFor t store k ero session pst addresses in Sized (o .table) × Proper (o .table)
+unfolding reportFor
+for-proper t s p store k ero session pst addresses = go (rule28 addresses)
+  where
+    go : (b : Bool) →
+        let o = cond b (outcomeOf (refusedBy notUsable 0) t) (reportAnswer t store k ero (sessionFor ero true session addresses) pst) in Sized (o .table) × Proper (o .table)
+    go true = (s, p)
+    go false =
+        let under = sessionFor ero true session addresses in
+        (report-sized t store k ero under pst s, report-proper t store k ero under pst s p)
+
 -- ---- call for call
 abbrev recorded : OnTable → OnRecord
 recorded x = record { board = recordOf (x .table); store = x .store }
 
 reply-same : (x : OnTable) → Proper (x .table) → (c : Call) → replyOn (recorded x) c ≡ replyOf x c
 unfolding replyOn replyOf
-reply-same x p (report k ero session pst) = ap (λ (a : Result). verdict (a .verdict)) (report-is (x .table) p (x .store) k ero session pst)
+reply-same x p (report k ero session pst addresses) = ap (λ (a : Result). verdict (a .verdict)) (report-for-is (x .table) p (x .store) k ero session pst addresses)
 reply-same x p (remove k) = ap (λ (a : Result). verdict (a .verdict)) (remove-is (x .table) p (x .store) k)
 reply-same x p (compact c) = ap (λ (a : Result). verdict (a .verdict)) (compact-is (x .table) p (x .store) c)
 reply-same x p (body k) = rw (number-is (x .table) p (x .store) k, body-is (x .table) p (x .store) k)
@@ -105,8 +136,8 @@ reply-same x p fresh = refl
 
 left-same : (x : OnTable) → Proper (x .table) → (c : Call) → leftOn (recorded x) c ≡ recorded (leftOf x c)
 unfolding leftOn leftOf
-left-same x p (report k ero session pst) =
-    rw (report-is (x .table) p (x .store) k ero session pst, store-is (x .table) p (x .store) k ero session pst)
+left-same x p (report k ero session pst addresses) =
+    rw (report-for-is (x .table) p (x .store) k ero session pst addresses, store-for-is (x .table) p (x .store) k ero session pst addresses)
 left-same x p (remove k) = ap (λ (a : Result). record { board = a .board; store = x .store }) (remove-is (x .table) p (x .store) k)
 left-same x p (compact c) = ap (λ (a : Result). record { board = a .board; store = x .store }) (compact-is (x .table) p (x .store) c)
 left-same x p (body k) = refl
@@ -115,7 +146,7 @@ left-same x p fresh = refl
 
 left-proper : (x : OnTable) → Sized (x .table) → Proper (x .table) → (c : Call) → Sized (leftOf x c .table) × Proper (leftOf x c .table)
 unfolding leftOf
-left-proper x s p (report k ero session pst) = (report-sized (x .table) (x .store) k ero session pst s, report-proper (x .table) (x .store) k ero session pst s p)
+left-proper x s p (report k ero session pst addresses) = for-proper (x .table) s p (x .store) k ero session pst addresses
 left-proper x s p (remove k) = (remove-sized (x .table) (x .store) k s, remove-proper (x .table) (x .store) k s p)
 left-proper x s p (compact c) = (compact-sized (x .table) (x .store) c s, compact-proper (x .table) (x .store) c p)
 left-proper x s p (body k) = (s, p)

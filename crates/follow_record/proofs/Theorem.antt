@@ -13,8 +13,8 @@ use Rattle.board_record.specs.Record.{tableIn, recordOf, emptyBoard}
 use Rattle.board_record.proofs.Proper.{empty-sized, empty-proper}
 use Rattle.board_rules.specs.Report.{bodyIn}
 use Rattle.board_rules.specs.OnRecord.{Result}
-use Rattle.board_rules.proofs.Keeps.{report-proper, remove-proper, compact-proper}
-use Rattle.board_rules.proofs.Stores.{report-sized, remove-sized, compact-sized}
+use Rattle.board_rules.proofs.Keeps.{remove-proper, compact-proper}
+use Rattle.board_rules.proofs.Stores.{remove-sized, compact-sized}
 use Rattle.follow.specs.Story.{sets, clears, Story, beginning, begun, did, compactedTo}
 use Rattle.follow.specs.Follower.{Follower, fresh}
 use Rattle.follow.specs.Heard.{Heard, heardIn, does, cutOff}
@@ -22,7 +22,7 @@ use Rattle.follow.specs.Run.{World, Act, report, remove, compact, begin, ask, a
 use Rattle.follow.specs.Promise.{Answered}
 use Rattle.follow.proofs.Theorem.{from-the-empty-start}
 use Rattle.follow_record.specs.Followers.{WorldOn, toldOn, answerToOn, followingOn, stepOn, runOn, startOn, NoFollowerOfARecordIsFooled}
-use Rattle.follow_record.proofs.Same.{empty-record, report-is, store-is, remove-is, compact-is, next-is}
+use Rattle.follow_record.proofs.Same.{empty-record, report-for-is, store-for-is, for-proper, remove-is, compact-is, next-is}
 
 abbrev recordedWorld : World → WorldOn
 recordedWorld x = record { board = recordOf (x .table); store = x .store; story = x .story; followers = x .followers }
@@ -32,8 +32,8 @@ answer-same x p n = ap (heardIn (x .store)) (next-is (x .table) p (x .store) (x 
 
 step-same : (x : World) → Proper (x .table) → (a : Act) → stepOn (recordedWorld x) a ≡ recordedWorld (step x a)
 unfolding stepOn step
-step-same x p (report k ero session pst) =
-    rw (report-is (x .table) p (x .store) k ero session pst, store-is (x .table) p (x .store) k ero session pst)
+step-same x p (report k ero session pst addresses) =
+    rw (report-for-is (x .table) p (x .store) k ero session pst addresses, store-for-is (x .table) p (x .store) k ero session pst addresses)
 step-same x p (remove k) =
     ap (λ (a : Result). record { board = a .board; store = x .store; story = toldOn a (did (clears k) (x .story)) (x .story); followers = x .followers })
     (remove-is (x .table) p (x .store) k)
@@ -46,7 +46,7 @@ step-same x p (askCut n) = ap (λ (h : Heard). followingOn (recordedWorld x) n (
 
 step-proper : (x : World) → Sized (x .table) → Proper (x .table) → (a : Act) → Sized (step x a .table) × Proper (step x a .table)
 unfolding step
-step-proper x s p (report k ero session pst) = (report-sized (x .table) (x .store) k ero session pst s, report-proper (x .table) (x .store) k ero session pst s p)
+step-proper x s p (report k ero session pst addresses) = for-proper (x .table) s p (x .store) k ero session pst addresses
 step-proper x s p (remove k) = (remove-sized (x .table) (x .store) k s, remove-proper (x .table) (x .store) k s p)
 step-proper x s p (compact c) = (compact-sized (x .table) (x .store) c s, compact-proper (x .table) (x .store) c p)
 step-proper x s p (begin n) = (s, p)

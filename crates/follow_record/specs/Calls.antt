@@ -10,16 +10,16 @@ use Rattle.board_record.specs.Table.{Table, emptyTable}
 use Rattle.board_record.specs.Record.{tableIn, emptyBoard}
 use Rattle.board_rules.specs.declared.answer.Handed.{Handed}
 use Rattle.board_rules.specs.declared.answer.Mark.{Mark}
-use Rattle.board_rules.specs.Report.{reportAnswer, reportStore}
 use Rattle.board_rules.specs.Remove.{removeAnswer}
 use Rattle.board_rules.specs.Compact.{compactAnswer}
 use Rattle.board_rules.specs.Body.{bodyNumber, bodyOf}
 use Rattle.board_rules.specs.Next.{nextAnswer, freshMark}
-use Rattle.board_rules.specs.OnRecord.{reportOn, reportStoreOn, removeOn, compactOn, bodyNumberOn, bodyOn, nextOn}
+use Rattle.report_call.specs.Reported.{reportFor, reportStoreFor, reportForOn, reportStoreForOn}
+use Rattle.board_rules.specs.OnRecord.{removeOn, compactOn, bodyNumberOn, bodyOn, nextOn}
 
--- report (key, ERO, session, PST), remove (key), compact (c), body (key), next (mark s, w), a fresh mark
+-- report (key, ERO, session, PST, addresses), remove (key), compact (c), body (key), next (mark s, w), a fresh mark
 pub data Call : Type 0 where
-  report : ℕ → List ℕ → Session → ℕ → Call
+  report : ℕ → List ℕ → Session → ℕ → List ℕ → Call
   remove : ℕ → Call
   compact : ℕ → Call
   body : ℕ → Call
@@ -39,7 +39,7 @@ pub record OnTable : Type 0 where
   pub store : List ℕ
 
 unfoldable pub replyOf : OnTable → Call → Reply
-replyOf x (report k ero session pst) = verdict (reportAnswer (x .table) (x .store) k ero session pst .verdict)
+replyOf x (report k ero session pst addresses) = verdict (reportFor (x .table) (x .store) k ero session pst addresses .verdict)
 replyOf x (remove k) = verdict (removeAnswer (x .table) (x .store) k .verdict)
 replyOf x (compact c) = verdict (compactAnswer (x .table) (x .store) c .verdict)
 replyOf x (body k) = octets (bodyNumber (x .table) (x .store) k) (bodyOf (x .table) (x .store) k)
@@ -47,8 +47,8 @@ replyOf x (next s w) = handed (nextAnswer (x .table) (x .store) s w)
 replyOf x fresh = mark (freshMark (x .table))
 
 unfoldable pub leftOf : OnTable → Call → OnTable
-leftOf x (report k ero session pst) =
-    record { table = reportAnswer (x .table) (x .store) k ero session pst .table; store = reportStore (x .table) (x .store) k ero session pst }
+leftOf x (report k ero session pst addresses) =
+    record { table = reportFor (x .table) (x .store) k ero session pst addresses .table; store = reportStoreFor (x .table) (x .store) k ero session pst addresses }
 leftOf x (remove k) = record { table = removeAnswer (x .table) (x .store) k .table; store = x .store }
 leftOf x (compact c) = record { table = compactAnswer (x .table) (x .store) c .table; store = x .store }
 leftOf x (body k) = x
@@ -65,7 +65,7 @@ pub record OnRecord : Type 0 where
   pub store : List ℕ
 
 unfoldable pub replyOn : OnRecord → Call → Reply
-replyOn x (report k ero session pst) = verdict (reportOn (x .board) (x .store) k ero session pst .verdict)
+replyOn x (report k ero session pst addresses) = verdict (reportForOn (x .board) (x .store) k ero session pst addresses .verdict)
 replyOn x (remove k) = verdict (removeOn (x .board) (x .store) k .verdict)
 replyOn x (compact c) = verdict (compactOn (x .board) (x .store) c .verdict)
 replyOn x (body k) = octets (bodyNumberOn (x .board) (x .store) k) (bodyOn (x .board) (x .store) k)
@@ -73,8 +73,8 @@ replyOn x (next s w) = handed (nextOn (x .board) (x .store) s w)
 replyOn x fresh = mark (freshMark (tableIn (x .board)))
 
 unfoldable pub leftOn : OnRecord → Call → OnRecord
-leftOn x (report k ero session pst) =
-    record { board = reportOn (x .board) (x .store) k ero session pst .board; store = reportStoreOn (x .board) (x .store) k ero session pst }
+leftOn x (report k ero session pst addresses) =
+    record { board = reportForOn (x .board) (x .store) k ero session pst addresses .board; store = reportStoreForOn (x .board) (x .store) k ero session pst addresses }
 leftOn x (remove k) = record { board = removeOn (x .board) (x .store) k .board; store = x .store }
 leftOn x (compact c) = record { board = compactOn (x .board) (x .store) c .board; store = x .store }
 leftOn x (body k) = x

@@ -10,7 +10,8 @@ use Rattle.board_record.specs.declared.record.Board.{Board}
 use Rattle.board_record.specs.Sizes.{storeSize}
 use Rattle.board_record.specs.Record.{tableIn, emptyBoard}
 use Rattle.board_rules.specs.Report.{bodyIn}
-use Rattle.board_rules.specs.OnRecord.{Result, reportOn, reportStoreOn, removeOn, compactOn, nextOn}
+use Rattle.board_rules.specs.OnRecord.{Result, removeOn, compactOn, nextOn}
+use Rattle.report_call.specs.Reported.{reportForOn, reportStoreForOn}
 use Rattle.follow.specs.Story.{sets, clears, Story, beginning, begun, did, compactedTo}
 use Rattle.follow.specs.Follower.{Follower, fresh}
 use Rattle.follow.specs.Heard.{Heard, heardIn, does, cutOff}
@@ -35,9 +36,14 @@ abbrev pub followingOn : WorldOn → ℕ → Follower → WorldOn
 followingOn x n f = record { board = x .board; store = x .store; story = x .story; followers = λ m. cond (eqb m n) f (x .followers m) }
 
 unfoldable pub stepOn : WorldOn → Act → WorldOn
-stepOn x (report k ero session pst) =
-    let a = reportOn (x .board) (x .store) k ero session pst in
-    record { board = a .board; store = reportStoreOn (x .board) (x .store) k ero session pst; story = toldOn a (did (sets k (bodyIn ero)) (x .story)) (x .story); followers = x .followers }
+stepOn x (report k ero session pst addresses) =
+    let a = reportForOn (x .board) (x .store) k ero session pst addresses in
+    record {
+      board = a .board;
+      store = reportStoreForOn (x .board) (x .store) k ero session pst addresses;
+      story = toldOn a (did (sets k (bodyIn ero)) (x .story)) (x .story);
+      followers = x .followers;
+    }
 stepOn x (remove k) =
     let a = removeOn (x .board) (x .store) k in
     record { board = a .board; store = x .store; story = toldOn a (did (clears k) (x .story)) (x .story); followers = x .followers }

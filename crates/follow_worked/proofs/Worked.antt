@@ -15,6 +15,11 @@ use Rattle.subobject.specs.Rules.{rule7, rule8, rule9, rule10, rule11, hasStruc
 use Rattle.subobject.specs.Strays.{strayFlags, structureFlags, reservedOctets, straysAt}
 use Rattle.frame.specs.Frames.{headed, fitsIn, apart, apartOf, rule4, rule5, rule6Place, rule6, rule14}
 use Rattle.route.specs.Routes.{rule13, rule12, judgeOf}
+use Rattle.head_end.specs.Addresses.{usableList}
+use Rattle.route_limit.specs.FirstOff.{underLimit, sessionFor}
+use Rattle.route_limit.proofs.Laws.{no-address}
+use Rattle.route_call.specs.Called.{rule28}
+use Rattle.report_call.specs.Reported.{reportFor, reportStoreFor}
 use Rattle.board_record.specs.Table.{Table, tableOf, emptyTable, removalB}
 use Rattle.board_record.specs.Search.{firstWhere, leastWhere, placeIn, oldestOf, targetOf, floorAfter, wantedB, nextOf}
 use Rattle.board_record.specs.Proper.{allBelow, placeOk, soundB, freshB, newB, distinctB, properB}
@@ -55,6 +60,11 @@ abbrev store2 : List ℕ
 store2 = path 1 ++ (replicate 360 0 ++ (path 2 ++ replicate 48744 0))
 
 -- ---- what each call answers
+
+-- neither flag is agreed, and no address given
+own-limit : (n : ℕ) → sessionFor (object n) true agreed [] ≡ agreed
+unfolding sessionFor
+own-limit n = ap (underLimit agreed) (no-address (object n) true agreed [] refl)
 
 judged : (n : ℕ) → judgeOf (object n) true agreed 3 ≡ acceptedWith 1
 unfolding judgeOf rule4 headed fitsIn apart apartOf rule5 rule6Place rule6 rule14 rule13 rule12 rule7 rule8 rule9 rule10 rule11 hasStructure sumAt
@@ -99,13 +109,13 @@ at3 = record { table = table3; store = store2; story = did (clears keyA) (at2 .s
 abbrev at4 : World
 at4 = record { table = table4; store = store2; story = compactedTo 3 (at3 .story); followers = dawn .followers }
 
-step1 : step dawn (report keyA (object 1) agreed 3) ≡ at1
-unfolding step reportAnswer reportStore
-step1 = rw (judged 1, report1, stored1)
+step1 : step dawn (report keyA (object 1) agreed 3 []) ≡ at1
+unfolding step reportFor reportStoreFor rule28 usableList reportAnswer reportStore
+step1 = rw (own-limit 1, judged 1, report1, stored1)
 
-step2 : step at1 (report keyB (object 2) agreed 3) ≡ at2
-unfolding step reportAnswer reportStore
-step2 = rw (judged 2, report2, stored2)
+step2 : step at1 (report keyB (object 2) agreed 3 []) ≡ at2
+unfolding step reportFor reportStoreFor rule28 usableList reportAnswer reportStore
+step2 = rw (own-limit 2, judged 2, report2, stored2)
 
 step3 : step at2 (remove keyA) ≡ at3
 unfolding step

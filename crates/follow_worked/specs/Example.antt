@@ -10,6 +10,7 @@ use lib.Dec.{eqb}
 use Rattle.answers.specs.Numbers.{markTooOld}
 use Rattle.board_record.specs.Table.{emptyTable}
 use Rattle.board_rules.specs.Next.{nextAnswer}
+use Rattle.msd.specs.Msd.{absent}
 use Rattle.session.specs.declared.Limit.the-variants.{Most}
 use Rattle.session.specs.declared.Session.{Session}
 use Rattle.follow.specs.Story.{Body, sets, clears}
@@ -27,9 +28,9 @@ path n =
 abbrev pub object : ℕ → List ℕ
 object n = 0x07 ∷ 0x10 ∷ 0x00 ∷ 0x1C ∷ path n
 
--- the session of O and O: SRv6 agreed, N 0, limit 4
+-- the session of O and O: SRv6 agreed, N 0, limit 4 by H.Encaps, neither flag
 abbrev pub agreed : Session
-agreed = record { agreed = true; n = false; limit = Most 4 }
+agreed = record { agreed = true; n = false; limit = Most 4; a = false; r = false; v = 4; m = absent }
 
 -- keys A and B
 abbrev pub keyA : ℕ
@@ -39,7 +40,7 @@ abbrev pub keyB : ℕ
 keyB = 9
 
 abbrev pub calls : List Act
-calls = report keyA (object 1) agreed 3 ∷ report keyB (object 2) agreed 3 ∷ remove keyA ∷ []
+calls = report keyA (object 1) agreed 3 [] ∷ report keyB (object 2) agreed 3 [] ∷ remove keyA ∷ []
 
 -- the empty table with a store of 49,152 octets, every follower fresh
 abbrev pub dawn : World

@@ -5,10 +5,11 @@ use mathlib.Core.Path.{_≡_, refl, ap}
 use mathlib.Core.Bool.{Bool, true, false}
 use lib.Dec.{ltb}
 use borrow.Author.Tests.{ltb-true, ltb-false}
+use Rattle.session.specs.declared.Limit.{Limit}
 use Rattle.session.specs.declared.Limit.the-variants.{Free, Most}
 use Rattle.msd.specs.Msd.{absent, depthIn}
 use Rattle.msd.proofs.Laws.{depth-octet, depth-none}
-use Rattle.msd_limit.specs.Limits.{segmentsLeftPermits, limitBy}
+use Rattle.msd_limit.specs.Limits.{segmentsLeftPermits, limitBy, oneMoreBy}
 
 module _ (v m : ℕ) where
   pub by-left : absent ≤ v → segmentsLeftPermits (depthIn m) ≡ limitBy (depthIn v) (depthIn m)
@@ -23,3 +24,18 @@ module _ (v m : ℕ) where
       go : (b : Bool) → ltb m absent ≡ b → Most most ≡ limitBy (depthIn v) (depthIn m)
       go true f = let k = ltb-true m absent f in rw (depth-octet v h, depth-octet m k) (ap Most (omega arith))
       go false f = rw (depth-octet v h, depth-none m (ltb-false m absent f)) (ap Most e)
+
+-- With one segment more.
+module _ (limit : Limit) (v m : ℕ) where
+  pub more-none : absent ≤ v → limit ≡ oneMoreBy limit (depthIn v) (depthIn m)
+  more-none h = rw (depth-none v h)
+
+  pub more-left : v < absent → m < v + 1 → Most (m + 1) ≡ oneMoreBy limit (depthIn v) (depthIn m)
+  more-left h l = rw (depth-octet v h, depth-octet m (omega arith)) (ap Most (omega arith))
+
+  pub more-encaps : v < absent → v + 1 ≤ m → Most (v + 1) ≡ oneMoreBy limit (depthIn v) (depthIn m)
+  more-encaps h l = go (ltb m absent) refl
+    where
+      go : (b : Bool) → ltb m absent ≡ b → Most (v + 1) ≡ oneMoreBy limit (depthIn v) (depthIn m)
+      go true f = let k = ltb-true m absent f in rw (depth-octet v h, depth-octet m k) (ap Most (omega arith))
+      go false f = rw (depth-octet v h, depth-none m (ltb-false m absent f))

@@ -13,7 +13,7 @@ use Rattle.answers.proofs.Determined.{determined}
 use Rattle.session.specs.declared.Limit.{Limit}
 use Rattle.session.specs.declared.Limit.the-variants.{Free, Most}
 use Rattle.msd.specs.Msd.{maxSegmentsLeft, maxEndPop, maxHEncaps, maxEndD, Pair, smaller, withPair, smallestOf, depthIn}
-use Rattle.msd_limit.specs.Limits.{hEncapsPermits, segmentsLeftPermits, lower, limitBy, limitIn, present, isEnd, onlyEnds, within}
+use Rattle.msd_limit.specs.Limits.{hEncapsPermits, segmentsLeftPermits, lower, limitBy, oneMoreBy, limitIn, present, isEnd, onlyEnds, within}
 
 -- no limit -----------------------------------------------------------------------------------------------------
 
@@ -118,6 +118,30 @@ one-more-never-raises n qs ps p h =
     let h1 = either-way maxHEncaps qs ps p (λ d. within n (limitBy d m)) h (encaps-more n (p .value) v m) in
     either-way maxSegmentsLeft qs ps p (λ d. within n (limitBy v d)) h1 (left-more n (p .value) v (smallestOf maxSegmentsLeft (qs ++ ps)))
 
+-- one segment more ---------------------------------------------------------------------------------------------
+
+-- What is within the limit of v and m is within it with one segment more.
+pub one-more-keeps : (n : ℕ) (v m : Option ℕ) → within n (limitBy v m) → within n (oneMoreBy (limitBy v m) v m)
+one-more-keeps n none m h = h
+one-more-keeps n (some v) none h = omega (arith, h)
+one-more-keeps n (some v) (some m) h = omega (arith, h)
+
+-- It is one segment at most: of what is within it, one segment less is within the limit of v and m, or it is the first.
+pub one-more-at-most : (n : ℕ) (v m : Option ℕ) → within (n + 1) (oneMoreBy (limitBy v m) v m) → within (max 1 n) (limitBy v m)
+one-more-at-most n none none h = tt
+one-more-at-most n none (some m) h = omega (arith, h)
+one-more-at-most n (some v) none h = omega (arith, h)
+one-more-at-most n (some v) (some m) h = omega (arith, h)
+
+-- Segments Left is untouched: it binds as before.
+pub left-untouched : (n m : ℕ) (v : Option ℕ) → within n (oneMoreBy (limitBy v (some m)) v (some m)) → within n (segmentsLeftPermits (some m))
+left-untouched n m none h = h
+left-untouched n m (some v) h = omega (arith, h)
+
+-- A zero of H.Encaps permits one segment, on the header or off it.
+pub zero-more : oneMoreBy (Most 1) (some 0) none ≡ Most 1
+zero-more = refl
+
 -- bounds -------------------------------------------------------------------------------------------------------
 
 -- A route of one segment is within every limit.
@@ -143,7 +167,10 @@ encaps-255 = refl
 pub left-255 : limitIn (record { kind = maxSegmentsLeft; value = 255 } ∷ []) ≡ Most 256
 left-255 = refl
 
--- Any two answers that fit the contract of `limit` are equal ----------------------------------------------------
+-- Any two answers that fit the contract of a call are equal -------------------------------------------------------
+
+pub one_more-determined : (limit : Limit) (v m : ℕ) {x y : Limit} → x ≡ oneMoreBy limit (depthIn v) (depthIn m) → y ≡ oneMoreBy limit (depthIn v) (depthIn m) → x ≡ y
+one_more-determined limit v m = determined
 
 pub limit-determined : (v m : ℕ) {x y : Limit} → x ≡ limitBy (depthIn v) (depthIn m) → y ≡ limitBy (depthIn v) (depthIn m) → x ≡ y
 limit-determined v m = determined

@@ -1,4 +1,4 @@
--- How many segments the two MSD types permit that bind the head end (document 02, C-11; document 001, section 4).
+-- How many segments the two MSD types permit that bind the head end (document 02, C-11; document 001, section 4), and with one segment more.
 use Prim.Native.Nat.{ℕ, _+_, _≤_, min, max}
 use mathlib.Core.List.{List, [], _∷_}
 use mathlib.Core.Bool.{Bool, true, false, _&&_, _||_}
@@ -30,6 +30,11 @@ limitBy v m = lower (hEncapsPermits v) (segmentsLeftPermits m)
 
 abbrev pub limitIn : List Pair → Limit
 limitIn ps = limitBy (smallestOf maxHEncaps ps) (smallestOf maxSegmentsLeft ps)
+
+-- The first segment stays off the header: "then H.Encaps v permits v + 1; Segments Left is untouched" (document 02, C-15). Without H.Encaps the limit stays.
+abbrev pub oneMoreBy : Limit → Option ℕ → Option ℕ → Limit
+oneMoreBy limit none m = limit
+oneMoreBy limit (some v) m = lower (Most (v + 1)) (segmentsLeftPermits m)
 
 -- words of the theorems ----------------------------------------------------------------------------------------
 

@@ -2,10 +2,11 @@
 //
 // H.Encaps (44) with value v permits the larger of 1 and v segments, as by RFC 9352 a zero still applies one segment.
 // Segments Left (41) with value m permits m + 1. The limit is the smaller of those present; none present, no limit.
+// Where the first segment stays off the header, H.Encaps permits v + 1 instead (document 02, C-15).
 ghost use Prim.Native.Nat.{max};
 ghost use mathlib.Core.Path.{_≡_};
 ghost use Rattle.msd.specs.Msd.{depthIn};
-ghost use Rattle.msd_limit.specs.Limits.{segmentsLeftPermits, limitBy};
+ghost use Rattle.msd_limit.specs.Limits.{segmentsLeftPermits, limitBy, oneMoreBy};
 use msd::ABSENT;
 use session::Limit;
 
@@ -38,4 +39,19 @@ pub fn limit(v: usize, m: usize) -> Limit
         return Limit::Most(m + 1);
     }
     Limit::Most(most)
+}
+
+// The limit where the first segment stays off the header: H.Encaps' v permits v + 1. A limit that H.Encaps has no part in
+// stays.
+pub fn one_more(limit: Limit, encaps: usize, left: usize) -> Limit
+    ensures more { λ r. ⌜ r ≡ oneMoreBy limit (depthIn encaps) (depthIn left) ⌝ }
+{
+    if ABSENT <= encaps {
+        return limit;
+    }
+    let off = encaps + 1;
+    if left < off {
+        return Limit::Most(left + 1);
+    }
+    Limit::Most(off)
 }

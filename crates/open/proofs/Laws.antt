@@ -11,14 +11,16 @@ use Rattle.octets.specs.Octets.{part}
 use Rattle.octets.proofs.Laws.{rest-lent}
 use Rattle.octets.proofs.Said.{both-true, and-holding}
 use Rattle.objects.specs.Objects.{unit, srv6Setup, objectLength}
-use Rattle.answers.specs.Numbers.{openMalformed}
+use Rattle.answers.specs.Numbers.{openMalformed, notUsable}
+use Rattle.positions.specs.declared.Setup.{Setup}
+use Rattle.positions.specs.Positions.{usableSetup}
 use Rattle.session.specs.declared.Opened.{Opened}
 use Rattle.session.specs.Sessions.{openRefused}
 use Rattle.tlvs.specs.Tlvs.{tlvsWhole, firstTlv}
 use Rattle.capability.specs.SetupTypes.{pathSetup, holdsList, subsOf, listsType}
 use Rattle.capability.specs.Srv6.{srv6Capability, announcedOf}
 use Rattle.open_walk.specs.Walk.{Sight, torn, seen, openWalk}
-use Rattle.open.specs.Open.{tlvsAt, openHeaded, measured, framed, openTlvs, setupOf, srv6Of, listed, fitting, holding, subSized, breaks1, breaks2, breaks3, carriesOf, openOf}
+use Rattle.open.specs.Open.{tlvsAt, openHeaded, measured, framed, openTlvs, setupOf, srv6Of, listed, fitting, holding, subSized, breaks28, breaks1, breaks2, breaks3, carriesOf, openOf}
 use Rattle.open.specs.Carried.{carriedBy}
 
 -- the answer ---------------------------------------------------------------------------------------------------
@@ -45,35 +47,40 @@ unfolding part
 part-rest s a = rest-lent s a
 
 -- What a walk over the TLVs of a framed object comes to.
-abbrev pub answerBy : Sight → Opened
-answerBy torn = openRefused openMalformed
-answerBy (seen list sub) = carriedBy list sub
+abbrev pub answerBy : Setup → Sight → Opened
+answerBy p torn = openRefused openMalformed
+answerBy p (seen list sub) = carriedBy p list sub
 
-pub unframed : (s : List ℕ) → framed s ≡ false → openRefused openMalformed ≡ openOf s
-unfolding openOf breaks1
-unframed s e = rw e
+-- Positions of no use go before everything else.
+pub unusable : (p : Setup) (s : List ℕ) → usableSetup p ≡ false → openRefused notUsable ≡ openOf p s
+unfolding openOf breaks28
+unusable p s u = rw u
+
+pub unframed : (p : Setup) (s : List ℕ) → usableSetup p ≡ true → framed s ≡ false → openRefused openMalformed ≡ openOf p s
+unfolding openOf breaks28 breaks1
+unframed p s u e = rw (u, e)
 
 -- The walk of the code and the rules of the paper give the same answer.
-pub answered : (s : List ℕ) → framed s ≡ true → answerBy (openWalk false srv6Capability (drop tlvsAt s)) ≡ openOf s
-unfolding openWalk openOf breaks1 breaks2 breaks3 fitting holding subSized listed srv6Of setupOf carriesOf announcedOf
-answered s e = fit (tlvsWhole (openTlvs s)) (firstTlv pathSetup (openTlvs s)) refl refl
+pub answered : (p : Setup) (s : List ℕ) → usableSetup p ≡ true → framed s ≡ true → answerBy p (openWalk false srv6Capability (drop tlvsAt s)) ≡ openOf p s
+unfolding openWalk openOf breaks28 breaks1 breaks2 breaks3 fitting holding subSized listed srv6Of setupOf carriesOf announcedOf
+answered p s u e = fit (tlvsWhole (openTlvs s)) (firstTlv pathSetup (openTlvs s)) refl refl
   where
     sub : (v : List ℕ) → tlvsWhole (openTlvs s) ≡ true → firstTlv pathSetup (openTlvs s) ≡ some v → (holdsList v && tlvsWhole (subsOf v)) ≡ true → listsType srv6Setup v ≡ true
-        → (o : Option (List ℕ)) → firstTlv srv6Capability (subsOf v) ≡ o → answerBy (openWalk false srv6Capability (drop tlvsAt s)) ≡ openOf s
-    sub v f g h k none m = rw (e, f, g, h, k, m)
-    sub v f g h k (some w) m = rw (e, f, g, h, k, m)
+        → (o : Option (List ℕ)) → firstTlv srv6Capability (subsOf v) ≡ o → answerBy p (openWalk false srv6Capability (drop tlvsAt s)) ≡ openOf p s
+    sub v f g h k none m = rw (u, e, f, g, h, k, m)
+    sub v f g h k (some w) m = rw (u, e, f, g, h, k, m)
 
     listing : (v : List ℕ) → tlvsWhole (openTlvs s) ≡ true → firstTlv pathSetup (openTlvs s) ≡ some v → (holdsList v && tlvsWhole (subsOf v)) ≡ true
-        → (b : Bool) → listsType srv6Setup v ≡ b → answerBy (openWalk false srv6Capability (drop tlvsAt s)) ≡ openOf s
+        → (b : Bool) → listsType srv6Setup v ≡ b → answerBy p (openWalk false srv6Capability (drop tlvsAt s)) ≡ openOf p s
     listing v f g h true k = sub v f g h k (firstTlv srv6Capability (subsOf v)) refl
-    listing v f g h false k = rw (e, f, g, h, k)
+    listing v f g h false k = rw (u, e, f, g, h, k)
 
     hold : (v : List ℕ) → tlvsWhole (openTlvs s) ≡ true → firstTlv pathSetup (openTlvs s) ≡ some v
-        → (b : Bool) → (holdsList v && tlvsWhole (subsOf v)) ≡ b → answerBy (openWalk false srv6Capability (drop tlvsAt s)) ≡ openOf s
+        → (b : Bool) → (holdsList v && tlvsWhole (subsOf v)) ≡ b → answerBy p (openWalk false srv6Capability (drop tlvsAt s)) ≡ openOf p s
     hold v f g true h = listing v f g h (listsType srv6Setup v) refl
-    hold v f g false h = rw (e, f, g, h)
+    hold v f g false h = rw (u, e, f, g, h)
 
-    fit : (b : Bool) (o : Option (List ℕ)) → tlvsWhole (openTlvs s) ≡ b → firstTlv pathSetup (openTlvs s) ≡ o → answerBy (openWalk false srv6Capability (drop tlvsAt s)) ≡ openOf s
-    fit false o f g = rw (e, f)
-    fit true none f g = rw (e, f, g)
+    fit : (b : Bool) (o : Option (List ℕ)) → tlvsWhole (openTlvs s) ≡ b → firstTlv pathSetup (openTlvs s) ≡ o → answerBy p (openWalk false srv6Capability (drop tlvsAt s)) ≡ openOf p s
+    fit false o f g = rw (u, e, f)
+    fit true none f g = rw (u, e, f, g)
     fit true (some v) f g = hold v f g (holdsList v && tlvsWhole (subsOf v)) refl

@@ -6,15 +6,16 @@ use mathlib.Core.Bool.{cond}
 use mathlib.Core.Option.{Option, none, some}
 use Rattle.objects.specs.Objects.{srv6Setup}
 use Rattle.answers.specs.Numbers.{capabilityMissing}
+use Rattle.positions.specs.declared.Setup.{Setup}
 use Rattle.session.specs.declared.Opened.{Opened}
 use Rattle.session.specs.Sessions.{openRefused, withoutSrv6}
 use Rattle.capability.specs.SetupTypes.{listsType}
 use Rattle.capability.specs.Srv6.{announcedOf}
 
-abbrev pub announcedBy : Option (List ℕ) → Opened
-announcedBy none = openRefused capabilityMissing
-announcedBy (some w) = announcedOf w
+abbrev pub announcedBy : Setup → Option (List ℕ) → Opened
+announcedBy p none = openRefused capabilityMissing
+announcedBy p (some w) = announcedOf p w
 
-abbrev pub carriedBy : Option (List ℕ) → Option (List ℕ) → Opened
-carriedBy none sub = withoutSrv6
-carriedBy (some v) sub = cond (listsType srv6Setup v) (announcedBy sub) (withoutSrv6)
+abbrev pub carriedBy : Setup → Option (List ℕ) → Option (List ℕ) → Opened
+carriedBy p none sub = withoutSrv6
+carriedBy p (some v) sub = cond (listsType srv6Setup v) (announcedBy p sub) (withoutSrv6)

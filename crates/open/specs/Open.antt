@@ -7,7 +7,9 @@ use lib.ListN.{length, drop}
 use lib.Dec.{eqb, leb}
 use Rattle.octets.specs.Octets.{octetOf}
 use Rattle.objects.specs.Objects.{header, unit, openClass, objectType, srv6Setup, objectClass, objectKind, objectLength}
-use Rattle.answers.specs.Numbers.{openMalformed, capabilityMissing, wrongMsd}
+use Rattle.answers.specs.Numbers.{openMalformed, capabilityMissing, wrongMsd, notUsable}
+use Rattle.positions.specs.declared.Setup.{Setup}
+use Rattle.positions.specs.Positions.{usableSetup}
 use Rattle.session.specs.declared.Opened.{Opened}
 use Rattle.session.specs.Sessions.{openRefused, withoutSrv6}
 use Rattle.tlvs.specs.Tlvs.{Tlvs, tlvsOf, tlvsWhole, firstTlv, absent}
@@ -55,6 +57,12 @@ listedIn (some v) = listsType srv6Setup v
 
 unfoldable pub listed : List ℕ → Bool
 listed s = listedIn (setupOf s)
+
+-- rule 28 ------------------------------------------------------------------------------------------------------
+
+-- "28 unusable bit positions .., before all others" (document 02, C-15).
+unfoldable pub breaks28 : Setup → Bool
+breaks28 p = not (usableSetup p)
 
 -- rule 1 -------------------------------------------------------------------------------------------------------
 
@@ -111,18 +119,19 @@ breaks3 s = listed s && wrongSub (srv6Of s)
 
 -- the answer ---------------------------------------------------------------------------------------------------
 
-abbrev pub saidBy : Option (List ℕ) → Opened
-saidBy none = withoutSrv6
-saidBy (some w) = carriesBy w
+abbrev pub saidBy : Setup → Option (List ℕ) → Opened
+saidBy p none = withoutSrv6
+saidBy p (some w) = carriesBy p w
 
 -- SRv6 is carried where type 3 is listed, as sub-TLV 27 says.
-unfoldable pub carriesOf : List ℕ → Opened
-carriesOf s = cond (listed s) (saidBy (srv6Of s)) withoutSrv6
+unfoldable pub carriesOf : Setup → List ℕ → Opened
+carriesOf p s = cond (listed s) (saidBy p (srv6Of s)) withoutSrv6
 
--- "Order: 1, 2, 3. Otherwise accepted."
-unfoldable pub openOf : List ℕ → Opened
-openOf s =
-    cond (breaks1 s) (openRefused openMalformed)
+-- 28 "before all others". "Order: 1, 2, 3. Otherwise accepted."
+unfoldable pub openOf : Setup → List ℕ → Opened
+openOf p s =
+    cond (breaks28 p) (openRefused notUsable)
+    (cond (breaks1 s) (openRefused openMalformed)
     (cond (breaks2 s) (openRefused capabilityMissing)
     (cond (breaks3 s) (openRefused wrongMsd)
-    (carriesOf s)))
+    (carriesOf p s))))

@@ -3,8 +3,8 @@
 // octet whose top 3 bits are the version, which must be 1, then keepalive, dead timer, session number,
 // then TLVs.
 //
-// 1: ill formed. 2: setup type 3 listed and no sub-TLV 27. 3: X is 0 and a pair's type is unknown.
-// The order is 1, 2, 3, and all of rule 1, to the last TLV, goes before 2 and 3.
+// 28: unusable bit positions. 1: ill formed. 2: setup type 3 listed and no sub-TLV 27. 3: X is 0 and a pair's type is unknown.
+// The order is 28, 1, 2, 3, and all of rule 1, to the last TLV, goes before 2 and 3.
 ghost use mathlib.Core.Path.{_≡_};
 ghost use mathlib.Core.Bool.{true};
 ghost use Prim.Native.Nat.{_<_};
@@ -14,6 +14,7 @@ ghost use Rattle.open_walk.specs.Walk.{Listed};
 ghost use Rattle.open.specs.Carried.{carriedBy};
 ghost use Rattle.open.specs.Open.{framed, openOf};
 use answers::CAPABILITY_MISSING;
+use answers::NOT_USABLE;
 use answers::OPEN_MALFORMED;
 use capability::SRV6_CAPABILITY;
 use objects::CLASS_PLACE;
@@ -26,6 +27,7 @@ use objects::TYPE_PLACE;
 use objects::TYPE_WORTH;
 use objects::UNIT;
 use open_walk::Found;
+use positions::Setup;
 use session::Opened;
 use tlvs::NOWHERE;
 use tlvs::Span;
@@ -60,9 +62,9 @@ fn is_framed(s: &[u8]) -> bool
 }
 
 // What the values found carry: SRv6 only where setup type 3 is listed.
-fn carried_by(s: &[u8], list: Span, sub: Span) -> Opened
+fn carried_by(p: Setup, s: &[u8], list: Span, sub: Span) -> Opened
     requires { ⌜ Listed (now s) list × Inside (length (now s)) sub ⌝ }
-    ensures carried { λ r. ⌜ r ≡ carriedBy (valueAt (now (s .entry)) list) (valueAt (now (s .entry)) sub) ⌝ }
+    ensures carried { λ r. ⌜ r ≡ carriedBy p (valueAt (now (s .entry)) list) (valueAt (now (s .entry)) sub) ⌝ }
 {
     if list.from == NOWHERE {
         return session::without_srv6();
@@ -77,18 +79,21 @@ fn carried_by(s: &[u8], list: Span, sub: Span) -> Opened
     }
     let first = sub.from;
     let last = first + sub.len;
-    capability::announced(&s[first..last])
+    capability::announced(p, &s[first..last])
 }
 
-// The answer to an OPEN object: what it carries, or 1, 2 or 3.
-pub fn read_open(s: &[u8]) -> Opened
-    ensures read { λ r. ⌜ r ≡ openOf (now (s .entry)) ⌝ }
+// The answer to an OPEN object, with A and R at two positions: what it carries, or 28, 1, 2 or 3.
+pub fn read_open(p: Setup, s: &[u8]) -> Opened
+    ensures read { λ r. ⌜ r ≡ openOf p (now (s .entry)) ⌝ }
 {
+    if !positions::usable(p) {
+        return session::refused_open(NOT_USABLE);
+    }
     if !is_framed(s) {
         return session::refused_open(OPEN_MALFORMED);
     }
     match open_walk::walk(s, TLVS, s.len(), false, SRV6_CAPABILITY) {
         Found::Cut => session::refused_open(OPEN_MALFORMED),
-        Found::Values(list, sub) => carried_by(s, list, sub),
+        Found::Values(list, sub) => carried_by(p, s, list, sub),
     }
 }

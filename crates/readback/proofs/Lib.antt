@@ -9,3 +9,4 @@ pub mod Subobjects
 pub mod Rewriting
 pub mod Mixed
 pub mod Strays
+pub mod HeadEnd

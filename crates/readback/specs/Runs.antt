@@ -2,10 +2,11 @@
 -- (document 01, "Writing a route").
 use Prim.Native.Nat.{ℕ, _+_}
 use mathlib.Core.Path.{_≡_}
-use mathlib.Core.Bool.{Bool, true}
+use mathlib.Core.Bool.{Bool, true, false}
 use mathlib.Core.List.{List, [], _∷_, _++_}
 use lib.ListN.{length, take}
 use Rattle.answers.specs.Verdicts.{kept}
+use Rattle.msd.specs.Msd.{absent}
 use Rattle.session.specs.declared.Limit.the-variants.{Free}
 use Rattle.session.specs.declared.Session.{Session}
 use Rattle.subobject.specs.declared.segment.Segment.{Segment}
@@ -93,6 +94,6 @@ pub data AllHeld : List Segment → Type 0 where
   none : AllHeld []
   more : {g : Segment} {gs : List Segment} → Held g → AllHeld gs → AllHeld (g ∷ gs)
 
--- The session in which everything that can be written is read: SRv6 agreed, N set, no limit.
+-- The session in which everything that can be written is read: SRv6 agreed, N set, no limit; neither flag, nor v or m.
 abbrev pub openSession : Session
-openSession = record { agreed = true; n = true; limit = Free }
+openSession = record { agreed = true; n = true; limit = Free; a = false; r = false; v = absent; m = absent }

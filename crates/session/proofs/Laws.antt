@@ -18,8 +18,8 @@ pub not-agreed : (pcc pce : Opened) → agreedBy pcc pce ≡ false → sessionOf
 unfolding sessionOf
 not-agreed pcc pce e = rw e
 
--- With SRv6 agreed N and the limit are the PCC's.
-pub agreed : (pcc pce : Opened) → agreedBy pcc pce ≡ true → sessionOf pcc pce ≡ agreedOn pcc
+-- With SRv6 agreed N, the limit, v and m are the PCC's, and A and R are agreed if both set them.
+pub agreed : (pcc pce : Opened) → agreedBy pcc pce ≡ true → sessionOf pcc pce ≡ agreedOn pcc pce
 unfolding sessionOf
 agreed pcc pce e = rw e
 
@@ -27,8 +27,9 @@ agreed pcc pce e = rw e
 pub refused_open-determined : (number : ℕ) (x y : Opened) → x ≡ openRefused number → y ≡ openRefused number → x ≡ y
 refused_open-determined number x y = determined
 
-pub carried-determined : (srv6 n : Bool) (limit : Limit) (x y : Opened) → x ≡ openCarries srv6 n limit → y ≡ openCarries srv6 n limit → x ≡ y
-carried-determined srv6 n limit x y = determined
+pub carried-determined : (srv6 n : Bool) (limit : Limit) (a r : Bool) (v m : ℕ) (x y : Opened)
+    → x ≡ openCarries srv6 n limit a r v m → y ≡ openCarries srv6 n limit a r v m → x ≡ y
+carried-determined srv6 n limit a r v m x y = determined
 
 pub without_srv6-determined : (x y : Opened) → x ≡ withoutSrv6 → y ≡ withoutSrv6 → x ≡ y
 without_srv6-determined x y = determined

@@ -7,15 +7,17 @@ use Rattle.board_record.specs.declared.record.Board.{Board}
 use Rattle.board_record.specs.Record.{emptyBoard}
 use Rattle.session.specs.Sessions.{sessionOf}
 use Rattle.open.specs.Open.{openOf}
-use Rattle.route.specs.Routes.{judgeOf, segmentOf}
+use Rattle.route_call.specs.Called.{judgedFor, segmentFor}
 use Rattle.subobject.specs.Segments.{segmentWith}
 use Rattle.writer.specs.Writing.{beginAnswer, beginBuffer, addAnswer, addBuffer, finishAnswer, finishBuffer}
-use Rattle.board_rules.specs.OnRecord.{reportOn, reportStoreOn, removeOn, compactOn, nextOn}
+use Rattle.board_rules.specs.OnRecord.{removeOn, compactOn, nextOn}
+use Rattle.report_call.specs.Reported.{reportForOn, reportStoreForOn}
 use Rattle.border_records.specs.declared.verdict.VerdictRecord.{VerdictRecord}
 use Rattle.border_records.specs.declared.opened.OpenedRecord.{OpenedRecord}
 use Rattle.border_records.specs.declared.agreement.SessionRecord.{SessionRecord}
+use Rattle.border_records.specs.declared.setup.SetupRecord.{SetupRecord}
 use Rattle.border_segment.specs.declared.segment.OutlineRecord.{OutlineRecord}
-use Rattle.border_records.specs.Records.{isYes, openedIn, openedOut, sessionIn, sessionOut, verdictOut}
+use Rattle.border_records.specs.Records.{isYes, openedIn, openedOut, sessionIn, sessionOut, setupIn, verdictOut}
 use Rattle.route_step.specs.Steps.{stepOf}
 use Rattle.border_segment.specs.Segments.{outlineIn, pickedOut, steppedOut}
 use Rattle.border_segment.specs.declared.picking.PickedRecord.{PickedRecord}
@@ -34,18 +36,19 @@ One {A} z = (x y : A) → x ≡ z → y ≡ z → x ≡ y
 one : {A : Type 0} (z : A) → One z
 one z x y = determined
 
-pub read-open-determined : (s : List ℕ) → One (openedOut (openOf s))
-read-open-determined s = one _
+pub read-open-determined : (p : SetupRecord) (s : List ℕ) → One (openedOut (openOf (setupIn p) s))
+read-open-determined p s = one _
 
 pub agree-determined : (pcc pce : OpenedRecord) → One (sessionOut (sessionOf (openedIn pcc) (openedIn pce)))
 agree-determined pcc pce = one _
 
-pub judge-determined : (s : List ℕ) (ero : ℕ) (session : SessionRecord) (pst : ℕ) → One (verdictOut (judgeOf s (isYes ero) (sessionIn session) pst))
-judge-determined s ero session pst = one _
+pub judge-determined : (s : List ℕ) (ero : ℕ) (session : SessionRecord) (pst : ℕ) (addresses : List ℕ)
+    → One (verdictOut (judgedFor s (isYes ero) (sessionIn session) pst addresses))
+judge-determined s ero session pst addresses = one _
 
-pub segment-determined : (s : List ℕ) (ero : ℕ) (session : SessionRecord) (pst i : ℕ)
-    → One (pickedOut (segmentOf s (isYes ero) (sessionIn session) pst i))
-segment-determined s ero session pst i = one _
+pub segment-determined : (s : List ℕ) (ero : ℕ) (session : SessionRecord) (pst : ℕ) (addresses : List ℕ) (i : ℕ)
+    → One (pickedOut (segmentFor s (isYes ero) (sessionIn session) pst addresses i))
+segment-determined s ero session pst addresses i = one _
 
 pub step-determined : (s : List ℕ) (ero at : ℕ) → One (steppedOut (stepOf s (isYes ero) at))
 step-determined s ero at = one _
@@ -65,10 +68,10 @@ finish-determined b w = (one _, one _)
 pub empty-determined : One emptyBoard
 empty-determined = one _
 
-pub report-determined : (b : Board) (store : List ℕ) (k : ℕ) (ero : List ℕ) (session : SessionRecord) (pst : ℕ)
-    → One (verdictOut (reportOn b store k ero (sessionIn session) pst .verdict)) × One (reportOn b store k ero (sessionIn session) pst .board)
-    × One (reportStoreOn b store k ero (sessionIn session) pst)
-report-determined b store k ero session pst = (one _, one _, one _)
+pub report-determined : (b : Board) (store : List ℕ) (k : ℕ) (ero : List ℕ) (session : SessionRecord) (pst : ℕ) (addresses : List ℕ)
+    → One (verdictOut (reportForOn b store k ero (sessionIn session) pst addresses .verdict)) × One (reportForOn b store k ero (sessionIn session) pst addresses .board)
+    × One (reportStoreForOn b store k ero (sessionIn session) pst addresses)
+report-determined b store k ero session pst addresses = (one _, one _, one _)
 
 pub remove-determined : (b : Board) (store : List ℕ) (k : ℕ) → One (verdictOut (removeOn b store k .verdict)) × One (removeOn b store k .board)
 remove-determined b store k = (one _, one _)

@@ -3,7 +3,8 @@ ghost use mathlib.Core.Path.{_≡_};
 ghost use Rattle.board_record.specs.Table.{tableOf};
 ghost use Rattle.board_record.specs.Record.{withOrder, emptyBoard};
 ghost use Rattle.octets.specs.Octets.{part};
-ghost use Rattle.board_rules.specs.OnRecord.{reportOn, reportStoreOn, removeOn, compactOn, bodyOn, nextOn};
+ghost use Rattle.board_rules.specs.OnRecord.{removeOn, compactOn, bodyOn, nextOn};
+ghost use Rattle.report_call.specs.Reported.{reportForOn, reportStoreForOn};
 ghost use Rattle.border_records.specs.Records.{sessionIn, verdictOut};
 ghost use Rattle.border_answers.specs.Handing.{changeOut};
 ghost use Rattle.border_looks.specs.Looks.{partOut, freshOut};
@@ -44,17 +45,18 @@ pub extern "C" fn strundevi_raw_report(
     ero: &[u8],
     session: SessionRecord,
     pst: u64,
+    addresses: &[u8],
 ) -> VerdictRecord
     ensures verdict { λ r.
         let before = withOrder (tableOf (now (keys .entry)) (now (versions .entry)) (now (lengths .entry)) (now (version .entry)) (now (floor .entry))) (now (order .entry)) in
-        ⌜ r ≡ verdictOut (reportOn before (now (store .entry)) key (now (ero .entry)) (sessionIn session) pst .verdict) ⌝ }
+        ⌜ r ≡ verdictOut (reportForOn before (now (store .entry)) key (now (ero .entry)) (sessionIn session) pst (now (addresses .entry)) .verdict) ⌝ }
     ensures board { λ _.
         let before = withOrder (tableOf (now (keys .entry)) (now (versions .entry)) (now (lengths .entry)) (now (version .entry)) (now (floor .entry))) (now (order .entry)) in
         let after = withOrder (tableOf (now (keys .exit)) (now (versions .exit)) (now (lengths .exit)) (now (version .exit)) (now (floor .exit))) (now (order .exit)) in
-        ⌜ after ≡ reportOn before (now (store .entry)) key (now (ero .entry)) (sessionIn session) pst .board ⌝ }
+        ⌜ after ≡ reportForOn before (now (store .entry)) key (now (ero .entry)) (sessionIn session) pst (now (addresses .entry)) .board ⌝ }
     ensures octets { λ _.
         let before = withOrder (tableOf (now (keys .entry)) (now (versions .entry)) (now (lengths .entry)) (now (version .entry)) (now (floor .entry))) (now (order .entry)) in
-        ⌜ now (store .exit) ≡ reportStoreOn before (now (store .entry)) key (now (ero .entry)) (sessionIn session) pst ⌝ }
+        ⌜ now (store .exit) ≡ reportStoreForOn before (now (store .entry)) key (now (ero .entry)) (sessionIn session) pst (now (addresses .entry)) ⌝ }
 {
     border_board::report(
         keys,
@@ -68,6 +70,7 @@ pub extern "C" fn strundevi_raw_report(
         ero,
         session,
         pst,
+        addresses,
     )
 }
 

@@ -2,16 +2,17 @@
 ghost use mathlib.Core.Path.{_≡_};
 ghost use Rattle.session.specs.Sessions.{sessionOf};
 ghost use Rattle.open.specs.Open.{openOf};
-ghost use Rattle.border_records.specs.Records.{openedIn, openedOut, sessionOut};
+ghost use Rattle.border_records.specs.Records.{openedIn, openedOut, sessionOut, setupIn};
 use border_records::OpenedRecord;
 use border_records::SessionRecord;
+use border_records::SetupRecord;
 
-// What an OPEN object says, or 1, 2 or 3.
+// What an OPEN object says, or 28, 1, 2 or 3.
 #[no_mangle]
-pub extern "C" fn strundevi_raw_read_open(octets: &[u8]) -> OpenedRecord
-    ensures opened { λ r. ⌜ r ≡ openedOut (openOf (now (octets .entry))) ⌝ }
+pub extern "C" fn strundevi_raw_read_open(setup: SetupRecord, octets: &[u8]) -> OpenedRecord
+    ensures opened { λ r. ⌜ r ≡ openedOut (openOf (setupIn setup) (now (octets .entry))) ⌝ }
 {
-    border_open::read_open(octets)
+    border_open::read_open(setup, octets)
 }
 
 // The session of the PCC's and the PCE's answers.

@@ -1,6 +1,6 @@
 // Judging a route, asking for its segments, and stepping through it. `ero` is a flag: an ERO, else an RRO.
 ghost use mathlib.Core.Path.{_≡_};
-ghost use Rattle.route.specs.Routes.{judgeOf, segmentOf};
+ghost use Rattle.route_call.specs.Called.{judgedFor, segmentFor};
 ghost use Rattle.border_records.specs.Records.{isYes, sessionIn, verdictOut};
 ghost use Rattle.route_step.specs.Steps.{stepOf};
 ghost use Rattle.border_segment.specs.Segments.{pickedOut, steppedOut};
@@ -16,10 +16,11 @@ pub extern "C" fn strundevi_raw_judge(
     ero: u8,
     session: SessionRecord,
     pst: u64,
+    addresses: &[u8],
 ) -> VerdictRecord
-    ensures judged { λ r. ⌜ r ≡ verdictOut (judgeOf (now (octets .entry)) (isYes ero) (sessionIn session) pst) ⌝ }
+    ensures judged { λ r. ⌜ r ≡ verdictOut (judgedFor (now (octets .entry)) (isYes ero) (sessionIn session) pst (now (addresses .entry))) ⌝ }
 {
-    border_routes::judge(octets, ero, session, pst)
+    border_routes::judge(octets, ero, session, pst, addresses)
 }
 
 // Segment i, from 0, of a route under a session and a setup type.
@@ -29,11 +30,12 @@ pub extern "C" fn strundevi_raw_segment_at(
     ero: u8,
     session: SessionRecord,
     pst: u64,
+    addresses: &[u8],
     i: u64,
 ) -> PickedRecord
-    ensures picked { λ r. ⌜ r ≡ pickedOut (segmentOf (now (octets .entry)) (isYes ero) (sessionIn session) pst i) ⌝ }
+    ensures picked { λ r. ⌜ r ≡ pickedOut (segmentFor (now (octets .entry)) (isYes ero) (sessionIn session) pst (now (addresses .entry)) i) ⌝ }
 {
-    border_routes::segment_at(octets, ero, session, pst, i)
+    border_routes::segment_at(octets, ero, session, pst, addresses, i)
 }
 
 // The segment at a place of a judged route, and the place behind it.

@@ -1,7 +1,7 @@
 //! A PCC OPEN, a PCE OPEN and an ERO, one behind the other, judged by the proved library as the checking program does: each cut by its own length
 //! field (too little left, or a length under 4: all the rest), setup type 3, octets behind the ERO ignored.
 
-use strundevi::{judge, read_open, segment, Kind, Refusal, Segment, Session, Strays};
+use strundevi::{judge, read_open, segment, Kind, Refusal, Segment, Session, Setup, Strays};
 
 const PST_SRV6: u64 = 3;
 
@@ -27,7 +27,7 @@ pub struct Route<'a> {
 
 impl Route<'_> {
     pub fn segments(&self) -> impl Iterator<Item = (Segment, Strays)> + '_ {
-        (0..self.count as u64).map_while(|i| segment(self.ero, Kind::Ero, &self.session, PST_SRV6, i).ok())
+        (0..self.count as u64).map_while(|i| segment(self.ero, Kind::Ero, &self.session, PST_SRV6, &[], i).ok())
     }
 }
 
@@ -47,8 +47,8 @@ pub fn check(octets: &[u8]) -> Checked<'_> {
     let (pce_octets, rest) = cut(rest);
     let (ero, _) = cut(rest);
     let pce_start = pcc_octets.len();
-    let pcc = read_open(pcc_octets);
-    let pce = read_open(pce_octets);
+    let pcc = read_open(Setup::FIRST_TWO, pcc_octets);
+    let pce = read_open(Setup::FIRST_TWO, pce_octets);
     if let Err(refusal) = pcc {
         return Checked::Refused(Object { name: "PCC's OPEN", start: 0 }, refusal);
     }
@@ -56,7 +56,7 @@ pub fn check(octets: &[u8]) -> Checked<'_> {
         return Checked::Refused(Object { name: "PCE's OPEN", start: pce_start }, refusal);
     }
     let session = Session::agree(&pcc, &pce);
-    match judge(ero, Kind::Ero, &session, PST_SRV6) {
+    match judge(ero, Kind::Ero, &session, PST_SRV6, &[]) {
         Err(refusal) => Checked::Refused(Object { name: "ERO", start: pce_start + pce_octets.len() }, refusal),
         Ok(counts) => Checked::Accepted(Route { count: counts.segments, stray: counts.stray, ero, session }),
     }

@@ -5,7 +5,7 @@ use crate::objects;
 use crate::octets::{damage, hex};
 use crate::plain;
 use crate::random::Random;
-use crate::reading::{some_pst, some_session};
+use crate::reading::{some_addresses, some_pst, some_session};
 use crate::tally::{Call, Tally};
 use reference::{Board, Change, Session, PLACES, PLACE_OCTETS, STORE_OCTETS};
 use std::collections::BTreeMap;
@@ -13,7 +13,7 @@ use strundevi::raw;
 
 #[derive(Clone, Debug)]
 enum Step {
-    Report { key: u64, ero: Vec<u8>, session: Session, pst: u64 },
+    Report { key: u64, ero: Vec<u8>, session: Session, pst: u64, addresses: Vec<u8> },
     Remove { key: u64 },
     Compact { c: u64 },
     Body { key: u64 },
@@ -84,9 +84,9 @@ impl Pair {
         let lied = order != self.theirs.order();
         let size = if lied { 0 } else { n };
         let (call, ours, theirs) = match step {
-            Step::Report { key, ero, session, pst } => {
-                let answer = self.theirs.report(&mut self.their_store[..size], *key, ero, session, *pst);
-                let ours = doors::report(door, &mut self.ours, &mut self.our_store[..n], *key, ero, session, *pst);
+            Step::Report { key, ero, session, pst, addresses } => {
+                let answer = self.theirs.report(&mut self.their_store[..size], *key, ero, session, *pst, addresses);
+                let ours = doors::report(door, &mut self.ours, &mut self.our_store[..n], *key, ero, session, *pst, addresses);
                 (Call::Report, plain::ours(ours), plain::their_counts(&answer))
             }
             Step::Remove { key } => {
@@ -206,7 +206,9 @@ fn shown(mut steps: Vec<(Door, Step)>) -> String {
     let list: String = steps
         .iter()
         .map(|(door, step)| match step {
-            Step::Report { key, ero, session, pst } => format!("{door:?}: report {key} {pst} {} under {session:?}\n", hex(ero)),
+            Step::Report { key, ero, session, pst, addresses } => {
+                format!("{door:?}: report {key} {pst} {} under {session:?}, addresses {}\n", hex(ero), hex(addresses))
+            }
             Step::Put { board } => numbers(&record(board)).iter().map(|line| format!("  {line}\n")).collect(),
             other => format!("{door:?}: {other:?}\n"),
         })
@@ -372,7 +374,7 @@ fn some_key(r: &mut Random, keys: usize) -> u64 {
 fn life(tally: &mut Tally, r: &mut Random, most: usize) -> Result<usize, String> {
     let keys = r.of(&[3, 20, 125, 140, 300]);
     let removals = r.of(&[2, 4, 12]);
-    let agreed = Session { agreed: true, n: true, limit: None };
+    let agreed = Session { agreed: true, n: true, ..Session::default() };
     let mut h = History { pair: Pair::new(), steps: Vec::new(), calls: 0 };
     let mut followers: Vec<Follower> = Vec::new();
     while h.calls < most {
@@ -395,7 +397,8 @@ fn life(tally: &mut Tally, r: &mut Random, most: usize) -> Result<usize, String>
                         ero = objects::route(r, true, n, 3);
                     }
                 }
-                h.step(tally, r, Step::Report { key, ero, session, pst })?;
+                let addresses = some_addresses(r, &ero, 40);
+                h.step(tally, r, Step::Report { key, ero, session, pst, addresses })?;
             }
             10..=13 if !r.one_in(removals) => {
                 let key = some_key(r, keys);
@@ -444,7 +447,7 @@ fn life(tally: &mut Tally, r: &mut Random, most: usize) -> Result<usize, String>
                     tally,
                     r,
                     match step {
-                        0 => Step::Report { key, ero, session: agreed, pst: 3 },
+                        0 => Step::Report { key, ero, session: agreed, pst: 3, addresses: Vec::new() },
                         1 => Step::Remove { key },
                         2 => Step::Compact { c: 0 },
                         3 => Step::Body { key },
@@ -492,7 +495,7 @@ fn records(tally: &mut Tally, r: &mut Random) -> Result<usize, String> {
         let set = some_set(r, &h.pair.theirs);
         h.step(tally, r, set)?;
     }
-    let agreed = Session { agreed: true, n: true, limit: None };
+    let agreed = Session { agreed: true, n: true, ..Session::default() };
     for _ in 0..6 {
         let b = h.pair.theirs;
         let known = u64::from(b.keys[r.below(PLACES)]);
@@ -504,7 +507,7 @@ fn records(tally: &mut Tally, r: &mut Random) -> Result<usize, String> {
             _ => r.number(),
         };
         let step = match r.below(6) {
-            0 | 1 => Step::Report { key, ero: objects::good_ero(r, PLACE_OCTETS), session: agreed, pst: 3 },
+            0 | 1 => Step::Report { key, ero: objects::good_ero(r, PLACE_OCTETS), session: agreed, pst: 3, addresses: Vec::new() },
             2 => Step::Remove { key },
             3 => Step::Compact { c: near(r) },
             4 => Step::Body { key },

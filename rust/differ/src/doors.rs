@@ -30,53 +30,71 @@ fn counted(answer: strundevi::Result<strundevi::Counts>) -> raw::Verdict {
     answer.map_or_else(refused, |counts| raw::Verdict { number: 0, place: 0, count: counts.segments, stray: counts.stray })
 }
 
-fn limits(limit: Option<usize>) -> (u8, usize) {
-    (limit.is_some() as u8, limit.unwrap_or(0))
-}
-
-pub fn read_open(door: Door, s: &[u8]) -> raw::Opened {
+pub fn read_open(door: Door, at: theirs::Setup, s: &[u8]) -> raw::Opened {
+    let setup = raw::Setup { a: at.a, r: at.r };
     match door {
-        Door::Archive => raw::read_open(s),
-        Door::Header => header::read_open(s),
-        Door::Wrapper => match strundevi::read_open(s) {
-            Ok(o) => {
-                let (limited, limit) = limits(o.limit);
-                raw::Opened { number: 0, srv6: o.srv6 as u8, n: o.n as u8, limited, limit }
-            }
-            Err(refusal) => raw::Opened { number: refused(refusal).number + refusal.place, srv6: 0, n: 0, limited: 0, limit: 0 },
+        Door::Archive => raw::read_open(setup, s),
+        Door::Header => header::read_open(setup, s),
+        Door::Wrapper => match strundevi::read_open(strundevi::Setup { a: at.a, r: at.r }, s) {
+            Ok(o) => raw::Opened {
+                number: 0,
+                srv6: o.srv6 as u8,
+                n: o.n as u8,
+                limited: o.limit.is_some() as u8,
+                limit: o.limit.unwrap_or(0),
+                a: o.a as u8,
+                r: o.r as u8,
+                hasv: o.v.is_some() as u8,
+                v: o.v.unwrap_or(0),
+                hasm: o.m.is_some() as u8,
+                m: o.m.unwrap_or(0),
+            },
+            Err(refusal) => raw::Opened {
+                number: refused(refusal).number + refusal.place,
+                srv6: 0,
+                n: 0,
+                limited: 0,
+                limit: 0,
+                a: 0,
+                r: 0,
+                hasv: 0,
+                v: 0,
+                hasm: 0,
+                m: 0,
+            },
         },
     }
 }
 
 /// The session of two answers, which the wrapper reads from the octets itself.
-pub fn agree(door: Door, opens: [raw::Opened; 2], octets: [&[u8]; 2]) -> raw::Session {
+pub fn agree(door: Door, opens: [raw::Opened; 2], at: theirs::Setup, octets: [&[u8]; 2]) -> raw::Session {
     match door {
         Door::Archive => raw::agree(opens[0], opens[1]),
         Door::Header => header::agree(opens[0], opens[1]),
         Door::Wrapper => {
-            let s = strundevi::Session::agree(&strundevi::read_open(octets[0]), &strundevi::read_open(octets[1]));
-            let (limited, limit) = limits(s.limit);
-            raw::Session { agreed: s.agreed as u8, n: s.n as u8, limited, limit }
+            let [pcc, pce] = octets.map(|s| strundevi::read_open(strundevi::Setup { a: at.a, r: at.r }, s));
+            let s = strundevi::Session::agree(&pcc, &pce);
+            plain::session(&theirs::Session { agreed: s.agreed, n: s.n, limit: s.limit, a: s.a, r: s.r, v: s.v, m: s.m })
         }
     }
 }
 
-pub fn judge(door: Door, s: &[u8], ero: bool, session: &theirs::Session, pst: u64) -> raw::Verdict {
+pub fn judge(door: Door, s: &[u8], ero: bool, session: &theirs::Session, pst: u64, addresses: &[u8]) -> raw::Verdict {
     match door {
-        Door::Archive => raw::judge(s, ero as u8, plain::session(session), pst),
-        Door::Header => header::judge(s, ero as u8, plain::session(session), pst),
-        Door::Wrapper => counted(strundevi::judge(s, plain::safe_kind(ero), &plain::safe_session(session), pst)),
+        Door::Archive => raw::judge(s, ero as u8, plain::session(session), pst, addresses),
+        Door::Header => header::judge(s, ero as u8, plain::session(session), pst, addresses),
+        Door::Wrapper => counted(strundevi::judge(s, plain::safe_kind(ero), &plain::safe_session(session), pst, addresses)),
     }
 }
 
 /// The wrapper hands out no counts with a segment: they are the judgement's.
-pub fn segment(door: Door, s: &[u8], ero: bool, session: &theirs::Session, pst: u64, i: u64) -> raw::Picked {
+pub fn segment(door: Door, s: &[u8], ero: bool, session: &theirs::Session, pst: u64, addresses: &[u8], i: u64) -> raw::Picked {
     match door {
-        Door::Archive => raw::segment(s, ero as u8, plain::session(session), pst, i),
-        Door::Header => header::segment(s, ero as u8, plain::session(session), pst, i),
-        Door::Wrapper => match strundevi::segment(s, plain::safe_kind(ero), &plain::safe_session(session), pst, i) {
+        Door::Archive => raw::segment(s, ero as u8, plain::session(session), pst, addresses, i),
+        Door::Header => header::segment(s, ero as u8, plain::session(session), pst, addresses, i),
+        Door::Wrapper => match strundevi::segment(s, plain::safe_kind(ero), &plain::safe_session(session), pst, addresses, i) {
             Ok((segment, x)) => raw::Picked {
-                verdict: judge(door, s, ero, session, pst),
+                verdict: judge(door, s, ero, session, pst, addresses),
                 segment: plain::told(&segment),
                 flags: x.flags,
                 sflags: x.structure,
@@ -174,11 +192,20 @@ pub fn empty(door: Door, record: &mut raw::Record, store: &mut [u8]) {
     }
 }
 
-pub fn report(door: Door, b: &mut raw::Record, store: &mut [u8], key: u64, ero: &[u8], session: &theirs::Session, pst: u64) -> raw::Verdict {
+pub fn report(
+    door: Door,
+    b: &mut raw::Record,
+    store: &mut [u8],
+    key: u64,
+    ero: &[u8],
+    session: &theirs::Session,
+    pst: u64,
+    addresses: &[u8],
+) -> raw::Verdict {
     match (door, small(key)) {
-        (Door::Header, _) => header::report(b, store, key, ero, plain::session(session), pst),
-        (Door::Wrapper, Some(key)) => with(b, store, |board| counted(board.report(key, ero, &plain::safe_session(session), pst))),
-        _ => raw::report(b, store, key, ero, plain::session(session), pst),
+        (Door::Header, _) => header::report(b, store, key, ero, plain::session(session), pst, addresses),
+        (Door::Wrapper, Some(key)) => with(b, store, |board| counted(board.report(key, ero, &plain::safe_session(session), pst, addresses))),
+        _ => raw::report(b, store, key, ero, plain::session(session), pst, addresses),
     }
 }
 

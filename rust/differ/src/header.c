@@ -1,20 +1,22 @@
 /* The calls of include/strundevi.h under names that Rust can link, and its records and numbers as rows, in the order of src/header.rs. */
 #include "strundevi.h"
 
-strundevi_opened header_read_open(const uint8_t *octets, size_t length) {
-    return strundevi_read_open(octets, length);
+strundevi_opened header_read_open(strundevi_setup setup, const uint8_t *octets, size_t length) {
+    return strundevi_read_open(setup, octets, length);
 }
 
 strundevi_session header_agree(strundevi_opened pcc, strundevi_opened pce) {
     return strundevi_agree(pcc, pce);
 }
 
-strundevi_verdict header_judge(const uint8_t *octets, size_t length, uint8_t ero, strundevi_session session, uint64_t pst) {
-    return strundevi_judge(octets, length, ero ? STRUNDEVI_ERO : STRUNDEVI_RRO, session, pst);
+strundevi_verdict header_judge(const uint8_t *octets, size_t length, uint8_t ero, strundevi_session session, uint64_t pst, const uint8_t *addresses,
+                               size_t given) {
+    return strundevi_judge(octets, length, ero ? STRUNDEVI_ERO : STRUNDEVI_RRO, session, pst, addresses, given);
 }
 
-strundevi_picked header_segment_at(const uint8_t *octets, size_t length, uint8_t ero, strundevi_session session, uint64_t pst, uint64_t i) {
-    return strundevi_segment_at(octets, length, ero ? STRUNDEVI_ERO : STRUNDEVI_RRO, session, pst, i);
+strundevi_picked header_segment_at(const uint8_t *octets, size_t length, uint8_t ero, strundevi_session session, uint64_t pst,
+                                   const uint8_t *addresses, size_t given, uint64_t i) {
+    return strundevi_segment_at(octets, length, ero ? STRUNDEVI_ERO : STRUNDEVI_RRO, session, pst, addresses, given, i);
 }
 
 strundevi_stepped header_step(const uint8_t *octets, size_t length, uint8_t ero, size_t at) {
@@ -38,8 +40,8 @@ void header_empty(strundevi_board *board) {
 }
 
 strundevi_verdict header_report(strundevi_board *board, uint8_t *store, size_t size, uint64_t key, const uint8_t *ero, size_t length,
-                                strundevi_session session, uint64_t pst) {
-    return strundevi_report(board, store, size, key, ero, length, session, pst);
+                                strundevi_session session, uint64_t pst, const uint8_t *addresses, size_t given) {
+    return strundevi_report(board, store, size, key, ero, length, session, pst, addresses, given);
 }
 
 strundevi_verdict header_remove(strundevi_board *board, const uint8_t *store, size_t size, uint64_t key) {
@@ -83,8 +85,11 @@ strundevi_pcerr header_pcerr(size_t number, uint8_t ero) {
 /* Sizes of the records, each with the places of its fields. */
 static const size_t layout[] = {
     sizeof(strundevi_verdict), AT(verdict, number), AT(verdict, place), AT(verdict, count), AT(verdict, stray),
-    sizeof(strundevi_opened), AT(opened, number), AT(opened, srv6), AT(opened, n), AT(opened, limited), AT(opened, limit),
-    sizeof(strundevi_session), AT(session, agreed), AT(session, n), AT(session, limited), AT(session, limit),
+    sizeof(strundevi_setup), AT(setup, a), AT(setup, r),
+    sizeof(strundevi_opened), AT(opened, number), AT(opened, srv6), AT(opened, n), AT(opened, limited), AT(opened, limit), AT(opened, a),
+    AT(opened, r), AT(opened, hasv), AT(opened, v), AT(opened, hasm), AT(opened, m),
+    sizeof(strundevi_session), AT(session, agreed), AT(session, n), AT(session, a), AT(session, r), AT(session, hasv), AT(session, v), AT(session, hasm),
+    AT(session, m), AT(session, limited), AT(session, limit),
     sizeof(strundevi_segment), AT(segment, loose), AT(segment, verify), AT(segment, nt), AT(segment, behaviour), AT(segment, hassid),
     AT(segment, sid), AT(segment, nai), AT(segment, structured), AT(segment, structure),
     sizeof(strundevi_picked), AT(picked, verdict), AT(picked, segment), AT(picked, flags), AT(picked, sflags), AT(picked, reserved),
@@ -103,8 +108,8 @@ static const uint64_t numbers[] = {
     STRUNDEVI_KINDS_MIXED, STRUNDEVI_LENGTH_WRONG, STRUNDEVI_NAI_UNKNOWN, STRUNDEVI_NOTHING_THERE, STRUNDEVI_SID_NEEDED,
     STRUNDEVI_STRUCTURE_TOO_LONG, STRUNDEVI_TOO_MANY_SEGMENTS, STRUNDEVI_NOT_AGREED, STRUNDEVI_NO_SRV6, STRUNDEVI_NO_SUCH_SEGMENT,
     STRUNDEVI_BUFFER_FULL, STRUNDEVI_NOT_A_BOARD, STRUNDEVI_KEY_OUT_OF_RANGE, STRUNDEVI_BODY_TOO_LONG, STRUNDEVI_VERSIONS_USED_UP,
-    STRUNDEVI_ALL_PATHS, STRUNDEVI_NO_PATH, STRUNDEVI_MARK_TOO_OLD, STRUNDEVI_MARK_AHEAD,
-    STRUNDEVI_FIRST_PLACE, STRUNDEVI_SID_OCTETS, STRUNDEVI_NAI_OCTETS, STRUNDEVI_STRUCTURE_OCTETS, STRUNDEVI_OBJECT_MOST, STRUNDEVI_PLACES, STRUNDEVI_PLACE_OCTETS,
+    STRUNDEVI_ALL_PATHS, STRUNDEVI_NO_PATH, STRUNDEVI_MARK_TOO_OLD, STRUNDEVI_MARK_AHEAD, STRUNDEVI_NOT_USABLE,
+    STRUNDEVI_FIRST_PLACE, STRUNDEVI_SID_OCTETS, STRUNDEVI_NAI_OCTETS, STRUNDEVI_STRUCTURE_OCTETS, STRUNDEVI_ADDRESS_OCTETS, STRUNDEVI_POSITION_MOST, STRUNDEVI_OBJECT_MOST, STRUNDEVI_PLACES, STRUNDEVI_PLACE_OCTETS,
     STRUNDEVI_STORE_OCTETS, STRUNDEVI_KEY_MOST, STRUNDEVI_VERSION_MOST, STRUNDEVI_PST_SRV6, STRUNDEVI_RRO, STRUNDEVI_ERO, STRUNDEVI_REFUSED,
     STRUNDEVI_PATH, STRUNDEVI_REMOVED, STRUNDEVI_LEVEL, STRUNDEVI_VERSION_MAJOR, STRUNDEVI_VERSION_MINOR, STRUNDEVI_VERSION_PATCH, STRUNDEVI_VERSION,
 };

@@ -2,7 +2,7 @@
 
 use std::ffi::{c_char, CStr};
 use std::mem::{offset_of, size_of};
-use strundevi::raw::{Mark, Next, Opened, Part, Picked, Record, Segment, Session, Stepped, Verdict, Writer, Written};
+use strundevi::raw::{Mark, Next, Opened, Part, Picked, Record, Segment, Session, Setup, Stepped, Verdict, Writer, Written};
 use strundevi::{Kind, Number, PcErr};
 
 #[repr(C)]
@@ -12,10 +12,19 @@ struct Pcerr {
 }
 
 extern "C" {
-    fn header_read_open(octets: *const u8, length: usize) -> Opened;
+    fn header_read_open(setup: Setup, octets: *const u8, length: usize) -> Opened;
     fn header_agree(pcc: Opened, pce: Opened) -> Session;
-    fn header_judge(octets: *const u8, length: usize, ero: u8, session: Session, pst: u64) -> Verdict;
-    fn header_segment_at(octets: *const u8, length: usize, ero: u8, session: Session, pst: u64, i: u64) -> Picked;
+    fn header_judge(octets: *const u8, length: usize, ero: u8, session: Session, pst: u64, addresses: *const u8, given: usize) -> Verdict;
+    fn header_segment_at(
+        octets: *const u8,
+        length: usize,
+        ero: u8,
+        session: Session,
+        pst: u64,
+        addresses: *const u8,
+        given: usize,
+        i: u64,
+    ) -> Picked;
     fn header_step(octets: *const u8, length: usize, ero: u8, at: usize) -> Stepped;
     fn header_begin(buffer: *mut u8, size: usize, writer: Writer, ero: u8) -> Written;
     fn header_add(buffer: *mut u8, size: usize, writer: Writer, segment: *const Segment) -> Written;
@@ -30,6 +39,8 @@ extern "C" {
         length: usize,
         session: Session,
         pst: u64,
+        addresses: *const u8,
+        given: usize,
     ) -> Verdict;
     fn header_remove(board: *mut Record, store: *const u8, size: usize, key: u64) -> Verdict;
     fn header_compact(board: *mut Record, store: *const u8, size: usize, c: u64) -> Verdict;
@@ -44,20 +55,20 @@ extern "C" {
     fn header_numbers(length: *mut usize) -> *const u64;
 }
 
-pub fn read_open(s: &[u8]) -> Opened {
-    unsafe { header_read_open(s.as_ptr(), s.len()) }
+pub fn read_open(setup: Setup, s: &[u8]) -> Opened {
+    unsafe { header_read_open(setup, s.as_ptr(), s.len()) }
 }
 
 pub fn agree(pcc: Opened, pce: Opened) -> Session {
     unsafe { header_agree(pcc, pce) }
 }
 
-pub fn judge(s: &[u8], ero: u8, session: Session, pst: u64) -> Verdict {
-    unsafe { header_judge(s.as_ptr(), s.len(), ero, session, pst) }
+pub fn judge(s: &[u8], ero: u8, session: Session, pst: u64, addresses: &[u8]) -> Verdict {
+    unsafe { header_judge(s.as_ptr(), s.len(), ero, session, pst, addresses.as_ptr(), addresses.len()) }
 }
 
-pub fn segment(s: &[u8], ero: u8, session: Session, pst: u64, i: u64) -> Picked {
-    unsafe { header_segment_at(s.as_ptr(), s.len(), ero, session, pst, i) }
+pub fn segment(s: &[u8], ero: u8, session: Session, pst: u64, addresses: &[u8], i: u64) -> Picked {
+    unsafe { header_segment_at(s.as_ptr(), s.len(), ero, session, pst, addresses.as_ptr(), addresses.len(), i) }
 }
 
 pub fn step(s: &[u8], ero: u8, at: usize) -> Stepped {
@@ -80,8 +91,8 @@ pub fn empty(b: &mut Record) {
     unsafe { header_empty(b) }
 }
 
-pub fn report(b: &mut Record, store: &mut [u8], key: u64, ero: &[u8], session: Session, pst: u64) -> Verdict {
-    unsafe { header_report(b, store.as_mut_ptr(), store.len(), key, ero.as_ptr(), ero.len(), session, pst) }
+pub fn report(b: &mut Record, store: &mut [u8], key: u64, ero: &[u8], session: Session, pst: u64, addresses: &[u8]) -> Verdict {
+    unsafe { header_report(b, store.as_mut_ptr(), store.len(), key, ero.as_ptr(), ero.len(), session, pst, addresses.as_ptr(), addresses.len()) }
 }
 
 pub fn remove(b: &mut Record, store: &[u8], key: u64) -> Verdict {
@@ -128,8 +139,9 @@ fn layout() -> Vec<usize> {
     }
     rows! {
         Verdict: number place count stray;
-        Opened: number srv6 n limited limit;
-        Session: agreed n limited limit;
+        Setup: a r;
+        Opened: number srv6 n limited limit a r hasv v hasm m;
+        Session: agreed n a r hasv v hasm m limited limit;
         Segment: loose verify nt behaviour hassid sid nai structured structure;
         Picked: verdict segment flags sflags reserved;
         Stepped: verdict segment next;
@@ -143,7 +155,7 @@ fn layout() -> Vec<usize> {
 }
 
 /// The paper's numbers, each with its PCErr for an ERO and for an RRO; (0, 0) is none.
-const NUMBERS: [(u8, Number, (u8, u8), (u8, u8)); 24] = [
+const NUMBERS: [(u8, Number, (u8, u8), (u8, u8)); 25] = [
     (reference::answer::OPEN_MALFORMED, Number::OpenMalformed, (1, 1), (1, 1)),
     (reference::answer::CAPABILITY_MISSING, Number::CapabilityMissing, (10, 34), (10, 34)),
     (reference::answer::WRONG_MSD, Number::WrongMsd, (1, 1), (1, 1)),
@@ -168,14 +180,15 @@ const NUMBERS: [(u8, Number, (u8, u8), (u8, u8)); 24] = [
     (reference::answer::NO_PATH, Number::NoPath, (0, 0), (0, 0)),
     (reference::answer::MARK_TOO_OLD, Number::MarkTooOld, (0, 0), (0, 0)),
     (reference::answer::MARK_AHEAD, Number::MarkAhead, (0, 0), (0, 0)),
+    (reference::answer::NOT_USABLE, Number::NotUsable, (0, 0), (0, 0)),
 ];
 
 /// Every number and size that the header names, as the paper has them.
 fn numbers() -> Vec<u64> {
     let version: Vec<u64> = strundevi::VERSION.split('.').map(|part| part.parse().unwrap_or(u64::MAX)).collect();
-    let sizes = [4, 16, 40, 4, 65_532, 128, 384, 49_152, 1_048_574, u64::MAX - 1, 3, 0, 1, 0, 1, 2, 3];
+    let sizes = [4, 16, 40, 4, 16, 13, 65_532, 128, 384, 49_152, 1_048_574, u64::MAX - 1, 3, 0, 1, 0, 1, 2, 3];
     let whole = version.iter().fold(0, |sum, part| 100 * sum + part);
-    (0..=24).chain(sizes).chain(version).chain([whole]).collect()
+    (0..=24).chain([28]).chain(sizes).chain(version).chain([whole]).collect()
 }
 
 fn pair(error: Option<PcErr>) -> (u8, u8) {
@@ -203,8 +216,7 @@ pub fn check() -> Result<(), String> {
     if ours != [128, 384, 49_152, 1_048_574, u64::MAX - 1, 65_532, 3, 4] {
         return Err(format!("sizes\nwrapper {ours:?}"));
     }
-    for (i, &(number, named, ero, rro)) in NUMBERS.iter().enumerate() {
-        let n = i + 1;
+    for (n, &(number, named, ero, rro)) in (1..=24).chain([28]).zip(&NUMBERS) {
         if (number as usize, named as usize) != (n, n) {
             return Err(format!("number {n}\nreference {number}\nwrapper   {named:?} {}", named as u8));
         }

@@ -24,12 +24,42 @@ pub fn their_counts(answer: &theirs::Answer<theirs::Counts>) -> Verdict {
     (number, place, count, answer.map_or(0, |counts| counts.stray))
 }
 
+/// What an OPEN said, as the archive has it.
+pub fn opened(o: &theirs::Answer<theirs::Open>) -> raw::Opened {
+    let number = o.as_ref().map_or_else(|refusal| refusal.number as usize, |_| 0);
+    let o = o.unwrap_or_default();
+    raw::Opened {
+        number,
+        srv6: o.srv6 as u8,
+        n: o.n as u8,
+        limited: o.limit.is_some() as u8,
+        limit: o.limit.unwrap_or(0),
+        a: o.a as u8,
+        r: o.r as u8,
+        hasv: o.v.is_some() as u8,
+        v: o.v.unwrap_or(0),
+        hasm: o.m.is_some() as u8,
+        m: o.m.unwrap_or(0),
+    }
+}
+
 pub fn session(s: &theirs::Session) -> raw::Session {
-    raw::Session { agreed: s.agreed as u8, n: s.n as u8, limited: s.limit.is_some() as u8, limit: s.limit.unwrap_or(0) }
+    raw::Session {
+        agreed: s.agreed as u8,
+        n: s.n as u8,
+        limited: s.limit.is_some() as u8,
+        limit: s.limit.map_or(0, |limit| limit.min(u32::MAX as usize) as u32),
+        a: s.a as u8,
+        r: s.r as u8,
+        hasv: s.v.is_some() as u8,
+        v: s.v.unwrap_or(0),
+        hasm: s.m.is_some() as u8,
+        m: s.m.unwrap_or(0),
+    }
 }
 
 pub fn safe_session(s: &theirs::Session) -> strundevi::Session {
-    strundevi::Session { agreed: s.agreed, n: s.n, limit: s.limit }
+    strundevi::Session { agreed: s.agreed, n: s.n, limit: s.limit, a: s.a, r: s.r, v: s.v, m: s.m }
 }
 
 pub fn kind(ero: bool) -> theirs::Kind {

@@ -6,7 +6,7 @@ use crate::octets::{damage, hex, seal, shrink};
 use crate::plain;
 use crate::random::Random;
 use crate::tally::{Call, Tally};
-use reference::{Answer, Open, Session};
+use reference::{Session, Setup};
 use strundevi::raw;
 
 const O: &str = "01100020201E7807002200120000000103000000001B0006000000002C040000";
@@ -18,57 +18,70 @@ fn octets(hex: &str) -> Vec<u8> {
 
 // ---- OPEN
 
-type OpenFacts = (usize, u8, u8, u8, usize);
+type OpenFacts = (usize, [u8; 3], usize, [u8; 6]);
 
-fn our_open(door: Door, s: &[u8]) -> OpenFacts {
-    let r = doors::read_open(door, s);
-    (r.number, r.srv6, r.n, r.limited, r.limit)
+fn facts(r: raw::Opened) -> OpenFacts {
+    (r.number, [r.srv6, r.n, r.limited], r.limit, [r.a, r.r, r.hasv, r.v, r.hasm, r.m])
 }
 
-fn their_open(s: &[u8]) -> OpenFacts {
-    match reference::read_open(s) {
-        Ok(o) => (0, o.srv6 as u8, o.n as u8, o.limit.is_some() as u8, o.limit.unwrap_or(0)),
-        Err(refusal) => (refusal.number as usize, 0, 0, 0, 0),
+fn our_open(door: Door, at: Setup, s: &[u8]) -> OpenFacts {
+    facts(doors::read_open(door, at, s))
+}
+
+fn their_open(at: Setup, s: &[u8]) -> OpenFacts {
+    facts(plain::opened(&reference::read_open(at, s)))
+}
+
+/// Two positions; one in `faults` is not usable.
+pub fn some_setup(r: &mut Random, faults: usize) -> Setup {
+    let a = r.below(14) as u64;
+    let b = (a + 1 + r.below(13) as u64) % 14;
+    if r.one_in(faults) {
+        let far = r.of(&[14, 15, 16, 63, 64, 1 << 32, u64::MAX]);
+        return r.of(&[Setup { a, r: a }, Setup { a: far, r: b }, Setup { a, r: far }, Setup { a: far, r: far }]);
     }
+    Setup { a, r: b }
 }
 
-pub fn check_open(tally: &mut Tally, door: Door, s: &[u8]) -> Result<(), String> {
-    let theirs = their_open(s);
+pub fn check_open(tally: &mut Tally, door: Door, at: Setup, s: &[u8]) -> Result<(), String> {
+    let theirs = their_open(at, s);
     tally.count(door, Call::Open, theirs.0);
-    if our_open(door, s) == theirs {
+    if our_open(door, at, s) == theirs {
         return Ok(());
     }
-    let small = shrink(s.to_vec(), |s| our_open(door, s) != their_open(s));
-    let (ours, theirs) = (our_open(door, &small), their_open(&small));
-    Err(format!("{door:?}: pcc {}\nlibrary   {ours:?}\nreference {theirs:?} (number, SRv6, N, limited, limit)", hex(&small)))
-}
-
-fn raw_opened(o: &Answer<Open>) -> raw::Opened {
-    match o {
-        Ok(o) => raw::Opened { number: 0, srv6: o.srv6 as u8, n: o.n as u8, limited: o.limit.is_some() as u8, limit: o.limit.unwrap_or(0) },
-        Err(refusal) => raw::Opened { number: refusal.number as usize, srv6: 0, n: 0, limited: 0, limit: 0 },
-    }
+    let small = shrink(s.to_vec(), |s| our_open(door, at, s) != their_open(at, s));
+    let (ours, theirs) = (our_open(door, at, &small), their_open(at, &small));
+    Err(format!(
+        "{door:?}: pcc {} at {at:?}\nlibrary   {ours:?}\nreference {theirs:?} (number, SRv6, N, limited, limit, A, R, has v, v, has m, m)",
+        hex(&small)
+    ))
 }
 
 /// The session of two answers, and the same with the refused side's other fields filled with what must not count.
-fn check_session(r: &mut Random, door: Door, octets: [&[u8]; 2]) -> Result<(), String> {
-    let [pcc, pce] = &octets.map(reference::read_open);
+fn check_session(r: &mut Random, door: Door, at: Setup, octets: [&[u8]; 2]) -> Result<(), String> {
+    let [pcc, pce] = &octets.map(|s| reference::read_open(at, s));
     let theirs = Session::agree(pcc, pce);
-    let mut ours = [raw_opened(pcc), raw_opened(pce)];
+    let mut ours = [plain::opened(pcc), plain::opened(pce)];
     if r.one_in(2) {
         for side in &mut ours {
             if side.number != 0 {
-                *side = raw::Opened { number: side.number, srv6: r.octet(), n: r.octet(), limited: r.octet(), limit: r.below(9) };
+                let [srv6, n, limited, a, on, hasv, v, hasm, m] = std::array::from_fn(|_| r.octet());
+                *side = raw::Opened { number: side.number, srv6, n, limited, limit: r.below(9), a, r: on, hasv, v, hasm, m };
             }
             if side.limited == 0 {
                 side.limit = r.below(9);
             }
+            if side.hasv == 0 {
+                side.v = r.octet();
+            }
+            if side.hasm == 0 {
+                side.m = r.octet();
+            }
         }
     }
-    let agreed = doors::agree(door, ours, octets);
-    let expected = plain::session(&theirs);
-    if (agreed.agreed, agreed.n, agreed.limited, agreed.limit) != (expected.agreed, expected.n, expected.limited, expected.limit) {
-        let ours = (agreed.agreed, agreed.n, agreed.limited, agreed.limit);
+    let told = |s: raw::Session| (s.agreed, s.n, s.limited, s.limit, s.a, s.r, [s.hasv, s.v, s.hasm, s.m]);
+    let ours = told(doors::agree(door, ours, at, octets));
+    if ours != told(plain::session(&theirs)) {
         return Err(format!("{door:?}: session of {pcc:?} and {pce:?}\nlibrary   {ours:?}\nreference {theirs:?}"));
     }
     Ok(())
@@ -76,12 +89,13 @@ fn check_session(r: &mut Random, door: Door, octets: [&[u8]; 2]) -> Result<(), S
 
 // ---- routes
 
-#[derive(Clone, Copy)]
+#[derive(Clone)]
 pub struct Question {
     pub door: Door,
     pub ero: bool,
     pub session: Session,
     pub pst: u64,
+    pub addresses: Vec<u8>,
     pub i: u64,
 }
 
@@ -95,7 +109,30 @@ pub fn some_session(r: &mut Random) -> Session {
         4 => Some(r.below(256)),
         _ => Some(r.number() as usize),
     };
-    Session { agreed: !r.one_in(20), n: !r.one_in(3), limit }
+    let depth = |r: &mut Random| (!r.one_in(3)).then(|| if r.one_in(6) { r.octet() } else { r.below(6) as u8 });
+    let (v, m) = (depth(r), if r.one_in(2) { None } else { depth(r) });
+    // mostly the limit that v and m set, as in every session of two OPENs
+    let permits = v.map(|v| usize::from(v.max(1))).into_iter().chain(m.map(|m| usize::from(m) + 1)).min();
+    let limit = if r.one_in(3) { limit } else { permits };
+    Session { agreed: !r.one_in(20), n: !r.one_in(3), limit, a: r.one_in(2), r: r.one_in(4), v, m }
+}
+
+/// Addresses of the head end, for routes of one kind mostly with one that the first segment may have; one in `faults` is no list.
+pub fn some_addresses(r: &mut Random, s: &[u8], faults: usize) -> Vec<u8> {
+    let mut list = Vec::new();
+    for _ in 0..r.of(&[0, 0, 1, 1, 2, 5]) {
+        // where the local or the remote address, or the SID, of a first segment stands, or near it
+        let from = r.of(&[12, 28, 28, 28, 44, 27, 29]);
+        match s.get(from..from + 16) {
+            Some(address) if !r.one_in(4) => list.extend_from_slice(address),
+            _ => list.extend_from_slice(&r.octets(16)),
+        }
+    }
+    if r.one_in(faults) {
+        let extra = 1 + r.below(15);
+        list.extend_from_slice(&r.octets(extra));
+    }
+    list
 }
 
 pub fn some_pst(r: &mut Random) -> u64 {
@@ -105,33 +142,33 @@ pub fn some_pst(r: &mut Random) -> u64 {
     3
 }
 
-fn question(r: &mut Random, ero: bool) -> Question {
+fn question(r: &mut Random, ero: bool, s: &[u8]) -> Question {
     let i = match r.below(3) {
         0 => 0,
         1 => r.below(8) as u64,
         _ => r.number(),
     };
-    Question { door: r.of(&DOORS), ero, session: some_session(r), pst: some_pst(r), i }
+    Question { door: r.of(&DOORS), ero, session: some_session(r), pst: some_pst(r), addresses: some_addresses(r, s, 40), i }
 }
 
 fn our_judge(s: &[u8], q: &Question) -> plain::Verdict {
-    plain::ours(doors::judge(q.door, s, q.ero, &q.session, q.pst))
+    plain::ours(doors::judge(q.door, s, q.ero, &q.session, q.pst, &q.addresses))
 }
 
 fn their_judge(s: &[u8], q: &Question) -> plain::Verdict {
-    plain::their_counts(&reference::judge(s, plain::kind(q.ero), &q.session, q.pst))
+    plain::their_counts(&reference::judge(s, plain::kind(q.ero), &q.session, q.pst, &q.addresses))
 }
 
 type Picked = (plain::Verdict, Option<reference::Segment>, (u16, u8, u8));
 
 fn our_segment(s: &[u8], q: &Question) -> Picked {
-    let r = doors::segment(q.door, s, q.ero, &q.session, q.pst, q.i);
+    let r = doors::segment(q.door, s, q.ero, &q.session, q.pst, &q.addresses, q.i);
     (plain::ours(r.verdict), plain::segment_back(&r.segment), (r.flags, r.sflags, r.reserved))
 }
 
 /// A refusal hands back the segment that says nothing, and no strays; an acceptance carries the number of segments and of the stray ones.
 fn their_segment(s: &[u8], q: &Question) -> Picked {
-    let r = reference::segment(s, plain::kind(q.ero), &q.session, q.pst, q.i);
+    let r = reference::segment(s, plain::kind(q.ero), &q.session, q.pst, &q.addresses, q.i);
     let (segment, x) = r.unwrap_or_default();
     let verdict = match r {
         Ok(_) => their_judge(s, q),
@@ -141,7 +178,8 @@ fn their_segment(s: &[u8], q: &Question) -> Picked {
 }
 
 fn shown(s: &[u8], q: &Question) -> String {
-    format!("{:?}: {} {} {} under {:?}, segment {}", q.door, if q.ero { "ero" } else { "rro" }, q.pst, hex(s), q.session, q.i)
+    let (kind, addresses) = (if q.ero { "ero" } else { "rro" }, hex(&q.addresses));
+    format!("{:?}: {kind} {} {} under {:?}, addresses {addresses}, segment {}", q.door, q.pst, hex(s), q.session, q.i)
 }
 
 pub fn check_route(tally: &mut Tally, s: &[u8], q: &Question) -> Result<(), String> {
@@ -198,12 +236,12 @@ fn check_steps(tally: &mut Tally, s: &[u8], q: &Question, from: usize) -> Result
     if from != strundevi::FIRST_PLACE || number != 0 {
         return Ok(());
     }
-    let asked = |i: usize| reference::segment(s, plain::kind(q.ero), &q.session, q.pst, i as u64).ok().map(|(segment, _)| segment);
+    let asked = |i: usize| reference::segment(s, plain::kind(q.ero), &q.session, q.pst, &q.addresses, i as u64).ok().map(|(segment, _)| segment);
     if at != s.len() || handed.len() != count || [0, q.i as usize % count, count - 1].iter().any(|&i| asked(i) != Some(handed[i])) {
         return Err(format!("the steps are not the segments: {}", shown(s, q)));
     }
     if q.door == Door::Wrapper {
-        let iterator = strundevi::segments(s, plain::safe_kind(q.ero), &plain::safe_session(&q.session), q.pst);
+        let iterator = strundevi::segments(s, plain::safe_kind(q.ero), &plain::safe_session(&q.session), q.pst, &q.addresses);
         let same = iterator.is_ok_and(|all| all.len() == count && all.map(|g| plain::segment_back(&plain::told(&g))).eq(handed.into_iter().map(Some)));
         if !same {
             return Err(format!("the iterator does not hand out the segments: {}", shown(s, q)));
@@ -261,17 +299,20 @@ pub fn exhaust(tally: &mut Tally, r: &mut Random) -> Result<(), String> {
     let mut opens = vec![octets(O)];
     while opens.len() < 8 {
         let open = objects::open(r);
-        if reference::read_open(&open).is_ok_and(|o| o.srv6) {
+        if reference::read_open(Setup { a: 0, r: 1 }, &open).is_ok_and(|o| o.srv6) {
             opens.push(open);
         }
     }
     for sample in &opens {
-        around(sample, |s| check_open(tally, Door::Archive, s))?;
+        let at = some_setup(r, usize::MAX);
+        around(sample, |s| check_open(tally, Door::Archive, at, s))?;
     }
-    let free = Session { agreed: true, n: true, limit: None };
+    let free = Session { agreed: true, n: true, ..Session::default() };
+    let one = Session { limit: Some(1), v: Some(1), a: true, ..free };
     for (ero, sample) in sample_routes(r) {
-        for session in [free, Session { n: false, limit: Some(1), ..free }] {
-            let q = Question { door: Door::Archive, ero, session, pst: 3, i: 1 };
+        let local = sample.get(28..44).unwrap_or_default().to_vec();
+        for session in [free, Session { n: false, limit: Some(1), ..free }, one, Session { r: true, ..one }] {
+            let q = Question { door: Door::Archive, ero, session, pst: 3, addresses: local.clone(), i: 1 };
             around(&sample, |s| check_route(tally, s, &q).and_then(|()| check_steps(tally, s, &q, 4)))?;
         }
     }
@@ -294,9 +335,10 @@ pub fn opens(tally: &mut Tally, r: &mut Random, n: usize) -> Result<(), String> 
             }
         }
         let door = r.of(&DOORS);
-        check_open(tally, door, &object)?;
-        check_session(r, door, [&object, &before])?;
-        if !r.one_in(4) || reference::read_open(&object).is_ok_and(|o| o.srv6) {
+        let at = some_setup(r, 30);
+        check_open(tally, door, at, &object)?;
+        check_session(r, door, at, [&object, &before])?;
+        if !r.one_in(4) || reference::read_open(Setup { a: 0, r: 1 }, &object).is_ok_and(|o| o.srv6) {
             before = object;
         }
     }
@@ -310,7 +352,7 @@ pub fn routes(tally: &mut Tally, r: &mut Random, n: usize) -> Result<(), String>
             let object = objects::long_route(r, ero, size);
             for door in DOORS {
                 for i in [0, 2729, 2730] {
-                    check_route(tally, &object, &Question { door, i, ..question(r, ero) })?;
+                    check_route(tally, &object, &Question { door, i, ..question(r, ero, &object) })?;
                 }
             }
         }
@@ -335,7 +377,7 @@ pub fn routes(tally: &mut Tally, r: &mut Random, n: usize) -> Result<(), String>
             }
         }
         let asked = if r.one_in(30) { !ero } else { ero };
-        let q = question(r, asked);
+        let q = question(r, asked, &object);
         check_route(tally, &object, &q)?;
         if count < 200 || r.one_in(20) {
             let place = r.number() as usize;

@@ -23,15 +23,15 @@ pub enum Call {
 }
 
 const CALLS: [(&str, &[usize]); 15] = [
-    ("open", &[0, 1, 2, 3]),
-    ("ero", &[0, 4, 5, 6, 7, 8, 9, 10, 11, 12, 13, 14]),
-    ("rro", &[0, 4, 5, 6, 7, 8, 9, 11, 13, 14]),
-    ("segment", &[0, 4, 5, 6, 7, 8, 9, 10, 11, 12, 13, 14, 15]),
+    ("open", &[0, 1, 2, 3, 28]),
+    ("ero", &[0, 4, 5, 6, 7, 8, 9, 10, 11, 12, 13, 14, 28]),
+    ("rro", &[0, 4, 5, 6, 7, 8, 9, 11, 13, 14, 28]),
+    ("segment", &[0, 4, 5, 6, 7, 8, 9, 10, 11, 12, 13, 14, 15, 28]),
     ("step", &[0, 4, 7, 8, 9, 11, 14, 15]),
     ("begin", &[0, 16]),
     ("add", &[0, 7, 8, 9, 11, 16]),
     ("finish", &[0, 5, 16]),
-    ("report", &[0, 4, 5, 6, 7, 8, 9, 10, 11, 12, 13, 14, 17, 18, 19, 20, 21]),
+    ("report", &[0, 4, 5, 6, 7, 8, 9, 10, 11, 12, 13, 14, 17, 18, 19, 20, 21, 28]),
     ("remove", &[0, 17, 18, 20, 22]),
     ("compact", &[0, 17, 24]),
     ("body", &[0, 17, 18, 22]),
@@ -42,7 +42,7 @@ const CALLS: [(&str, &[usize]); 15] = [
 
 #[derive(Default)]
 pub struct Tally {
-    counts: [[u64; 25]; CALLS.len()],
+    counts: [[u64; 29]; CALLS.len()],
     /// Acceptances of each call by each door.
     accepted: [[u64; DOORS.len()]; CALLS.len()],
     /// Reports that took the place of the oldest removal.

@@ -32,6 +32,7 @@ pub const ALL_PATHS: u8 = 21;
 pub const NO_PATH: u8 = 22;
 pub const MARK_TOO_OLD: u8 = 23;
 pub const MARK_AHEAD: u8 = 24;
+pub const NOT_USABLE: u8 = 28;
 
 /// A refusal of the whole: its place is 0.
 #[inline]

@@ -125,11 +125,14 @@ impl Board {
         Ok(self.version + 1)
     }
 
-    /// The number of segments of the path reported, and of those that are stray.
-    pub fn report(&mut self, store: &mut [u8], key: u64, ero: &[u8], session: &Session, pst: u64) -> Answer<Counts> {
+    /// The number of segments of the path reported, and of those that are stray; 28 for the addresses goes before everything else.
+    pub fn report(&mut self, store: &mut [u8], key: u64, ero: &[u8], session: &Session, pst: u64, addresses: &[u8]) -> Answer<Counts> {
+        if addresses.len() % 16 != 0 {
+            return refuse(NOT_USABLE);
+        }
         self.check(store)?;
         let key = in_range(key)?;
-        let counts = judge(ero, Kind::Ero, session, pst)?;
+        let counts = judge(ero, Kind::Ero, session, pst, addresses)?;
         let body = &ero[4..];
         if body.len() > PLACE_OCTETS {
             return refuse(BODY_TOO_LONG);

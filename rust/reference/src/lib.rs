@@ -12,7 +12,7 @@ pub mod writer;
 
 pub use answer::{Answer, Refusal};
 pub use board::{Board, Change, PLACES, PLACE_OCTETS, STORE_OCTETS};
-pub use open::{read_open, Open};
+pub use open::{read_open, Open, Setup};
 pub use route::{judge, segment, Counts, step, Kind, Segment, Strays};
 pub use session::Session;
 pub use writer::Writer;

@@ -2,12 +2,13 @@
 //!
 //! TLV 34 holds 3 reserved octets, a count, that many setup types padded to 4, then sub-TLVs; only the padding of its last sub-TLV may be
 //! missing or cut. Sub-TLV 27 holds 2 reserved octets, 2 flag octets (N is 2, X is 1), then pairs of MSD type and value.
-//! Refused with 1, 2, 3, in that order.
+//! A and R stand at two positions of the 16 flag bits, counted from the high end, that come in at set-up: different ones of 0 to 13.
+//! Refused with 28, 1, 2, 3, in that order.
 //!
 //! The depth limit, without X: H.Encaps with v permits the larger of 1 and v segments, Segments Left with m permits m + 1; the smaller
-//! counts, of a repeated type that of its smallest value; End Pop and End D set none.
+//! counts, of a repeated type that of its smallest value; End Pop and End D set none. The smallest v and m are handed out beside it.
 
-use crate::answer::{refuse, Answer, CAPABILITY_MISSING, OPEN_MALFORMED, WRONG_MSD};
+use crate::answer::{refuse, Answer, CAPABILITY_MISSING, NOT_USABLE, OPEN_MALFORMED, WRONG_MSD};
 
 const CLASS: u8 = 1;
 const TYPE: u8 = 1;
@@ -22,12 +23,23 @@ const END_POP: u8 = 42;
 const H_ENCAPS: u8 = 44;
 const END_D: u8 = 45;
 
-/// What an accepted OPEN says. Without SRv6, `n` is false and there is no limit.
+/// Where A and R stand.
+#[derive(Clone, Copy, Debug, PartialEq, Eq)]
+pub struct Setup {
+    pub a: u64,
+    pub r: u64,
+}
+
+/// What an accepted OPEN says. Without SRv6, flags are false and there are neither limit nor v and m.
 #[derive(Clone, Copy, Debug, Default, PartialEq, Eq)]
 pub struct Open {
     pub srv6: bool,
     pub n: bool,
     pub limit: Option<usize>,
+    pub a: bool,
+    pub r: bool,
+    pub v: Option<u8>,
+    pub m: Option<u8>,
 }
 
 #[inline]
@@ -75,7 +87,10 @@ fn setup(value: &[u8]) -> Option<(bool, Option<&[u8]>)> {
     Some((types[..count].contains(&SRV6), first_of(list, SRV6_CAPABILITY)?))
 }
 
-pub fn read_open(s: &[u8]) -> Answer<Open> {
+pub fn read_open(at: Setup, s: &[u8]) -> Answer<Open> {
+    if at.a > 13 || at.r > 13 || at.a == at.r {
+        return refuse(NOT_USABLE);
+    }
     let size = s.len();
     if size < 8 || size % 4 != 0 || s[0] != CLASS || s[1] >> 4 != TYPE || be16(&s[2..]) as usize != size || s[4] >> 5 != VERSION {
         return refuse(OPEN_MALFORMED);
@@ -99,20 +114,23 @@ pub fn read_open(s: &[u8]) -> Answer<Open> {
         return refuse(OPEN_MALFORMED);
     }
     let flags = capability[3];
-    let n = flags & FLAG_N != 0;
+    let all = be16(&capability[2..]);
+    let said = Open { srv6: true, n: flags & FLAG_N != 0, a: all & 0x8000 >> at.a != 0, r: all & 0x8000 >> at.r != 0, ..Open::default() };
     if flags & FLAG_X != 0 {
-        return Ok(Open { srv6: true, n, limit: None });
+        return Ok(said);
     }
-    let mut limit: Option<usize> = None;
-    for pair in capability[4..].chunks_exact(2) {
-        let value = usize::from(pair[1]);
-        let permitted = match pair[0] {
-            H_ENCAPS => value.max(1),
-            SEGMENTS_LEFT => value + 1,
-            END_POP | END_D => continue,
-            _ => return refuse(WRONG_MSD),
-        };
-        limit = Some(limit.map_or(permitted, |least| least.min(permitted)));
+    let pairs = capability[4..].chunks_exact(2);
+    if pairs.clone().any(|pair| !matches!(pair[0], SEGMENTS_LEFT | END_POP | H_ENCAPS | END_D)) {
+        return refuse(WRONG_MSD);
     }
-    Ok(Open { srv6: true, n, limit })
+    // Each pair permits its own number; the smallest of these is that of the smallest values.
+    let limit = pairs
+        .filter_map(|pair| match pair[0] {
+            H_ENCAPS => Some(usize::from(pair[1].max(1))),
+            SEGMENTS_LEFT => Some(usize::from(pair[1]) + 1),
+            _ => None,
+        })
+        .min();
+    let smallest = |wanted: u8| capability[4..].chunks_exact(2).filter(|pair| pair[0] == wanted).map(|pair| pair[1]).min();
+    Ok(Open { limit, v: smallest(H_ENCAPS), m: smallest(SEGMENTS_LEFT), ..said })
 }

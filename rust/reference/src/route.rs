@@ -2,7 +2,10 @@
 //! of type), a length octet that counts all of it, and for SRv6, type 40: NT (4 bits) and 12 flags, the last of them V, T, F, S; 2 reserved
 //! octets, the behaviour (2), the SID (16, if S is 0), the NAI by NT, the SID structure (8, if T is 1 and S is 0).
 //!
-//! Refused with 4, 5, 6, 14, 13 for the whole, then in each subobject 8, 9, 7, 10, 11, last 12; for a segment then 15.
+//! Refused with 28 for the addresses, 4, 5, 6, 14, 13 for the whole, then in each subobject 8, 9, 7, 10, 11, last 12; for a segment then 15.
+//!
+//! The first segment of an ERO stays off the header if R is agreed, or A is and it is an adjacency (NT 4 or 6) whose local address, the first
+//! 16 octets of its NAI, is one of the head end's. H.Encaps' v then permits v + 1.
 //!
 //! An accepted route also carries how many of its segments are stray: a flag but V, T, F, S is set, or one of the structure's flags, or a reserved
 //! octet (4, 5, and three of the structure) is not 0.
@@ -176,19 +179,39 @@ fn broken(sub: &[u8], sid_needed: bool) -> Option<u8> {
     None
 }
 
+/// Whether the first segment of an ERO that broke no rule stays off the header.
+#[inline]
+fn stays_off(s: &[u8], session: &Session, addresses: &[u8]) -> bool {
+    if session.r || !session.a {
+        return session.r;
+    }
+    let nai = if s[7] & FLAG_S != 0 { 12 } else { 28 };
+    matches!(s[6] >> 4, 4 | 6) && addresses.chunks_exact(16).any(|address| s.get(nai..nai + 16) == Some(address))
+}
+
+/// How many segments an ERO may have.
+#[inline]
+fn most(s: &[u8], session: &Session, addresses: &[u8]) -> Option<usize> {
+    let v = match session.v {
+        Some(v) if stays_off(s, session, addresses) => usize::from(v) + 1,
+        _ => return session.limit,
+    };
+    Some(session.m.map_or(v, |m| v.min(usize::from(m) + 1)))
+}
+
 /// The checks, with segment `wanted` looked up on the way: its subobject, if it is there.
 #[inline]
-fn walk<'a>(s: &'a [u8], kind: Kind, session: &Session, pst: u64, wanted: u64) -> Answer<(Counts, Option<&'a [u8]>)> {
+fn walk<'a>(s: &'a [u8], kind: Kind, session: &Session, pst: u64, addresses: &[u8], wanted: u64) -> Answer<(Counts, Option<&'a [u8]>)> {
+    if addresses.len() % 16 != 0 {
+        return refuse(NOT_USABLE);
+    }
     framed(s, kind)?;
     if pst != PST_SRV6 || !session.agreed {
         return refuse(NOT_AGREED);
     }
     let ero = kind == Kind::Ero;
     let sid_needed = ero && !session.n;
-    let limit = match session.limit {
-        Some(limit) if ero => limit,
-        _ => usize::MAX,
-    };
+    let limit = if ero { most(s, session, addresses).unwrap_or(usize::MAX) } else { usize::MAX };
     let (mut count, mut stray, mut over, mut found) = (0, 0, 0, None);
     let mut rest = &s[4..];
     while let Some(&length) = rest.get(1) {
@@ -214,13 +237,13 @@ fn walk<'a>(s: &'a [u8], kind: Kind, session: &Session, pst: u64, wanted: u64) -
 }
 
 /// The number of segments of a good route, and of those that are stray.
-pub fn judge(s: &[u8], kind: Kind, session: &Session, pst: u64) -> Answer<Counts> {
-    walk(s, kind, session, pst, u64::MAX).map(|(counts, _)| counts)
+pub fn judge(s: &[u8], kind: Kind, session: &Session, pst: u64, addresses: &[u8]) -> Answer<Counts> {
+    walk(s, kind, session, pst, addresses, u64::MAX).map(|(counts, _)| counts)
 }
 
 /// Segment `i`, from 0, of a good route, and what is set in its octets and ought to be 0.
-pub fn segment(s: &[u8], kind: Kind, session: &Session, pst: u64, i: u64) -> Answer<(Segment, Strays)> {
-    match walk(s, kind, session, pst, i)? {
+pub fn segment(s: &[u8], kind: Kind, session: &Session, pst: u64, addresses: &[u8], i: u64) -> Answer<(Segment, Strays)> {
+    match walk(s, kind, session, pst, addresses, i)? {
         (_, Some(sub)) => Ok((read(sub, kind), Strays::of(sub))),
         (_, None) => refuse(NO_SUCH_SEGMENT),
     }

@@ -1,4 +1,5 @@
-//! A session: made of the PCC's and the PCE's OPEN answers. SRv6 is agreed if both carry it; N and the limit are the PCC's.
+//! A session: made of the PCC's and the PCE's OPEN answers. SRv6 is agreed if both carry it; N, the limit, v and m are the PCC's; A and R
+//! are agreed if both set them.
 
 use crate::answer::Answer;
 use crate::open::Open;
@@ -8,6 +9,10 @@ pub struct Session {
     pub agreed: bool,
     pub n: bool,
     pub limit: Option<usize>,
+    pub a: bool,
+    pub r: bool,
+    pub v: Option<u8>,
+    pub m: Option<u8>,
 }
 
 impl Session {
@@ -18,6 +23,6 @@ impl Session {
         if !pcc.srv6 || !pce.srv6 {
             return Session::default();
         }
-        Session { agreed: true, n: pcc.n, limit: pcc.limit }
+        Session { agreed: true, n: pcc.n, limit: pcc.limit, a: pcc.a && pce.a, r: pcc.r && pce.r, v: pcc.v, m: pcc.m }
     }
 }

@@ -2,6 +2,8 @@
 
 use reference::*;
 
+const AT: Setup = Setup { a: 0, r: 1 };
+
 const O: [u8; 32] = [
     0x01, 0x10, 0x00, 0x20, 0x20, 0x1E, 0x78, 0x07, 0x00, 0x22, 0x00, 0x12, 0x00, 0x00, 0x00, 0x01, 0x03, 0x00, 0x00, 0x00, 0x00, 0x1B, 0x00, 0x06, 0x00, 0x00,
     0x00, 0x00, 0x2C, 0x04, 0x00, 0x00,
@@ -21,7 +23,7 @@ fn refused<T>(number: u8, place: usize) -> Answer<T> {
 }
 
 fn session() -> Session {
-    Session::agree(&read_open(&O), &read_open(&O))
+    Session::agree(&read_open(AT, &O), &read_open(AT, &O))
 }
 
 /// A route of `n` segments like E's.
@@ -48,19 +50,19 @@ fn structured(bits: [u8; 4]) -> Vec<u8> {
 
 #[test]
 fn opens() {
-    assert_eq!(read_open(&O), Ok(Open { srv6: true, n: false, limit: Some(4) }));
-    assert_eq!(read_open(&with(O, 16, 0)), Ok(Open { srv6: false, n: false, limit: None }));
-    assert_eq!(read_open(&with(O, 28, 0)), refused(3, 0));
-    assert_eq!(read_open(&with(O, 27, 1)), Ok(Open { srv6: true, n: false, limit: None }));
-    assert_eq!(read_open(&with(with(O, 27, 1), 28, 0)), Ok(Open { srv6: true, n: false, limit: None }));
-    assert_eq!(read_open(&with(O, 27, 2)), Ok(Open { srv6: true, n: true, limit: Some(4) }));
-    assert_eq!(read_open(&with(O, 21, 26)), refused(2, 0));
-    assert_eq!(read_open(&with(O, 1, 0x1F)), read_open(&O));
+    assert_eq!(read_open(AT, &O), Ok(Open { srv6: true, limit: Some(4), v: Some(4), ..Open::default() }));
+    assert_eq!(read_open(AT, &with(O, 16, 0)), Ok(Open::default()));
+    assert_eq!(read_open(AT, &with(O, 28, 0)), refused(3, 0));
+    assert_eq!(read_open(AT, &with(O, 27, 1)), Ok(Open { srv6: true, ..Open::default() }));
+    assert_eq!(read_open(AT, &with(with(O, 27, 1), 28, 0)), Ok(Open { srv6: true, ..Open::default() }));
+    assert_eq!(read_open(AT, &with(O, 27, 2)), Ok(Open { srv6: true, n: true, limit: Some(4), v: Some(4), ..Open::default() }));
+    assert_eq!(read_open(AT, &with(O, 21, 26)), refused(2, 0));
+    assert_eq!(read_open(AT, &with(O, 1, 0x1F)), read_open(AT, &O));
     for n in 0..O.len() {
-        assert_eq!(read_open(&O[..n]), refused(1, 0));
+        assert_eq!(read_open(AT, &O[..n]), refused(1, 0));
     }
     for (at, value) in [(0, 2), (1, 0x20), (3, 0x24), (4, 0x40), (11, 21), (11, 17), (15, 15), (23, 5), (23, 7)] {
-        assert_eq!(read_open(&with(O, at, value)), refused(1, 0), "octet {at}");
+        assert_eq!(read_open(AT, &with(O, at, value)), refused(1, 0), "octet {at}");
     }
 }
 
@@ -71,9 +73,9 @@ fn last_padding_only_may_be_cut() {
         octets.extend_from_slice(inner);
         octets.resize(octets.len().div_ceil(4) * 4, 0);
         octets[3] = octets.len() as u8;
-        read_open(&octets)
+        read_open(AT, &octets)
     };
-    let good = Ok(Open { srv6: true, n: false, limit: Some(10) });
+    let good = Ok(Open { srv6: true, limit: Some(10), m: Some(9), ..Open::default() });
     let head = [0, 0, 0, 1, 3, 0, 0, 0, 0, 27, 0, 6, 0, 0, 0, 0, 41, 9];
     assert_eq!(open(&head), good);
     for n in 1..=2 {
@@ -99,8 +101,8 @@ fn clean(segments: usize) -> Answer<Counts> {
 #[test]
 fn strays() {
     let s = session();
-    let judged = |object: &[u8]| judge(object, Kind::Ero, &s, 3).unwrap();
-    let shown = |object: &[u8]| segment(object, Kind::Ero, &s, 3, 0).unwrap().1;
+    let judged = |object: &[u8]| judge(object, Kind::Ero, &s, 3, &[]).unwrap();
+    let shown = |object: &[u8]| segment(object, Kind::Ero, &s, 3, &[], 0).unwrap().1;
     // each unassigned flag, each reserved octet; a segment counts once
     for (at, value, flags, reserved) in
         [(6, 0x01, 0x100, false), (6, 0x0f, 0xf00, false), (7, 0x12, 0x010, false), (7, 0xf2, 0x0f0, false), (8, 1, 0, true), (9, 0x80, 0, true)]
@@ -120,9 +122,9 @@ fn strays() {
     // no strays: V, the header's low bits, T where S is 1, V in an RRO
     assert_eq!(judged(&with(E, 7, 0x0a)).stray, 0);
     assert_eq!(judged(&with(E, 1, 0x1f)).stray, 0);
-    let free = Session { agreed: true, n: true, limit: None };
-    assert_eq!(judge(&with(with(E, 6, 0x20), 7, 5), Kind::Ero, &free, 3), clean(1));
-    assert_eq!(judge(&with(with(E, 0, 8), 7, 0x0a), Kind::Rro, &free, 3), clean(1));
+    let free = Session { agreed: true, n: true, ..Session::default() };
+    assert_eq!(judge(&with(with(E, 6, 0x20), 7, 5), Kind::Ero, &free, 3, &[]), clean(1));
+    assert_eq!(judge(&with(with(E, 0, 8), 7, 0x0a), Kind::Rro, &free, 3, &[]), clean(1));
 }
 
 #[test]
@@ -135,7 +137,7 @@ fn limits() {
         octets[27] = flags;
         octets.resize(octets.len().div_ceil(4) * 4, 0);
         octets[3] = octets.len() as u8;
-        read_open(&octets).unwrap().limit
+        read_open(AT, &octets).unwrap().limit
     };
     let rows: [(&[u8], Option<usize>); 18] = [
         (&[], None),
@@ -166,34 +168,34 @@ fn limits() {
 #[test]
 fn routes() {
     let s = session();
-    assert_eq!(s, Session { agreed: true, n: false, limit: Some(4) });
-    assert_eq!(judge(&E, Kind::Ero, &s, 3), clean(1));
-    assert_eq!(judge(&E, Kind::Ero, &s, 1), refused(13, 0));
-    assert_eq!(judge(&E, Kind::Ero, &Session::agree(&read_open(&O), &read_open(&with(O, 16, 0))), 3), refused(13, 0));
-    assert_eq!(judge(&with(E, 7, 3), Kind::Ero, &s, 3), refused(9, 4));
-    assert_eq!(judge(&with(E, 7, 6), Kind::Ero, &s, 3), refused(7, 4));
-    assert_eq!(judge(&structured([40, 24, 16, 48]), Kind::Ero, &s, 3), clean(1));
-    assert_eq!(judge(&structured([40, 24, 16, 49]), Kind::Ero, &s, 3), refused(11, 4));
-    assert_eq!(judge(&structured([64; 4]), Kind::Ero, &s, 3), refused(11, 4));
-    assert_eq!(judge(&route(4), Kind::Ero, &s, 3), clean(4));
-    assert_eq!(judge(&route(5), Kind::Ero, &s, 3), refused(12, 100));
-    assert_eq!(judge(&E, Kind::Rro, &s, 3), refused(4, 0));
-    assert_eq!(judge(&with(E, 0, 8), Kind::Rro, &s, 3), clean(1));
-    assert_eq!(judge(&with(with(E, 0, 8), 4, 0xA8), Kind::Rro, &s, 3), refused(14, 0));
-    assert_eq!(judge(&with(E, 6, 0x10), Kind::Ero, &s, 3), refused(8, 4));
-    assert_eq!(judge(&with(with(E, 6, 0x20), 7, 1), Kind::Ero, &s, 3), refused(10, 4));
-    assert_eq!(judge(&with(with(with(E, 0, 8), 6, 0x20), 7, 5), Kind::Rro, &s, 3), clean(1));
-    assert_eq!(judge(&[7, 0x10, 0, 4], Kind::Ero, &s, 3), refused(5, 0));
+    assert_eq!(s, Session { agreed: true, limit: Some(4), v: Some(4), ..Session::default() });
+    assert_eq!(judge(&E, Kind::Ero, &s, 3, &[]), clean(1));
+    assert_eq!(judge(&E, Kind::Ero, &s, 1, &[]), refused(13, 0));
+    assert_eq!(judge(&E, Kind::Ero, &Session::agree(&read_open(AT, &O), &read_open(AT, &with(O, 16, 0))), 3, &[]), refused(13, 0));
+    assert_eq!(judge(&with(E, 7, 3), Kind::Ero, &s, 3, &[]), refused(9, 4));
+    assert_eq!(judge(&with(E, 7, 6), Kind::Ero, &s, 3, &[]), refused(7, 4));
+    assert_eq!(judge(&structured([40, 24, 16, 48]), Kind::Ero, &s, 3, &[]), clean(1));
+    assert_eq!(judge(&structured([40, 24, 16, 49]), Kind::Ero, &s, 3, &[]), refused(11, 4));
+    assert_eq!(judge(&structured([64; 4]), Kind::Ero, &s, 3, &[]), refused(11, 4));
+    assert_eq!(judge(&route(4), Kind::Ero, &s, 3, &[]), clean(4));
+    assert_eq!(judge(&route(5), Kind::Ero, &s, 3, &[]), refused(12, 100));
+    assert_eq!(judge(&E, Kind::Rro, &s, 3, &[]), refused(4, 0));
+    assert_eq!(judge(&with(E, 0, 8), Kind::Rro, &s, 3, &[]), clean(1));
+    assert_eq!(judge(&with(with(E, 0, 8), 4, 0xA8), Kind::Rro, &s, 3, &[]), refused(14, 0));
+    assert_eq!(judge(&with(E, 6, 0x10), Kind::Ero, &s, 3, &[]), refused(8, 4));
+    assert_eq!(judge(&with(with(E, 6, 0x20), 7, 1), Kind::Ero, &s, 3, &[]), refused(10, 4));
+    assert_eq!(judge(&with(with(with(E, 0, 8), 6, 0x20), 7, 5), Kind::Rro, &s, 3, &[]), clean(1));
+    assert_eq!(judge(&[7, 0x10, 0, 4], Kind::Ero, &s, 3, &[]), refused(5, 0));
     let mut mixed = route(3);
     mixed[52] = 1;
-    assert_eq!(judge(&mixed, Kind::Ero, &s, 3), refused(6, 52));
+    assert_eq!(judge(&mixed, Kind::Ero, &s, 3, &[]), refused(6, 52));
     for n in 0..E.len() {
-        assert_eq!(judge(&E[..n], Kind::Ero, &s, 3), refused(4, 0));
+        assert_eq!(judge(&E[..n], Kind::Ero, &s, 3, &[]), refused(4, 0));
     }
-    let (read, _) = segment(&with(E, 4, 0xA8), Kind::Ero, &s, 3, 0).unwrap();
+    let (read, _) = segment(&with(E, 4, 0xA8), Kind::Ero, &s, 3, &[], 0).unwrap();
     assert!(read.loose && !read.verify && read.has_sid && read.behaviour == 1 && read.sid == E[12..28]);
-    assert_eq!(segment(&E, Kind::Ero, &s, 3, 1), refused(15, 0));
-    assert_eq!(segment(&route(5), Kind::Ero, &s, 3, 0), refused(12, 100));
+    assert_eq!(segment(&E, Kind::Ero, &s, 3, &[], 1), refused(15, 0));
+    assert_eq!(segment(&route(5), Kind::Ero, &s, 3, &[], 0), refused(12, 100));
 }
 
 #[test]
@@ -203,10 +205,10 @@ fn written_route_is_the_one_read() {
         let mut buffer = vec![0xEE; object.len() + 3];
         let mut writer = Writer::begin(&mut buffer, Kind::Ero).unwrap();
         assert_eq!(writer.finish(&mut buffer), refused(5, 0));
-        for i in 0..judge(&object, Kind::Ero, &s, 3).unwrap().segments {
-            writer = writer.add(&mut buffer, &segment(&object, Kind::Ero, &s, 3, i as u64).unwrap().0).unwrap();
+        for i in 0..judge(&object, Kind::Ero, &s, 3, &[]).unwrap().segments {
+            writer = writer.add(&mut buffer, &segment(&object, Kind::Ero, &s, 3, &[], i as u64).unwrap().0).unwrap();
         }
-        assert_eq!(writer.add(&mut buffer, &segment(&object, Kind::Ero, &s, 3, 0).unwrap().0), refused(16, 0));
+        assert_eq!(writer.add(&mut buffer, &segment(&object, Kind::Ero, &s, 3, &[], 0).unwrap().0), refused(16, 0));
         writer.finish(&mut buffer).unwrap();
         assert_eq!(buffer[..object.len()], object);
         assert_eq!(buffer[object.len()..], [0xEE; 3]);
@@ -220,8 +222,8 @@ fn the_worked_history() {
     let mut store = vec![0; STORE_OCTETS];
     let mut board = Board::default();
     let (a, b) = (11, 12);
-    assert_eq!(board.report(&mut store, a, &E, &s, 3), clean(1));
-    assert_eq!(board.report(&mut store, b, &route(2), &s, 3), clean(2));
+    assert_eq!(board.report(&mut store, a, &E, &s, 3, &[]), clean(1));
+    assert_eq!(board.report(&mut store, b, &route(2), &s, 3, &[]), clean(2));
     assert_eq!(board.remove(&store, a), Ok(()));
     let path_b = Change::Path { key: 12, version: 2, place: 1, length: 48 };
     assert_eq!(board.next(&store, 1, 1), Ok(path_b));
@@ -246,24 +248,82 @@ fn a_full_board() {
     let mut store = vec![0; STORE_OCTETS];
     let mut board = Board::default();
     for key in 1..=128 {
-        assert_eq!(board.report(&mut store, key, &E, &s, 3), clean(1));
+        assert_eq!(board.report(&mut store, key, &E, &s, 3, &[]), clean(1));
     }
-    assert_eq!(board.report(&mut store, 500, &E, &s, 3), refused(21, 0));
-    assert_eq!(board.report(&mut store, 5, &E, &s, 3), clean(1));
+    assert_eq!(board.report(&mut store, 500, &E, &s, 3, &[]), refused(21, 0));
+    assert_eq!(board.report(&mut store, 5, &E, &s, 3, &[]), clean(1));
     board.remove(&store, 77).unwrap();
     board.remove(&store, 33).unwrap();
     assert_eq!((board.version, board.floor), (131, 0));
-    assert_eq!(board.report(&mut store, 500, &E, &s, 3), clean(1));
+    assert_eq!(board.report(&mut store, 500, &E, &s, 3, &[]), clean(1));
     assert_eq!((board.keys[76], board.version, board.floor), (500, 132, 130));
-    assert_eq!(board.report(&mut store, 0, &E, &s, 3), refused(18, 0));
-    assert_eq!(board.report(&mut store, 1_048_575, &[], &s, 3), refused(18, 0));
-    assert_eq!(board.report(&mut store, 1_048_574, &with(E, 7, 3), &s, 3), refused(9, 4));
+    assert_eq!(board.report(&mut store, 0, &E, &s, 3, &[]), refused(18, 0));
+    assert_eq!(board.report(&mut store, 1_048_575, &[], &s, 3, &[]), refused(18, 0));
+    assert_eq!(board.report(&mut store, 1_048_574, &with(E, 7, 3), &s, 3, &[]), refused(9, 4));
     let free = Session { limit: None, ..s };
-    assert_eq!(board.report(&mut store, 9, &route(16), &free, 3), clean(16));
-    assert_eq!(board.report(&mut store, 9, &route(17), &free, 3), refused(19, 0));
+    assert_eq!(board.report(&mut store, 9, &route(16), &free, 3, &[]), clean(16));
+    assert_eq!(board.report(&mut store, 9, &route(17), &free, 3, &[]), refused(19, 0));
     board.version = u64::MAX - 1;
-    assert_eq!(board.report(&mut store, 9, &E, &s, 3), refused(20, 0));
+    assert_eq!(board.report(&mut store, 9, &E, &s, 3, &[]), refused(20, 0));
     assert_eq!(board.remove(&store, 9), refused(20, 0));
     board.version = u64::MAX;
     assert_eq!(board.remove(&store, 9), refused(17, 0));
+}
+
+/// A route of `n` segments, the first an adjacency of `local`, with a SID or without.
+fn from_here(n: usize, nt: u8, sid: bool, local: [u8; 16]) -> Vec<u8> {
+    let nai = if nt == 6 { 40 } else { 32 };
+    let size = 8 + if sid { 16 } else { 0 } + nai;
+    let mut octets = vec![7, 0x10, 0, 0, 40, size as u8, nt << 4, !sid as u8, 0, 0, 0, 1];
+    octets.resize(octets.len() + if sid { 16 } else { 0 }, 9);
+    octets.extend_from_slice(&local);
+    octets.resize(4 + size, 7);
+    for _ in 1..n {
+        octets.extend_from_slice(&E[4..]);
+    }
+    let size = octets.len() as u16;
+    octets[2..4].copy_from_slice(&size.to_be_bytes());
+    octets
+}
+
+#[test]
+fn one_segment_more() {
+    let (here, there) = ([5; 16], [6; 16]);
+    let both = [there, here].concat();
+    // positions from the high end: A at 0 is 0x80 of the first flag octet, R at 1 is 0x40, position 13 is 4 of the second
+    assert!(read_open(AT, &with(O, 26, 0x80)).is_ok_and(|o| o.a && !o.r));
+    assert!(read_open(AT, &with(O, 26, 0x40)).is_ok_and(|o| !o.a && o.r));
+    assert!(read_open(Setup { a: 13, r: 8 }, &with(O, 27, 4)).is_ok_and(|o| o.a && !o.r && !o.n));
+    for at in [Setup { a: 14, r: 0 }, Setup { a: 0, r: 14 }, Setup { a: 3, r: 3 }, Setup { a: u64::MAX, r: 0 }] {
+        assert_eq!(read_open(at, &[]), refused(28, 0));
+    }
+    let open = |flags| read_open(AT, &with(O, 26, flags));
+    let agree = |pcc, pce| Session::agree(&open(pcc), &open(pce));
+    assert_eq!(agree(0xC0, 0x80), Session { a: true, ..session() });
+    // both ends must say so; then v permits v + 1
+    for (pcc, pce, most) in [(0, 0, 4), (0x40, 0, 4), (0, 0x40, 4), (0x80, 0x40, 4), (0x40, 0x40, 5), (0xC0, 0xC0, 5)] {
+        assert_eq!(judge(&route(most), Kind::Ero, &agree(pcc, pce), 3, &[]), clean(most));
+        assert_eq!(judge(&route(most + 1), Kind::Ero, &agree(pcc, pce), 3, &[]), refused(12, 4 + 24 * most));
+    }
+    let a = Session { n: true, ..agree(0x80, 0x80) };
+    for nt in [4, 6] {
+        for sid in [true, false] {
+            assert_eq!(judge(&from_here(5, nt, sid, here), Kind::Ero, &a, 3, &both), clean(5));
+            assert_eq!(judge(&from_here(5, nt, sid, here), Kind::Ero, &a, 3, &there).map_err(|e| e.number), Err(12));
+            assert_eq!(judge(&from_here(6, nt, sid, here), Kind::Ero, &a, 3, &both).map_err(|e| e.number), Err(12));
+        }
+    }
+    // the remote address, and a node's, are none
+    let mut remote = from_here(5, 4, true, there);
+    remote[44..60].copy_from_slice(&here);
+    assert_eq!(judge(&remote, Kind::Ero, &a, 3, &here).map_err(|e| e.number), Err(12));
+    // Segments Left is untouched, and a zero of H.Encaps permits one still
+    assert_eq!(judge(&from_here(5, 4, true, here), Kind::Ero, &Session { m: Some(3), ..a }, 3, &both).map_err(|e| e.number), Err(12));
+    let zero = Session { limit: Some(1), v: Some(0), ..a };
+    assert_eq!(judge(&from_here(1, 4, true, here), Kind::Ero, &zero, 3, &both), clean(1));
+    assert_eq!(judge(&from_here(2, 4, true, here), Kind::Ero, &zero, 3, &both).map_err(|e| e.number), Err(12));
+    // a list that is no multiple of 16 octets goes before everything else, in an RRO too
+    assert_eq!(judge(&[], Kind::Rro, &a, 3, &[0; 15]), refused(28, 0));
+    assert_eq!(segment(&[], Kind::Ero, &a, 3, &[0; 17], 0), refused(28, 0));
+    assert_eq!(Board::default().report(&mut [], 0, &[], &a, 3, &[0]), refused(28, 0));
 }

@@ -3,7 +3,7 @@
 //!     cargo run --release --offline --example follow
 
 use std::collections::BTreeMap;
-use strundevi::{read_open, Board, Change, Mark, Number, Refusal, Session, PST_SRV6, STORE_OCTETS};
+use strundevi::{read_open, Board, Change, Mark, Number, Refusal, Session, Setup, PST_SRV6, STORE_OCTETS};
 
 const OPEN: [u8; 32] = [
     0x01, 0x10, 0x00, 0x20, 0x20, 0x1E, 0x78, 0x07, 0x00, 0x22, 0x00, 0x12, 0x00, 0x00, 0x00, 0x01, 0x03, 0x00, 0x00, 0x00, 0x00, 0x1B, 0x00, 0x06, 0x00, 0x00,
@@ -21,7 +21,7 @@ impl Keeper {
     fn report(&mut self, key: u32, last: u8) -> Result<(), Refusal> {
         let mut ero = [7, 0x10, 0, 28, 40, 24, 0, 2, 0, 0, 0, 1, 0x20, 0x01, 0x0D, 0xB8, 0, 0, 0, 1, 0, 0, 0, 0, 0, 0, 0, 0];
         ero[27] = last;
-        self.board.report(key, &ero, &self.session, PST_SRV6)?;
+        self.board.report(key, &ero, &self.session, PST_SRV6, &[])?;
         println!("board: report {key} answers 0, version {}", self.board.version());
         Ok(())
     }
@@ -96,7 +96,7 @@ impl Follower {
 }
 
 fn main() -> Result<(), Refusal> {
-    let opened = read_open(&OPEN);
+    let opened = read_open(Setup::FIRST_TWO, &OPEN);
     let mut keeper = Keeper { board: Board::new(vec![0; STORE_OCTETS]), session: Session::agree(&opened, &opened) };
 
     let mut follower = Follower::afresh(&keeper);

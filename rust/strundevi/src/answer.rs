@@ -58,6 +58,7 @@ numbers! {
     NoPath = 22, "key has no path";
     MarkTooOld = 23, "mark too old";
     MarkAhead = 24, "mark ahead";
+    NotUsable = 28, "unusable bit positions, or address list not a multiple of 16 octets";
 }
 
 /// Error-Type and Error-value of a PCErr.
@@ -115,8 +116,8 @@ pub type Result<T> = core::result::Result<T, Refusal>;
 /// Number, place and words; no place where none is named.
 ///
 /// ```
-/// use strundevi::{read_open, Number, Refusal};
-/// assert_eq!(read_open(&[]).unwrap_err().to_string(), "1: OPEN ill formed");
+/// use strundevi::{read_open, Number, Refusal, Setup};
+/// assert_eq!(read_open(Setup::FIRST_TWO, &[]).unwrap_err().to_string(), "1: OPEN ill formed");
 /// assert_eq!(Refusal { number: Number::NaiUnknown, place: 28 }.to_string(), "8 at 28: NT not 0, 2, 4, 6");
 /// ```
 impl fmt::Display for Refusal {

@@ -38,11 +38,11 @@ const REMOVED: usize = 2;
 /// use std::collections::BTreeMap;
 /// use strundevi::{Board, Change, Session, PST_SRV6, STORE_OCTETS};
 ///
-/// let session = Session { agreed: true, n: true, limit: None };
+/// let session = Session { agreed: true, n: true, ..Session::default() };
 /// let route = [7, 16, 0, 28, 40, 24, 0, 2, 0, 0, 0, 1, 32, 1, 13, 184, 0, 0, 0, 1, 0, 0, 0, 0, 0, 0, 0, 1];
 /// let mut board = Board::new(vec![0; STORE_OCTETS]);
-/// board.report(7, &route, &session, PST_SRV6)?;
-/// board.report(8, &route, &session, PST_SRV6)?;
+/// board.report(7, &route, &session, PST_SRV6, &[])?;
+/// board.report(8, &route, &session, PST_SRV6, &[])?;
 /// board.remove(7)?;
 ///
 /// let mut held = BTreeMap::new();
@@ -116,10 +116,11 @@ impl<S: AsRef<[u8]> + AsMut<[u8]>> Board<S> {
         self.record.floor
     }
 
-    /// Reports a path: the number of its segments, and of those that are stray. Refused with 17, 18, the route's numbers, 19, 20, 21.
+    /// Reports a path: the number of its segments, and of those that are stray. Refused with 28, 17, 18, the route's numbers, 19, 20, 21. The addresses
+    /// are the head end's, as in `judge`.
     #[inline]
-    pub fn report(&mut self, key: u32, ero: &[u8], session: &Session, pst: u64) -> Result<Counts> {
-        raw::report(&mut self.record, self.store.as_mut(), key.into(), ero, session.raw(), pst).counts()
+    pub fn report(&mut self, key: u32, ero: &[u8], session: &Session, pst: u64, addresses: &[u8]) -> Result<Counts> {
+        raw::report(&mut self.record, self.store.as_mut(), key.into(), ero, session.raw(), pst, addresses).counts()
     }
 
     /// Removes a path; a mark of the removal stays. Refused with 17, 18, 22, 20.

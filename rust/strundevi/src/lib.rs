@@ -4,20 +4,21 @@
 //! place, and leaves everything as it was. Nothing is allocated, no call recurses, and none needs more than 2,048 octets of stack.
 //!
 //! ```
-//! use strundevi::{judge, read_open, Kind, Segment, Session, Writer, PST_SRV6};
+//! use strundevi::{judge, read_open, Kind, Segment, Session, Setup, Writer, PST_SRV6};
 //!
 //! let open = [
 //!     0x01, 0x10, 0x00, 0x20, 0x20, 0x1E, 0x78, 0x07, 0x00, 0x22, 0x00, 0x12, 0x00, 0x00, 0x00, 0x01, //
 //!     0x03, 0x00, 0x00, 0x00, 0x00, 0x1B, 0x00, 0x06, 0x00, 0x00, 0x00, 0x00, 0x2C, 0x04, 0x00, 0x00,
 //! ];
-//! let session = Session::agree(&read_open(&open), &read_open(&open));
+//! let at = Setup::FIRST_TWO;
+//! let session = Session::agree(&read_open(at, &open), &read_open(at, &open));
 //! assert!(session.agreed && session.limit == Some(4));
 //!
 //! let mut buffer = [0; 64];
 //! let mut writer = Writer::begin(&mut buffer, Kind::Ero)?;
 //! writer.add(&Segment::with_sid([0x20; 16], 1))?;
 //! let route = writer.finish()?;
-//! assert_eq!(judge(route, Kind::Ero, &session, PST_SRV6)?.segments, 1);
+//! assert_eq!(judge(route, Kind::Ero, &session, PST_SRV6, &[])?.segments, 1);
 //! # Ok::<(), strundevi::Refusal>(())
 //! ```
 #![no_std]
@@ -32,7 +33,7 @@ mod writer;
 
 pub use answer::{Counts, Number, PcErr, Refusal, Result};
 pub use board::{Board, Change, Mark, KEY_MOST, PLACES, PLACE_OCTETS, STORE_OCTETS, VERSION_MOST};
-pub use open::{read_open, Open, Session};
+pub use open::{read_open, Open, Session, Setup};
 pub use route::{judge, segment, segments, step, Kind, Nai, Segment, Segments, Strays, FIRST_PLACE, PST_SRV6};
 pub use writer::{Writer, OBJECT_MOST};
 

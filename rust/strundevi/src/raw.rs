@@ -18,12 +18,25 @@ pub struct Verdict {
 
 #[repr(C)]
 #[derive(Clone, Copy)]
+pub struct Setup {
+    pub a: u64,
+    pub r: u64,
+}
+
+#[repr(C)]
+#[derive(Clone, Copy)]
 pub struct Opened {
     pub number: usize,
     pub srv6: u8,
     pub n: u8,
     pub limited: u8,
     pub limit: usize,
+    pub a: u8,
+    pub r: u8,
+    pub hasv: u8,
+    pub v: u8,
+    pub hasm: u8,
+    pub m: u8,
 }
 
 #[repr(C)]
@@ -31,8 +44,14 @@ pub struct Opened {
 pub struct Session {
     pub agreed: u8,
     pub n: u8,
+    pub a: u8,
+    pub r: u8,
+    pub hasv: u8,
+    pub v: u8,
+    pub hasm: u8,
+    pub m: u8,
     pub limited: u8,
-    pub limit: usize,
+    pub limit: u32,
 }
 
 #[repr(C)]
@@ -143,10 +162,19 @@ type Lengths = [u16; PLACES];
 type Order = [u8; PLACES];
 
 extern "C" {
-    fn strundevi_raw_read_open(octets: *const u8, length: usize) -> Opened;
+    fn strundevi_raw_read_open(setup: Setup, octets: *const u8, length: usize) -> Opened;
     fn strundevi_raw_agree(pcc: Opened, pce: Opened) -> Session;
-    fn strundevi_raw_judge(octets: *const u8, length: usize, ero: u8, session: Session, pst: u64) -> Verdict;
-    fn strundevi_raw_segment_at(octets: *const u8, length: usize, ero: u8, session: Session, pst: u64, i: u64) -> Picked;
+    fn strundevi_raw_judge(octets: *const u8, length: usize, ero: u8, session: Session, pst: u64, addresses: *const u8, given: usize) -> Verdict;
+    fn strundevi_raw_segment_at(
+        octets: *const u8,
+        length: usize,
+        ero: u8,
+        session: Session,
+        pst: u64,
+        addresses: *const u8,
+        given: usize,
+        i: u64,
+    ) -> Picked;
     fn strundevi_raw_step(octets: *const u8, length: usize, ero: u8, at: usize) -> Stepped;
     fn strundevi_raw_begin(buffer: *mut u8, size: usize, writer: Writer, ero: u8) -> Written;
     fn strundevi_raw_add(
@@ -174,6 +202,8 @@ extern "C" {
         length: usize,
         session: Session,
         pst: u64,
+        addresses: *const u8,
+        given: usize,
     ) -> Verdict;
     fn strundevi_raw_remove(
         keys: *const Keys,
@@ -224,8 +254,8 @@ extern "C" {
 }
 
 #[inline]
-pub fn read_open(octets: &[u8]) -> Opened {
-    unsafe { strundevi_raw_read_open(octets.as_ptr(), octets.len()) }
+pub fn read_open(setup: Setup, octets: &[u8]) -> Opened {
+    unsafe { strundevi_raw_read_open(setup, octets.as_ptr(), octets.len()) }
 }
 
 #[inline]
@@ -234,13 +264,13 @@ pub fn agree(pcc: Opened, pce: Opened) -> Session {
 }
 
 #[inline]
-pub fn judge(octets: &[u8], ero: u8, session: Session, pst: u64) -> Verdict {
-    unsafe { strundevi_raw_judge(octets.as_ptr(), octets.len(), ero, session, pst) }
+pub fn judge(octets: &[u8], ero: u8, session: Session, pst: u64, addresses: &[u8]) -> Verdict {
+    unsafe { strundevi_raw_judge(octets.as_ptr(), octets.len(), ero, session, pst, addresses.as_ptr(), addresses.len()) }
 }
 
 #[inline]
-pub fn segment(octets: &[u8], ero: u8, session: Session, pst: u64, i: u64) -> Picked {
-    unsafe { strundevi_raw_segment_at(octets.as_ptr(), octets.len(), ero, session, pst, i) }
+pub fn segment(octets: &[u8], ero: u8, session: Session, pst: u64, addresses: &[u8], i: u64) -> Picked {
+    unsafe { strundevi_raw_segment_at(octets.as_ptr(), octets.len(), ero, session, pst, addresses.as_ptr(), addresses.len(), i) }
 }
 
 #[inline]
@@ -271,7 +301,7 @@ pub fn empty(b: &mut Record) {
 }
 
 #[inline]
-pub fn report(b: &mut Record, store: &mut [u8], key: u64, ero: &[u8], session: Session, pst: u64) -> Verdict {
+pub fn report(b: &mut Record, store: &mut [u8], key: u64, ero: &[u8], session: Session, pst: u64, addresses: &[u8]) -> Verdict {
     unsafe {
         strundevi_raw_report(
             &mut b.keys,
@@ -287,6 +317,8 @@ pub fn report(b: &mut Record, store: &mut [u8], key: u64, ero: &[u8], session: S
             ero.len(),
             session,
             pst,
+            addresses.as_ptr(),
+            addresses.len(),
         )
     }
 }

@@ -199,16 +199,19 @@ impl Strays {
     }
 }
 
-/// The number of segments of a good route, and of those that are stray. Refused with 4, 5, 6, 14, 13; 8, 9, 7, 10, 11 segment by segment; 12.
+/// The number of segments of a good route, and of those that are stray. Refused with 28; 4, 5, 6, 14, 13; 8, 9, 7, 10, 11 segment by segment; 12.
+///
+/// The addresses are the head end's, 16 octets each: where A is agreed they say whether an ERO's first segment is one of its adjacencies, and so stays
+/// off the header.
 #[inline]
-pub fn judge(octets: &[u8], kind: Kind, session: &Session, pst: u64) -> Result<Counts> {
-    raw::judge(octets, kind.raw(), session.raw(), pst).counts()
+pub fn judge(octets: &[u8], kind: Kind, session: &Session, pst: u64, addresses: &[u8]) -> Result<Counts> {
+    raw::judge(octets, kind.raw(), session.raw(), pst, addresses).counts()
 }
 
 /// Segment `i`, from 0, of a good route, and what is set in its octets and ought to be 0. Refused as `judge` is, then with 15.
 #[inline]
-pub fn segment(octets: &[u8], kind: Kind, session: &Session, pst: u64, i: u64) -> Result<(Segment, Strays)> {
-    let r = raw::segment(octets, kind.raw(), session.raw(), pst, i);
+pub fn segment(octets: &[u8], kind: Kind, session: &Session, pst: u64, addresses: &[u8], i: u64) -> Result<(Segment, Strays)> {
+    let r = raw::segment(octets, kind.raw(), session.raw(), pst, addresses, i);
     r.verdict.counts().map(|_| (Segment(r.segment), Strays { flags: r.flags, structure: r.sflags, reserved: r.reserved != 0 }))
 }
 
@@ -217,10 +220,10 @@ pub fn segment(octets: &[u8], kind: Kind, session: &Session, pst: u64, i: u64) -
 /// ```
 /// use strundevi::{segments, Kind, Session, PST_SRV6};
 ///
-/// let session = Session { agreed: true, n: true, limit: None };
+/// let session = Session { agreed: true, n: true, ..Session::default() };
 /// let route = [7, 16, 0, 28, 40, 24, 0, 2, 0, 0, 0, 1, 32, 1, 13, 184, 0, 0, 0, 1, 0, 0, 0, 0, 0, 0, 0, 1];
 /// let mut behaviours = Vec::new();
-/// for segment in segments(&route, Kind::Ero, &session, PST_SRV6)? {
+/// for segment in segments(&route, Kind::Ero, &session, PST_SRV6, &[])? {
 ///     behaviours.push(segment.behaviour());
 /// }
 /// assert_eq!(behaviours, [1]);
@@ -236,8 +239,8 @@ pub struct Segments<'a> {
 
 /// The segments of a good route. Refused as `judge` is.
 #[inline]
-pub fn segments<'a>(octets: &'a [u8], kind: Kind, session: &Session, pst: u64) -> Result<Segments<'a>> {
-    let left = judge(octets, kind, session, pst)?.segments;
+pub fn segments<'a>(octets: &'a [u8], kind: Kind, session: &Session, pst: u64, addresses: &[u8]) -> Result<Segments<'a>> {
+    let left = judge(octets, kind, session, pst, addresses)?.segments;
     Ok(Segments { octets, kind, at: FIRST_PLACE, left })
 }
 

@@ -1,8 +1,13 @@
 use mathlib.Core.Path.{ap, _∙_}
+use Rattle.positions.specs.declared.Setup.{Setup}
+use Rattle.open.specs.Open.{openOf}
 use Rattle.border_records.specs.Records.{openedOut}
 use borrow.Author.Needs.{needs}
 use Rattle.border_open.proofs.read_open.Statement.{statement}
 use Rattle.border_open.proofs.read_open.Tie as tie
+
+setup-in-requires : tie.Need-setup-in-requires
+setup-in-requires c κs = search needs
 
 read-open-requires : tie.Need-read-open-requires
 read-open-requires c κs = search needs
@@ -11,7 +16,9 @@ opened-out-requires : tie.Need-opened-out-requires
 opened-out-requires c κs = search needs
 
 returns : tie.Need-returns
-returns c = c .opened-out .ensures ∙ ap openedOut (c .before .read-open .ensures)
+returns c =
+    let s = c .before .before .before .before .args .octets .now in
+    c .opened-out .ensures ∙ ap openedOut (c .before .read-open .ensures ∙ ap (λ (p : Setup). openOf p s) (c .before .before .setup-in .ensures))
 
 pub read-open-spec : {M : Type 1} → statement M
-read-open-spec = tie.close (tie.spec read-open-requires opened-out-requires returns)
+read-open-spec = tie.close (tie.spec setup-in-requires read-open-requires opened-out-requires returns)

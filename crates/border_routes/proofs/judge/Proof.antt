@@ -19,16 +19,16 @@ returns : tie.Need-returns
 returns c =
     let judged = c .before .before .before in
     let came = judged .before in
-    let args = came .before .before .before .args in
-    judge-told (args .octets .now) (args .ero) (args .session) _ _ (came .before .yes .ensures) (came .session-in .ensures) (args .pst) _ _
+    let args = came .before .before .before .before .args in
+    judge-told (args .octets .now) (args .addresses .now) (args .ero) (args .session) _ _ (came .before .yes .ensures) (came .session-in .ensures) (args .pst) _ _
     (judged .judge .ensures) (c .verdict-out .ensures)
 
 returns-2 : tie.Need-returns-2
 returns-2 c =
     let judged = c .before .before in
     let came = judged .before in
-    let args = came .before .before .before .args in
-    judge-counted (args .octets .now) (args .ero) (args .session) _ _ (came .before .yes .ensures) (came .session-in .ensures) (args .pst) _
+    let args = came .before .before .before .before .args in
+    judge-counted (args .octets .now) (args .addresses .now) (args .ero) (args .session) _ _ (came .before .yes .ensures) (came .session-in .ensures) (args .pst) _
     (judged .judge .ensures) (c .if1 .left)
 
 pub judge-spec : {M : Type 1} → statement M

@@ -18,8 +18,8 @@ picked-out-requires c κs = search needs
 returns : tie.Need-returns
 returns c =
     let came = c .before .before in
-    let args = came .before .before .before .args in
-    segment-told (args .octets .now) (args .ero) (args .session) _ _ (came .before .yes .ensures) (came .session-in .ensures) (args .pst) (args .i) _ _
+    let args = came .before .before .before .before .args in
+    segment-told (args .octets .now) (args .addresses .now) (args .ero) (args .session) _ _ (came .before .yes .ensures) (came .session-in .ensures) (args .pst) (args .i) _ _
     (c .before .segment .ensures) (c .picked-out .ensures)
 
 pub segment-at-spec : {M : Type 1} → statement M

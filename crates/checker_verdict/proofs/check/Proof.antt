@@ -1,20 +1,17 @@
--- Three returns, one law each (`pcc-refused`, `pce-refused`, `ero-judged`). What `first` and `rest` ensure is carried along the objects by `ap`.
-use Rattle.checker_verdict.proofs.Laws.{pcc-refused, pce-refused, ero-judged}
+-- Three returns, one law each (`pcc-refused`, `pce-refused`, `ero-judged`). What `first` and `rest` ensure is carried along the objects by `ap`, and an
+-- OPEN that was read by `opened-told`.
+use Rattle.checker_verdict.proofs.Laws.{opened-told, pcc-refused, pce-refused, ero-judged}
 use Rattle.cut_objects.specs.Cutting.{firstObject, restObjects}
-use Rattle.objects.specs.Objects.{srv6Setup}
-use Rattle.route.specs.Routes.{judgeOf}
-use Rattle.session.specs.declared.Session.{Session}
-use Rattle.open.specs.Open.{openOf}
-use mathlib.Core.List.{List}
-use mathlib.Core.Bool.{true}
-use mathlib.Core.Path.{_≡_, refl, sym, _∙_, ap}
-use Prim.Native.Nat.{ℕ}
+use mathlib.Core.Path.{_∙_, ap}
 use borrow.Author.Needs.{needs}
 use Rattle.checker_verdict.proofs.check.Statement.{statement}
 use Rattle.checker_verdict.proofs.check.Tie as tie
 
 rest-requires : tie.Need-rest-requires
 rest-requires c κs = search needs
+
+first-two-requires : tie.Need-first-two-requires
+first-two-requires c κs = search needs
 
 first-requires : tie.Need-first-requires
 first-requires c κs = search needs
@@ -27,11 +24,10 @@ refused-requires c κs = search needs
 
 returns : tie.Need-returns
 returns c =
+    let before3 = c .before .before .before in
     c .refused .ensures
-    ∙ pcc-refused (c .before .before .before .before .before .before .before .args .s .now)
-    (c .before .before .before .read-open .result)
-    (c .before .before .before .read-open .ensures ∙ ap openOf (c .before .before .before .before .first .ensures))
-    (c .before .if1 .taken)
+    ∙ pcc-refused (before3 .before .before .before .before .before .args .s .now) (before3 .read-open .result)
+    (opened-told (before3 .before .before .first-two .ensures) (before3 .before .first .ensures) (before3 .read-open .ensures)) (c .before .if1 .taken)
 
 first-requires-2 : tie.Need-first-requires-2
 first-requires-2 c κs = search needs
@@ -44,15 +40,13 @@ refused-requires-2 c κs = search needs
 
 returns-2 : tie.Need-returns-2
 returns-2 c =
-    let before7 = c .before .before .before .before .before .before .before in
+    let before3 = c .before .before .before in
+    let before7 = before3 .before .before .before .before in
+    let two = before7 .before .before .first-two .ensures in
     c .refused2 .ensures
-    ∙ pce-refused (before7 .before .before .before .before .args .s .now) (before7 .read-open .result)
-    (c .before .before .before .read-open2 .result)
-    (before7 .read-open .ensures ∙ ap openOf (before7 .before .first .ensures))
-    (c .before .before .before .before .before .if1 .left)
-    (c .before .before .before .read-open2 .ensures
-    ∙ ap openOf
-    (c .before .before .before .before .first2 .ensures ∙ ap firstObject (before7 .before .before .rest .ensures)))
+    ∙ pce-refused (before7 .before .before .before .before .before .args .s .now) (before7 .read-open .result) (before3 .read-open2 .result)
+    (opened-told two (before7 .before .first .ensures) (before7 .read-open .ensures)) (before3 .before .before .if1 .left)
+    (opened-told two (before3 .before .first2 .ensures ∙ ap firstObject (before7 .before .before .before .rest .ensures)) (before3 .read-open2 .ensures))
     (c .before .if2 .taken)
 
 agree-requires : tie.Need-agree-requires
@@ -64,33 +58,32 @@ rest-requires-2 c κs = search needs
 first-requires-3 : tie.Need-first-requires-3
 first-requires-3 c κs = search needs
 
+slice-aggregate-judge : tie.Need-slice-aggregate-judge
+slice-aggregate-judge c = search needs
+
 judge-requires : tie.Need-judge-requires
 judge-requires c κs = search needs
 
 returns-3 : tie.Need-returns-3
 returns-3 c =
-    let before6 = c .before .before .before .before .before .before in
-    let before10 = before6 .before .before .before .before in
-    c .judge .ensures
-    ∙ ap (λ (e : List ℕ). judgeOf e true (c .before .before .before .agree .result) srv6Setup)
-    (c .before .first3 .ensures
-    ∙ ap firstObject (c .before .before .rest2 .ensures ∙ ap restObjects (before10 .before .before .rest .ensures)))
-    ∙ ap
-    (λ (n : Session).
-    judgeOf (firstObject (restObjects (restObjects (before10 .before .before .before .before .args .s .now)))) true n srv6Setup)
-    (c .before .before .before .agree .ensures)
-    ∙ ero-judged (before10 .before .before .before .before .args .s .now) (before10 .read-open .result)
-    (before6 .read-open2 .result) (before10 .read-open .ensures ∙ ap openOf (before10 .before .first .ensures))
-    (before6 .before .before .if1 .left)
-    (before6 .read-open2 .ensures
-    ∙ ap openOf (before6 .before .first2 .ensures ∙ ap firstObject (before10 .before .before .rest .ensures)))
-    (c .before .before .before .before .if2 .left)
+    let before4 = c .before .before .before .before in
+    let before7 = before4 .before .before .before in
+    let before11 = before7 .before .before .before .before in
+    let two = before11 .before .before .first-two .ensures in
+    let behind = before11 .before .before .before .rest .ensures in
+    ero-judged (before11 .before .before .before .before .before .args .s .now) (before11 .read-open .result) (before7 .read-open2 .result) _ _
+    (opened-told two (before11 .before .first .ensures) (before11 .read-open .ensures)) (before7 .before .before .if1 .left)
+    (opened-told two (before7 .before .first2 .ensures ∙ ap firstObject behind) (before7 .read-open2 .ensures)) (before4 .before .if2 .left)
+    (before4 .agree .ensures)
+    (c .before .before .first3 .ensures ∙ ap firstObject (c .before .before .before .rest2 .ensures ∙ ap restObjects behind))
+    (c .judge .ensures)
 
 pub check-spec : {M : Type 1} → statement M
 check-spec =
     tie.close
     (tie.spec
     rest-requires
+    first-two-requires
     first-requires
     read-open-requires
     refused-requires
@@ -102,5 +95,6 @@ check-spec =
     agree-requires
     rest-requires-2
     first-requires-3
+    slice-aggregate-judge
     judge-requires
     returns-3)

@@ -25,28 +25,29 @@ field-requires-2 c κs = search needs
 limit-field-requires : tie.Need-limit-field-requires
 limit-field-requires c κs = search needs
 
-slice-aggregate-push-2 : tie.Need-slice-aggregate-push-2
-slice-aggregate-push-2 c = search needs
-
-push-requires-2 : tie.Need-push-requires-2
-push-requires-2 c κs = search needs
+flags-end-requires : tie.Need-flags-end-requires
+flags-end-requires c κs = search needs
 
 same-length : tie.Need-same-length
 same-length c = search needs
 
 returns : tie.Need-returns
 returns c =
-    let before11 = c .before .before .before .before .before .before .before .before .before .before .before in
-    let before16 = before11 .before .before .before .before .before in (
-      then (before16 .before .before .before .before .before .push .ensures)
-          (then (rw (before16 .before .bit .ensures) at (before16 .field .ensures .0))
-          (then (rw (before11 .before .bit2 .ensures) at (before11 .field2 .ensures .0))
-          (then (c .before .before .before .before .before .before .before .limit-field .ensures .0)
-          (c .before .before .push2 .ensures)))),
+    let before6 = c .before .before .before .before .before .before in
+    let before10 = before6 .before .before .before .before in
+    let before15 = before10 .before .before .before .before .before in
+    let before20 = before15 .before .before .before .before .before in (
+      then (before20 .push .ensures)
+          (then (rw (before15 .before .bit .ensures) at (before15 .field .ensures .0))
+          (then (rw (before10 .before .bit2 .ensures) at (before10 .field2 .ensures .0))
+          (then (before6 .limit-field .ensures .0) (c .before .before .flags-end .ensures .0)))),
       omega (
         arith,
-        before16 .before .before .before .before .before .push .ensures .ends,
-        c .before .before .push2 .ensures .ends,
+        before20 .push .ensures .ends,
+        before15 .field .ensures .1,
+        before10 .field2 .ensures .1,
+        before6 .limit-field .ensures .1,
+        c .before .before .flags-end .ensures .1,
       ),
     )
 
@@ -61,7 +62,6 @@ carried-spec =
     bit-requires-2
     field-requires-2
     limit-field-requires
-    slice-aggregate-push-2
-    push-requires-2
+    flags-end-requires
     same-length
     returns)

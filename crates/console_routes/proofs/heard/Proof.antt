@@ -23,7 +23,7 @@ same-length c = search needs
 
 returns : tie.Need-returns
 unfolding openIn
-returns c = c .read-open .ensures ∙ ap openOf (spelled _ _ (c .before .before .before .before .octets-at .ensures .0))
+returns c = c .read-open .ensures ∙ ap (openOf (c .before .before .before .before .before .before .before .before .args .p)) (spelled _ _ (c .before .before .before .before .octets-at .ensures .0))
 
 pub heard-spec : {M : Type 1} → statement M
 heard-spec =

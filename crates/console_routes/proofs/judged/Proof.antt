@@ -1,15 +1,15 @@
 use Rattle.console_routes.specs.Routing.{routeLine}
+use Rattle.console_routes.proofs.Laws.{judged-told}
 use Rattle.console_state.proofs.Laws.{spelled}
-use Rattle.route.specs.Routes.{judgeOf}
-use Prim.Native.Nat.{ℕ}
-use mathlib.Core.List.{List}
-use mathlib.Core.Path.{_∙_, ap}
 use borrow.Author.Needs.{needs}
 use Rattle.console_routes.proofs.judged.Statement.{statement}
 use Rattle.console_routes.proofs.judged.Tie as tie
 
 octets-at-requires : tie.Need-octets-at-requires
 octets-at-requires c κs = search needs
+
+listed-requires : tie.Need-listed-requires
+listed-requires c κs = search needs
 
 slice-reshare-prefix-judge : tie.Need-slice-reshare-prefix-judge
 slice-reshare-prefix-judge c = search needs
@@ -32,10 +32,10 @@ same-length-2 c = search needs
 returns : tie.Need-returns
 unfolding routeLine
 returns c =
-    let a = c .before .before .before .before .before .before .before .before .before .before .before .before .before .args in
-    let e = c .before .before .before .before .judge .ensures
-    ∙ ap (λ (s : List ℕ). judgeOf s (a .ero) (a .session) (a .c .one))
-    (spelled _ _ (c .before .before .before .before .before .before .before .before .octets-at .ensures .0)) in
+    let before6 = c .before .before .before .before .before .before in
+    let a = before6 .before .before .before .before .before .before .before .before .before .args in
+    let e = judged-told (a .ero) (a .session) (a .c .one) (spelled _ _ (before6 .before .before .before .octets-at .ensures .0)) (before6 .listed .ensures)
+    (c .before .before .before .before .judge .ensures) in
     rw (← e) (c .before .before .counted .ensures)
 
 pub judged-spec : {M : Type 1} → statement M
@@ -43,6 +43,7 @@ judged-spec =
     tie.close
     (tie.spec
     octets-at-requires
+    listed-requires
     slice-reshare-prefix-judge
     slice-aggregate-judge
     judge-requires

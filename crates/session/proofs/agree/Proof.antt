@@ -18,13 +18,31 @@ carries-srv6-requires-2 c κs = search needs
 both-requires : tie.Need-both-requires
 both-requires c κs = search needs
 
+both-requires-2 : tie.Need-both-requires-2
+both-requires-2 c κs = search needs
+
+both-requires-3 : tie.Need-both-requires-3
+both-requires-3 c κs = search needs
+
 returns : tie.Need-returns
-returns c = sym (agreed (c .before .before .before .before .args .pcc) (c .before .before .before .before .args .pce) (sym (asked (c .before)) ∙ c .if1 .taken))
+returns c =
+    let before3 = c .before .before .before in
+    let args = before3 .before .before .before .args in
+    rw (c .both3 .ensures, c .before .both2 .ensures, agreed (args .pcc) (args .pce) (sym (asked before3) ∙ c .before .before .if1 .taken))
 
 returns-2 : tie.Need-returns-2
-returns-2 c = sym (not-agreed (c .before .before .before .before .args .pcc) (c .before .before .before .before .args .pce) (sym (asked (c .before)) ∙ c .if1 .left))
+returns-2 c =
+    let args = c .before .before .before .before .args in
+    sym (not-agreed (args .pcc) (args .pce) (sym (asked (c .before)) ∙ c .if1 .left))
 
 pub agree-spec : {M : Type 1} → statement M
 agree-spec =
     tie.close
-    (tie.spec carries-srv6-requires carries-srv6-requires-2 both-requires returns returns-2)
+    (tie.spec
+    carries-srv6-requires
+    carries-srv6-requires-2
+    both-requires
+    both-requires-2
+    both-requires-3
+    returns
+    returns-2)

@@ -1,7 +1,8 @@
 //! The checking program: a PCC OPEN, a PCE OPEN and an ERO from the first 65,536 octets of standard input, each cut by its own length field
-//! (too little left, or a length under 4: all the rest), PST 3. It prints the first refusal's or the ERO's number, place, count and stray ones.
+//! (too little left, or a length under 4: all the rest), PST 3, A and R at 0 and 1, no addresses. It prints the first refusal's or the ERO's number, place,
+//! count and stray ones.
 
-use reference::{judge, read_open, Counts, Kind, Refusal, Session};
+use reference::{judge, read_open, Counts, Kind, Refusal, Session, Setup};
 use std::io::{self, Read};
 
 const MOST: u64 = 65_536;
@@ -21,11 +22,12 @@ fn check(octets: &[u8]) -> Result<Counts, Refusal> {
     let (pcc, rest) = cut(octets);
     let (pce, rest) = cut(rest);
     let (ero, _) = cut(rest);
-    let pcc = read_open(pcc);
-    let pce = read_open(pce);
+    let at = Setup { a: 0, r: 1 };
+    let pcc = read_open(at, pcc);
+    let pce = read_open(at, pce);
     pcc?;
     pce?;
-    judge(ero, Kind::Ero, &Session::agree(&pcc, &pce), 3)
+    judge(ero, Kind::Ero, &Session::agree(&pcc, &pce), 3, &[])
 }
 
 fn main() -> io::Result<()> {

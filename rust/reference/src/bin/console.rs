@@ -1,7 +1,7 @@
 //! The console over the reference: one command to a line of standard input, one line of answer for each.
 
 use reference::{
-    judge, read_open, segment, Answer, Board, Change, Counts, Kind, Open, Refusal, Segment, Session, Strays, Writer, PLACE_OCTETS, STORE_OCTETS,
+    judge, read_open, segment, Answer, Board, Change, Counts, Kind, Open, Refusal, Segment, Session, Setup, Strays, Writer, PLACE_OCTETS, STORE_OCTETS,
 };
 use std::fmt::Write as _;
 use std::io::{self, Read, Write};
@@ -17,6 +17,8 @@ struct Console {
     store: Vec<u8>,
     writer: Writer,
     buffer: Vec<u8>,
+    positions: Setup,
+    addresses: Vec<u8>,
 }
 
 fn number(word: &str) -> Option<u64> {
@@ -90,8 +92,9 @@ fn show_counts(counts: &Counts) -> String {
 }
 
 fn show_open(open: &Open) -> String {
-    let limit = open.limit.map_or("-".to_string(), |n| n.to_string());
-    format!(" {} {} {}", open.srv6 as u8, open.n as u8, limit)
+    let or_none = |n: Option<usize>| n.map_or("-".to_string(), |n| n.to_string());
+    let (v, m) = (or_none(open.v.map(usize::from)), or_none(open.m.map(usize::from)));
+    format!(" {} {} {} {} {} {v} {m}", open.srv6 as u8, open.n as u8, or_none(open.limit), open.a as u8, open.r as u8)
 }
 
 fn kind(word: &str) -> Option<Kind> {
@@ -112,6 +115,8 @@ impl Console {
             store: vec![0; STORE_OCTETS],
             writer: Writer { kind: Kind::Ero, at: 0 },
             buffer: Vec::new(),
+            positions: Setup { a: 0, r: 1 },
+            addresses: Vec::new(),
         }
     }
 
@@ -123,19 +128,27 @@ impl Console {
     fn answer(&mut self, line: &str) -> Option<Answer<String>> {
         let words: Vec<&str> = line.split(' ').collect();
         Some(match words[..] {
+            ["positions", a, r] => {
+                self.positions = Setup { a: number(a)?, r: number(r)? };
+                Ok(String::new())
+            }
+            ["addresses", given] => {
+                self.addresses = octets(given)?;
+                Ok(String::new())
+            }
             ["pcc", given] => {
-                self.pcc = read_open(&octets(given)?);
+                self.pcc = read_open(self.positions, &octets(given)?);
                 self.pcc.map(|o| show_open(&o))
             }
             ["pce", given] => {
-                self.pce = read_open(&octets(given)?);
+                self.pce = read_open(self.positions, &octets(given)?);
                 self.pce.map(|o| show_open(&o))
             }
             [name @ ("ero" | "rro"), pst, given] => {
-                judge(&octets(given)?, kind(name)?, &self.session(), number(pst)?).map(|counts| show_counts(&counts))
+                judge(&octets(given)?, kind(name)?, &self.session(), number(pst)?, &self.addresses).map(|counts| show_counts(&counts))
             }
             [name @ ("ero-segment" | "rro-segment"), pst, i, given] => {
-                segment(&octets(given)?, kind(&name[..3])?, &self.session(), number(pst)?, number(i)?)
+                segment(&octets(given)?, kind(&name[..3])?, &self.session(), number(pst)?, &self.addresses, number(i)?)
                     .map(|(s, x)| show_segment(&s) + &show_strays(&x))
             }
             ["begin", name, size] => {
@@ -179,7 +192,7 @@ impl Console {
             ["report", key, pst, given] => {
                 let (key, pst, given) = (number(key)?, number(pst)?, octets(given)?);
                 let session = self.session();
-                self.board.report(&mut self.store, key, &given, &session, pst).map(|counts| show_counts(&counts))
+                self.board.report(&mut self.store, key, &given, &session, pst, &self.addresses).map(|counts| show_counts(&counts))
             }
             ["remove", key] => self.board.remove(&self.store, number(key)?).map(|()| String::new()),
             ["compact", c] => self.board.compact(&self.store, number(c)?).map(|()| String::new()),

@@ -8,11 +8,33 @@ yes-requires c κs = search needs
 yes-requires-2 : tie.Need-yes-requires-2
 yes-requires-2 c κs = search needs
 
-limit-in-requires : tie.Need-limit-in-requires
-limit-in-requires c κs = search needs
+short-in-requires : tie.Need-short-in-requires
+short-in-requires c κs = search needs
+
+yes-requires-3 : tie.Need-yes-requires-3
+yes-requires-3 c κs = search needs
+
+yes-requires-4 : tie.Need-yes-requires-4
+yes-requires-4 c κs = search needs
+
+depth-in-requires : tie.Need-depth-in-requires
+depth-in-requires c κs = search needs
+
+depth-in-requires-2 : tie.Need-depth-in-requires-2
+depth-in-requires-2 c κs = search needs
 
 returns : tie.Need-returns
 returns c = cc
 
 pub session-in-spec : {M : Type 1} → statement M
-session-in-spec = tie.close (tie.spec yes-requires yes-requires-2 limit-in-requires returns)
+session-in-spec =
+    tie.close
+    (tie.spec
+    yes-requires
+    yes-requires-2
+    short-in-requires
+    yes-requires-3
+    yes-requires-4
+    depth-in-requires
+    depth-in-requires-2
+    returns)

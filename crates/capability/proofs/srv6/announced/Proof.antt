@@ -1,11 +1,11 @@
 -- Each return is one row of `announcedOf`: the tests that led there are rewritten into the definition, and it computes to what was returned.
--- What `gather` says of the lent rest is said of the pairs by `rest-lent`.
-use Rattle.capability.proofs.Laws.{and-leb}
-use Rattle.capability.specs.Srv6.{announcedOf, sizedOf, nOf, xOf, wrongOf, hEncapsOf, segmentsLeftOf, limitOf}
+-- What `gather` says of the lent rest is said of the pairs by `rest-lent`; A and R are told by `a-told` and `r-told`.
+use Rattle.capability.proofs.Laws.{and-leb, announced-pairs}
+use Rattle.capability.specs.Srv6.{announcedOf, sizedOf, nOf, xOf, aOf, rOf, wrongOf, hEncapsOf, segmentsLeftOf, limitOf}
 use Rattle.octets.proofs.Laws.{rest-lent}
 use borrow.Author.Tests.{eq-eqb, ne-eqb, not-true, not-false}
 use lib.ListN.{length}
-use mathlib.Core.Path.{sym, _∙_}
+use mathlib.Core.Path.{_≡_, sym, _∙_}
 use native.Mathlib.Omega.{arith}
 use lib.Dec.{eqb}
 use Prim.Native.Nat.{_≤_, _%_}
@@ -16,6 +16,17 @@ use Rattle.capability.proofs.srv6.announced.Tie as tie
 -- With a size that is not refused, the pairs start within the value.
 long : (c : tie.Else1) → 4 ≤ length (c .before .before .before .args .w .now)
 long c = and-leb (eqb (length (c .before .before .before .args .w .now) % 2) 0) 4 (length (c .before .before .before .args .w .now)) (sym (c .before .both .ensures) ∙ not-false _ (c .if1 .left))
+
+-- where the flags have been read
+a-told : (c : tie.After-flag2)
+    → (let args = c .before .before .before .before .before .before .before .args in c .before .flag .result ≡ aOf (args .p) (args .w .now))
+unfolding aOf
+a-told c = c .before .flag .ensures ∙ rw (c .before .before .read16 .ensures .0)
+
+r-told : (c : tie.After-flag2)
+    → (let args = c .before .before .before .before .before .before .before .args in c .flag2 .result ≡ rOf (args .p) (args .w .now))
+unfolding rOf
+r-told c = c .flag2 .ensures ∙ rw (c .before .before .read16 .ensures .0)
 
 both-requires : tie.Need-both-requires
 both-requires c κs = search needs
@@ -30,19 +41,36 @@ returns c = rw (c .refused-open .ensures, sym (c .before .before .both .ensures)
 octet-requires : tie.Need-octet-requires
 octet-requires c κs = search needs
 
+read16-requires : tie.Need-read16-requires
+read16-requires c κs = omega (arith, long (c .before))
+
+flag-requires : tie.Need-flag-requires
+flag-requires c κs = search needs
+
+flag-requires-2 : tie.Need-flag-requires-2
+flag-requires-2 c κs = search needs
+
 carried-requires : tie.Need-carried-requires
 carried-requires c κs = search needs
 
 returns-2 : tie.Need-returns-2
 unfolding announcedOf sizedOf wrongOf xOf nOf limitOf hEncapsOf segmentsLeftOf
-returns-2 c = rw (c .carried .ensures, sym (c .before .before .before .before .both .ensures) ∙ not-false _ (c .before .before .before .if1 .left))
-    (simp (← c .before .before .octet .ensures .0, eq-eqb _ _ (c .before .if2 .taken)))
+returns-2 c =
+    let read = c .before .before in
+    let before5 = read .before .before .before in
+    rw (
+      c .carried .ensures,
+      a-told read,
+      r-told read,
+      sym (before5 .before .before .both .ensures) ∙ not-false _ (before5 .before .if1 .left),
+    )
+    (simp (← before5 .octet .ensures .0, eq-eqb _ _ (c .before .if2 .taken)))
 
 sub-gather : tie.Need-sub-gather
-sub-gather c = long (c .before .before)
+sub-gather c = long (c .before .before .before .before .before)
 
 part-gather-start : tie.Need-part-gather-start
-part-gather-start c = omega (arith, long (c .before .before))
+part-gather-start c = omega (arith, long (c .before .before .before .before .before))
 
 part-gather-end : tie.Need-part-gather-end
 part-gather-end c = search needs
@@ -57,12 +85,13 @@ returns-3 : tie.Need-returns-3
 unfolding announcedOf sizedOf wrongOf xOf
 returns-3 c =
     let before4 = c .before .before .before .before in
+    let before8 = before4 .before .before .before .before in
     rw (
       c .refused-open2 .ensures,
-      sym (before4 .before .before .before .both .ensures) ∙ not-false _ (before4 .before .before .if1 .left),
+      sym (before8 .before .before .both .ensures) ∙ not-false _ (before8 .before .if1 .left),
     )
     (simp (
-      ← before4 .before .octet .ensures .0,
+      ← before8 .octet .ensures .0,
       ne-eqb _ _ (before4 .if2 .left),
       rw rest-lent at (sym (c .before .before .gather .ensures .1 .0) ∙ c .before .if3 .taken),
     ))
@@ -74,22 +103,17 @@ carried-requires-2 : tie.Need-carried-requires-2
 carried-requires-2 c κs = search needs
 
 returns-4 : tie.Need-returns-4
-unfolding announcedOf sizedOf wrongOf xOf nOf limitOf hEncapsOf segmentsLeftOf
+unfolding sizedOf
 returns-4 c =
     let before5 = c .before .before .before .before .before in
+    let read = before5 .before in
+    let before9 = read .before .before .before in
+    let args = before9 .before .before .before .before .args in
     let gathered = c .before .before .before .gather .ensures in
-    rw (
-      c .carried2 .ensures,
-      sym (before5 .before .before .before .both .ensures) ∙ not-false _ (before5 .before .before .if1 .left),
-    )
-    (simp (
-      ← before5 .before .octet .ensures .0,
-      ne-eqb _ _ (before5 .if2 .left),
-      rw rest-lent at (sym (gathered .1 .0) ∙ c .before .before .if3 .left),
-      c .before .limit .ensures,
-      rw rest-lent at (gathered .1 .1 (c .before .before .if3 .left) .0),
-      rw rest-lent at (gathered .1 .1 (c .before .before .if3 .left) .1),
-    ))
+    announced-pairs (args .p) (args .w .now) _ _ _ _ _ (before9 .octet .ensures .0)
+    (sym (before9 .before .before .both .ensures) ∙ not-false _ (before9 .before .if1 .left)) (ne-eqb _ _ (before5 .if2 .left))
+    (rw rest-lent at (sym (gathered .1 .0) ∙ c .before .before .if3 .left)) (a-told read) (r-told read) (rw rest-lent at (gathered .0))
+    (rw rest-lent at (gathered .1 .1 (c .before .before .if3 .left))) (c .before .limit .ensures) (c .carried2 .ensures)
 
 pub announced-spec : {M : Type 1} → statement M
 announced-spec =
@@ -99,6 +123,9 @@ announced-spec =
     refused-open-requires
     returns
     octet-requires
+    read16-requires
+    flag-requires
+    flag-requires-2
     carried-requires
     returns-2
     sub-gather

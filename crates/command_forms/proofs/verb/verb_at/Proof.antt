@@ -58,7 +58,13 @@ returns-18 : tie.Need-returns-18
 returns-18 c = search needs
 
 returns-19 : tie.Need-returns-19
-returns-19 c = no-place (c .before .args .place) (c .match .rest)
+returns-19 c = search needs
+
+returns-20 : tie.Need-returns-20
+returns-20 c = search needs
+
+returns-21 : tie.Need-returns-21
+returns-21 c = no-place (c .before .args .place) (c .match .rest)
 
 pub verb-at-spec : {M : Type 1} → statement M
 verb-at-spec =
@@ -82,4 +88,6 @@ verb-at-spec =
     returns-16
     returns-17
     returns-18
-    returns-19)
+    returns-19
+    returns-20
+    returns-21)

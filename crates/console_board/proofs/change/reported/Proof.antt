@@ -1,14 +1,16 @@
+use native.Mathlib.Omega.{arith}
 use Rattle.console_state.proofs.Laws.{spelled}
 use Rattle.board_by_value.specs.ByValue.{reportOn, reportStoreOn}
-use Prim.Native.Nat.{ℕ}
-use mathlib.Core.List.{List}
-use mathlib.Core.Path.{_∙_, ap}
+use mathlib.Core.Path.{_∙_}
 use borrow.Author.Needs.{needs}
 use Rattle.console_board.proofs.change.reported.Statement.{statement}
 use Rattle.console_board.proofs.change.reported.Tie as tie
 
 octets-at-requires : tie.Need-octets-at-requires
 octets-at-requires c κs = search needs
+
+listed-requires : tie.Need-listed-requires
+listed-requires c κs = search needs
 
 slice-reshare-prefix-report : tie.Need-slice-reshare-prefix-report
 slice-reshare-prefix-report c = search needs
@@ -20,7 +22,9 @@ report-requires : tie.Need-report-requires
 report-requires c κs = search needs
 
 counted-requires : tie.Need-counted-requires
-counted-requires c κs = search needs
+counted-requires c κs =
+    let before18 = c .before .before .before .before .before .before .before .before .before .before .before .before .before .before .before .before .before .before in
+    omega (arith, before18 .pre .1)
 
 same-length : tie.Need-same-length
 same-length c = search needs
@@ -34,14 +38,14 @@ same-length-3 c = search needs
 returns : tie.Need-returns
 returns c =
     let before8 = c .before .before .before .before .before .before .before .before in
-    let a = before8 .before .before .before .before .before .before .before .before .before .before .before .args in
-    let s = spelled _ _ (before8 .before .before .before .before .before .octets-at .ensures .0) in
-    let e = before8 .report .ensures .0
-    ∙ ap (λ (x : List ℕ). reportOn (a .b) (a .store .now) (a .c .one) x (a .session) (a .c .two)) s in (
+    let before11 = before8 .before .before .before in
+    let a = before11 .before .before .before .before .before .before .before .before .before .before .args in
+    let s = spelled _ _ (before11 .before .before .before .octets-at .ensures .0) in
+    let l = before11 .listed .ensures in
+    let e = before8 .report .ensures .0 ∙ (λ i. reportOn (a .b) (a .store .now) (a .c .one) (s i) (a .session) (a .c .two) (l i)) in (
       rw (← e),
       (
-        before8 .report .ensures .1
-            ∙ ap (λ (x : List ℕ). reportStoreOn (a .b) (a .store .now) (a .c .one) x (a .session) (a .c .two)) s,
+        before8 .report .ensures .1 ∙ (λ i. reportStoreOn (a .b) (a .store .now) (a .c .one) (s i) (a .session) (a .c .two) (l i)),
         rw (← e) (c .before .before .counted .ensures),
       ),
     )
@@ -51,6 +55,7 @@ reported-spec =
     tie.close
     (tie.spec
     octets-at-requires
+    listed-requires
     slice-reshare-prefix-report
     slice-aggregate-report
     report-requires

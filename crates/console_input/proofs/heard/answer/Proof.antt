@@ -24,6 +24,7 @@ answered-requires c κs =
       buffer = p .rooms .buffer;
       stored = p .rooms .stored;
       lent = p .rooms .lent;
+      listed = omega (arith, length-take-le (before12 .args .h .kept) (before12 .args .line .now) (p .within), p .within, p .rooms .listed);
     }
 
 same-length : tie.Need-same-length

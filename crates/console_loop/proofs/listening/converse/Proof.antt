@@ -33,6 +33,7 @@ go-on-requires c κs = (
       buffer = simp length-replicate (omega arith);
       stored = simp length-replicate (omega arith);
       lent = simp length-replicate (omega arith);
+      listed = simp length-replicate (omega arith);
     };
   },
 )

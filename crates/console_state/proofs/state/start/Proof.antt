@@ -11,9 +11,12 @@ refused-open-requires c κs = search needs
 refused-open-requires-2 : tie.Need-refused-open-requires-2
 refused-open-requires-2 c κs = search needs
 
+first-two-requires : tie.Need-first-two-requires
+first-two-requires c κs = search needs
+
 returns : tie.Need-returns
 returns c = cc
 
 pub start-spec : {M : Type 1} → statement M
 start-spec =
-    tie.close (tie.spec empty-requires refused-open-requires refused-open-requires-2 returns)
+    tie.close (tie.spec empty-requires refused-open-requires refused-open-requires-2 first-two-requires returns)

@@ -1,7 +1,8 @@
-use Rattle.open.proofs.Laws.{long-framed, part-rest, unframed, answered}
+use Rattle.open.proofs.Laws.{long-framed, part-rest, unusable, unframed, answered}
 use Rattle.open.specs.Open.{tlvsAt, framed}
 use Rattle.open_walk.specs.Walk.{sightOf, openWalk}
 use Rattle.capability.specs.Srv6.{srv6Capability}
+use Rattle.positions.specs.Positions.{usableSetup}
 use lib.ListN.{drop}
 use mathlib.Core.Bool.{true, false}
 use borrow.Author.Tests.{not-true, not-false}
@@ -11,31 +12,45 @@ use borrow.Author.Needs.{needs}
 use Rattle.open.proofs.object.read_open.Statement.{statement}
 use Rattle.open.proofs.object.read_open.Tie as tie
 
-good : (c : tie.Else1) → framed (c .before .before .before .args .s .now) ≡ true
-good c = sym (c .before .is-framed .ensures .0) ∙ not-false _ (c .if1 .left)
+of-use : (c : tie.Else1) → usableSetup (c .before .before .before .args .p) ≡ true
+of-use c = sym (c .before .usable .ensures) ∙ not-false _ (c .if1 .left)
+
+good : (c : tie.Else2) → framed (c .before .before .before .before .before .args .s .now) ≡ true
+good c = sym (c .before .is-framed .ensures .0) ∙ not-false _ (c .if2 .left)
 
 -- where the walk has been made
 walked : (c : tie.After-walk)
-    → (let s = c .before .before .before .before .args .s .now in sightOf s (c .walk .result) ≡ openWalk false srv6Capability (drop tlvsAt s))
-walked c = rw (part-rest (c .before .before .before .before .args .s .now) tlvsAt) at (c .walk .ensures .0)
+    → (let s = c .before .before .before .before .before .before .args .s .now in sightOf s (c .walk .result) ≡ openWalk false srv6Capability (drop tlvsAt s))
+walked c = rw (part-rest (c .before .before .before .before .before .before .args .s .now) tlvsAt) at (c .walk .ensures .0)
 
-is-framed-requires : tie.Need-is-framed-requires
-is-framed-requires c κs = search needs
+usable-requires : tie.Need-usable-requires
+usable-requires c κs = search needs
 
 refused-open-requires : tie.Need-refused-open-requires
 refused-open-requires c κs = search needs
 
 returns : tie.Need-returns
-returns c = c .refused-open .ensures ∙ unframed _ (sym (c .before .before .is-framed .ensures .0) ∙ not-true _ (c .before .if1 .taken))
+returns c = c .refused-open .ensures ∙ unusable _ _ (sym (c .before .before .usable .ensures) ∙ not-true _ (c .before .if1 .taken))
+
+is-framed-requires : tie.Need-is-framed-requires
+is-framed-requires c κs = search needs
+
+refused-open-requires-2 : tie.Need-refused-open-requires-2
+refused-open-requires-2 c κs = search needs
+
+returns-2 : tie.Need-returns-2
+returns-2 c =
+    c .refused-open2 .ensures
+    ∙ unframed _ _ (of-use (c .before .before .before)) (sym (c .before .before .is-framed .ensures .0) ∙ not-true _ (c .before .if2 .taken))
 
 walk-requires : tie.Need-walk-requires
-walk-requires c κs = let h = long-framed _ (good c) in omega (arith, c .before .is-framed .ensures .1 (not-false _ (c .if1 .left)))
+walk-requires c κs = let h = long-framed _ (good c) in omega (arith, c .before .is-framed .ensures .1 (not-false _ (c .if2 .left)))
 
 enum-told : tie.Need-enum-told
 enum-told c = search needs
 
-refused-open-requires-2 : tie.Need-refused-open-requires-2
-refused-open-requires-2 c κs = search needs
+refused-open-requires-3 : tie.Need-refused-open-requires-3
+refused-open-requires-3 c κs = search needs
 
 enum-known-list : tie.Need-enum-known-list
 enum-known-list c = search needs
@@ -43,25 +58,32 @@ enum-known-list c = search needs
 carried-by-requires : tie.Need-carried-by-requires
 carried-by-requires c κs = rw (c .before .list .given .1) at (c .before .before .before .walk .ensures .1)
 
-returns-2 : tie.Need-returns-2
-returns-2 c = c .refused-open2 .ensures
-    ∙ rw (← rw (c .before .enum-told .given .1) at (walked (c .before .before .before))) at (answered _ (good (c .before .before .before .before)))
-
 returns-3 : tie.Need-returns-3
-returns-3 c = c .carried-by .ensures
-    ∙ rw (← rw (c .before .before .list .given .1) at (walked (c .before .before .before .before))) at (answered _ (good (c .before .before .before .before .before)))
+returns-3 c =
+    let tested = c .before .before .before .before in
+    c .refused-open3 .ensures
+    ∙ rw (← rw (c .before .enum-told .given .1) at (walked (c .before .before .before))) at (answered _ _ (of-use (tested .before .before)) (good tested))
+
+returns-4 : tie.Need-returns-4
+returns-4 c =
+    let tested = c .before .before .before .before .before in
+    c .carried-by .ensures
+    ∙ rw (← rw (c .before .before .list .given .1) at (walked (c .before .before .before .before))) at (answered _ _ (of-use (tested .before .before)) (good tested))
 
 pub read-open-spec : {M : Type 1} → statement M
 read-open-spec =
     tie.close
     (tie.spec
-    is-framed-requires
+    usable-requires
     refused-open-requires
     returns
+    is-framed-requires
+    refused-open-requires-2
+    returns-2
     walk-requires
     enum-told
-    refused-open-requires-2
+    refused-open-requires-3
     enum-known-list
     carried-by-requires
-    returns-2
-    returns-3)
+    returns-3
+    returns-4)

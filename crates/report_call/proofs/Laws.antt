@@ -1,0 +1,62 @@
+-- The two ways out of a report: 28, or the report under the limit for this route; what it changes; any two answers that fit are equal.
+use Prim.Native.Nat.{ℕ}
+use mathlib.Core.Path.{_≡_, refl, sym, ap, _∙_}
+use mathlib.Core.List.{List}
+use mathlib.Core.Bool.{Bool, true, false, cond}
+use lib.ListN.{length}
+use Rattle.answers.specs.declared.verdict.Verdict.{Verdict}
+use Rattle.answers.specs.Numbers.{notUsable}
+use Rattle.answers.specs.Verdicts.{refusedBy}
+use Rattle.session.specs.declared.Session.{Session}
+use Rattle.head_end.specs.Addresses.{usableList}
+use Rattle.route_limit.specs.FirstOff.{sessionFor}
+use Rattle.route_call.specs.Called.{rule28, judgedFor}
+use Rattle.board_record.specs.declared.record.Board.{Board}
+use Rattle.board_record.specs.Table.{Table}
+use Rattle.board_rules.specs.Rules.{Outcome, outcomeOf}
+use Rattle.board_rules.specs.Report.{reportWith, storeWith, reportAnswer, reportStore}
+use Rattle.board_rules.specs.OnRecord.{Result, resultOf, reportOn, reportStoreOn}
+use Rattle.board_rules.proofs.OnRecord.{results-same}
+use Rattle.report_call.specs.Reported.{reportFor, reportStoreFor, reportForOn, reportStoreForOn}
+
+module _ (b : Board) (store : List ℕ) (k : ℕ) (ero : List ℕ) (session : Session) (pst : ℕ) (addresses : List ℕ) where
+  pub reported-28 : {x : Bool} {v : Verdict} → x ≡ usableList addresses → x ≡ false → v ≡ refusedBy notUsable 0
+      → (resultOf v b ≡ reportForOn b store k ero session pst addresses) × (store ≡ reportStoreForOn b store k ero session pst addresses)
+  unfolding reportForOn reportStoreForOn rule28
+  reported-28 e f g = (rw (g, sym e ∙ f), rw (sym e ∙ f))
+
+  pub reported-under : {x : Bool} {g : Session} {o : Result} {after : List ℕ} → x ≡ usableList addresses → x ≡ true → g ≡ sessionFor ero true session addresses
+      → o ≡ reportOn b store k ero g pst → after ≡ reportStoreOn b store k ero g pst
+      → (o ≡ reportForOn b store k ero session pst addresses) × (after ≡ reportStoreForOn b store k ero session pst addresses)
+  unfolding reportForOn reportStoreForOn rule28
+  reported-under e f h o a = (
+    o ∙ ap (λ (x : Session). reportOn b store k ero x pst) h ∙ rw (sym e ∙ f),
+    a ∙ ap (λ (x : Session). reportStoreOn b store k ero x pst) h ∙ rw (sym e ∙ f),
+  )
+
+module _ (b : Table) (store : List ℕ) (k : ℕ) (ero : List ℕ) (session : Session) (pst : ℕ) (addresses : List ℕ) where
+  -- A usable list: the report under the limit for this route.
+  pub usable-reported : rule28 addresses ≡ false
+      → (reportFor b store k ero session pst addresses ≡ reportAnswer b store k ero (sessionFor ero true session addresses) pst)
+      × (reportStoreFor b store k ero session pst addresses ≡ reportStore b store k ero (sessionFor ero true session addresses) pst)
+  unfolding reportFor reportStoreFor
+  usable-reported e = (rw e, rw e)
+
+  -- Its route checks are those of the call that judges a route.
+  pub judged-alike : rule28 addresses ≡ false → reportFor b store k ero session pst addresses ≡ reportWith b store k ero (judgedFor ero true session pst addresses)
+  unfolding reportFor reportAnswer judgedFor
+  judged-alike e = rw e
+
+  -- 28 changes nothing.
+  pub unusable-reported : rule28 addresses ≡ true
+      → (reportFor b store k ero session pst addresses ≡ outcomeOf (refusedBy notUsable 0) b) × (reportStoreFor b store k ero session pst addresses ≡ store)
+  unfolding reportFor reportStoreFor
+  unusable-reported e = (rw e, rw e)
+
+pub report-determined : (b : Board) (store : List ℕ) (k : ℕ) (ero : List ℕ) (session : Session) (pst : ℕ) (addresses : List ℕ) (v w : Verdict) (c d : Board) (x y : List ℕ)
+    → resultOf v c ≡ reportForOn b store k ero session pst addresses
+    → resultOf w d ≡ reportForOn b store k ero session pst addresses
+    → x ≡ reportStoreForOn b store k ero session pst addresses
+    → y ≡ reportStoreForOn b store k ero session pst addresses
+    → ((v ≡ w) × (c ≡ d)) × (x ≡ y)
+report-determined b store k ero session pst addresses v w c d x y p q r t = (results-same (reportForOn b store k ero session pst addresses) v w c d p q, r ∙ sym t)

@@ -1,0 +1,50 @@
+use Rattle.report_call.proofs.Laws.{reported-28, reported-under}
+use Rattle.board_record.specs.Table.{tableOf}
+use Rattle.board_record.specs.Record.{withOrder}
+use borrow.Author.Tests.{not-true, not-false}
+use borrow.Author.Needs.{needs}
+use Rattle.report_call.proofs.report.Statement.{statement}
+use Rattle.report_call.proofs.report.Tie as tie
+
+usable-requires : tie.Need-usable-requires
+usable-requires c κs = search needs
+
+refused-requires : tie.Need-refused-requires
+refused-requires c κs = search needs
+
+returns : tie.Need-returns
+returns c =
+    let args = c .before .before .before .before .before .before .args in
+    let b = withOrder (tableOf (args .keys .now) (args .versions .now) (args .lengths .now) (args .version .now) (args .floor .now)) (args .order .now) in
+    reported-28 b (args .store .now) (args .key) (args .ero .now) (args .session) (args .pst) (args .addresses .now) (c .before .before .usable .ensures)
+    (not-true _ (c .before .if1 .taken)) (c .refused .ensures)
+
+session-for-requires : tie.Need-session-for-requires
+session-for-requires c κs = search needs
+
+report-requires : tie.Need-report-requires
+report-requires c κs = search needs
+
+same-length : tie.Need-same-length
+same-length c = search needs
+
+returns-2 : tie.Need-returns-2
+returns-2 c =
+    let e = c .before .before .report .ensures in
+    let before10 = c .before .before .before .before .before .before .before .before .before .before in
+    let args = before10 .before .before .before .before .before .before .args in
+    let b = withOrder (tableOf (args .keys .now) (args .versions .now) (args .lengths .now) (args .version .now) (args .floor .now)) (args .order .now) in
+    reported-under b (args .store .now) (args .key) (args .ero .now) (args .session) (args .pst) (args .addresses .now) (before10 .before .before .usable .ensures)
+    (not-false _ (before10 .before .if1 .left)) (before10 .session-for .ensures) (e .0) (e .1)
+
+pub report-spec : {M : Type 1} → statement M
+report-spec =
+    tie.close
+    (tie.spec
+    usable-requires
+    refused-requires
+    returns
+    session-for-requires
+    report-requires
+    same-length
+    returns-2)

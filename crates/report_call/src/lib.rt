@@ -1,0 +1,53 @@
+// Report on a record whose parts are lent, for a head end whose addresses are lent (document 02, C-15): 28, then the report
+// under the limit that holds for this route. A refusal writes nothing.
+ghost use mathlib.Core.Path.{_≡_};
+ghost use Rattle.board_record.specs.Table.{tableOf};
+ghost use Rattle.board_record.specs.Record.{withOrder};
+ghost use Rattle.board_rules.specs.OnRecord.{resultOf};
+ghost use Rattle.report_call.specs.Reported.{reportForOn, reportStoreForOn};
+use answers::NOT_USABLE;
+use answers::Verdict;
+use answers::refused;
+use session::Session;
+
+// Report (key, ERO, session, PST, addresses).
+pub fn report(
+    keys: &mut [u32; 128],
+    versions: &mut [u64; 128],
+    lengths: &mut [u16; 128],
+    version: &mut u64,
+    floor: &mut u64,
+    order: &mut [u8; 128],
+    store: &mut [u8],
+    key: u64,
+    ero: &[u8],
+    session: Session,
+    pst: u64,
+    addresses: &[u8],
+) -> Verdict
+    ensures answer { λ r.
+        let before = tableOf (now (keys .entry)) (now (versions .entry)) (now (lengths .entry)) (now (version .entry)) (now (floor .entry)) in
+        let after = tableOf (now (keys .exit)) (now (versions .exit)) (now (lengths .exit)) (now (version .exit)) (now (floor .exit)) in
+        ⌜ resultOf r (withOrder after (now (order .exit))) ≡ reportForOn (withOrder before (now (order .entry))) (now (store .entry)) key (now (ero .entry)) session pst (now (addresses .entry)) ⌝ }
+    ensures octets { λ r.
+        let before = tableOf (now (keys .entry)) (now (versions .entry)) (now (lengths .entry)) (now (version .entry)) (now (floor .entry)) in
+        ⌜ now (store .exit) ≡ reportStoreForOn (withOrder before (now (order .entry))) (now (store .entry)) key (now (ero .entry)) session pst (now (addresses .entry)) ⌝ }
+{
+    if !head_end::usable(addresses) {
+        return refused(NOT_USABLE, 0);
+    }
+    let under = route_limit::session_for(ero, true, session, addresses);
+    board_report::report(
+        keys,
+        versions,
+        lengths,
+        version,
+        floor,
+        order,
+        store,
+        key,
+        ero,
+        under,
+        pst,
+    )
+}

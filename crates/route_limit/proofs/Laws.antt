@@ -1,0 +1,106 @@
+-- Laws of the limit that an ERO is judged by: the first segment in the code's words, and what the limit is.
+use Prim.Native.Nat.{ℕ, _+_, _/_, _%_, _≤_, _<_}
+use native.Mathlib.Omega.{arith}
+use mathlib.Core.Path.{_≡_, refl, sym, ap, _∙_}
+use mathlib.Core.List.{List, []}
+use mathlib.Core.Bool.{Bool, true, false, cond, _&&_, _||_}
+use lib.ListN.{length, take, drop, length-take, length-drop}
+use lib.Dec.{eqb}
+use Rattle.answers.proofs.Determined.{determined}
+use Rattle.octets.specs.Octets.{octetOf, part}
+use Rattle.objects.specs.Objects.{header}
+use Rattle.session.specs.declared.Limit.{Limit}
+use Rattle.session.specs.declared.Session.{Session}
+use Rattle.msd.specs.Msd.{absent, depthIn}
+use Rattle.msd.proofs.Laws.{depth-none}
+use Rattle.msd_limit.specs.Limits.{oneMoreBy}
+use Rattle.subobject.specs.Layout.{fixedLength, sidSize, worthNT, headOf, headAt}
+use Rattle.head_end.specs.Addresses.{addressSize, hasAddress}
+use Rattle.head_end.proofs.Laws.{short-is-none, none-in-none}
+use Rattle.route_limit.specs.FirstOff.{isAdjacency, firstHead, localAddress, ownAdjacency, staysOff, withOneMore, limitFor, sessionFor}
+
+-- the first segment ----------------------------------------------------------------------------------------------
+
+and-false : (a : Bool) → (a && false) ≡ false
+and-false true = refl
+and-false false = refl
+
+or-true : (a : Bool) → (a || true) ≡ true
+or-true true = refl
+or-true false = refl
+
+short-part : (s : List ℕ) (at : ℕ) → length s < at + addressSize → length (part s at addressSize) < addressSize
+unfolding part
+short-part s at h = omega (arith, length-take addressSize (drop at s), length-drop at s)
+
+-- In the words of the code: high the octet with NT, low the one with S.
+module _ (s addresses : List ℕ) (high : ℕ) (e : high ≡ octetOf s (header + 2)) where
+  nt-told : firstHead s .nt ≡ high / worthNT
+  unfolding headAt headOf
+  nt-told = rw e
+
+  pub not-own : {b : Bool} → b ≡ isAdjacency (high / worthNT) → b ≡ false → false ≡ ownAdjacency s addresses
+  unfolding ownAdjacency
+  not-own f g = rw (nt-told, sym f ∙ g)
+
+  module _ (low : ℕ) (f : low ≡ octetOf s (header + 3)) (sid : ℕ) (g : sid ≡ cond (eqb (low % 2) 0) sidSize 0) where
+    local-told : localAddress s ≡ part s (header + fixedLength + sid) addressSize
+    unfolding headAt headOf
+    local-told = rw (g, f)
+
+    pub own-short : length s < header + fixedLength + sid + addressSize → false ≡ ownAdjacency s addresses
+    unfolding ownAdjacency
+    own-short h =
+        rw (local-told, short-is-none (part s (header + fixedLength + sid) addressSize) addresses (short-part s (header + fixedLength + sid) h))
+        (sym (and-false (isAdjacency (firstHead s .nt))))
+
+    pub own-told : {b r : Bool} → b ≡ isAdjacency (high / worthNT) → b ≡ true → r ≡ hasAddress (part s (header + fixedLength + sid) addressSize) addresses
+        → r ≡ ownAdjacency s addresses
+    unfolding ownAdjacency
+    own-told k m n = n ∙ rw (nt-told, sym k ∙ m, local-told)
+
+-- the limit ------------------------------------------------------------------------------------------------------
+
+-- The ways out of the code.
+module _ (s : List ℕ) (ero : Bool) (session : Session) (addresses : List ℕ) where
+  -- In an RRO nothing stays off.
+  pub in-rro : ero ≡ false → session .limit ≡ limitFor s ero session addresses
+  unfolding limitFor staysOff
+  in-rro e = rw e
+
+  pub by-r : {l : Limit} → ero ≡ true → session .r ≡ true → l ≡ withOneMore session → l ≡ limitFor s ero session addresses
+  unfolding limitFor staysOff
+  by-r e f g = g ∙ rw (e, f)
+
+  pub by-none : session .r ≡ false → session .a ≡ false → session .limit ≡ limitFor s ero session addresses
+  unfolding limitFor staysOff
+  by-none e f = rw (e, f, and-false ero)
+
+  -- Without H.Encaps one segment more is none.
+  pub without-encaps : absent ≤ session .v → session .limit ≡ limitFor s ero session addresses
+  unfolding limitFor
+  without-encaps h = go (staysOff s ero session addresses) (rw (depth-none (session .v) h))
+    where
+      go : (b : Bool) → withOneMore session ≡ session .limit → session .limit ≡ cond b (withOneMore session) (session .limit)
+      go true f = sym f
+      go false f = refl
+
+  pub by-a : {own : Bool} {l : Limit} → ero ≡ true → session .a ≡ true → own ≡ ownAdjacency s addresses → own ≡ true
+      → l ≡ withOneMore session → l ≡ limitFor s ero session addresses
+  unfolding limitFor staysOff
+  by-a e f g h k = k ∙ rw (e, f, sym g ∙ h, or-true (session .r))
+
+  pub not-by-a : {own : Bool} → session .r ≡ false → own ≡ ownAdjacency s addresses → own ≡ false → session .limit ≡ limitFor s ero session addresses
+  unfolding limitFor staysOff
+  not-by-a e g h = rw (e, sym g ∙ h, and-false (session .a), and-false ero)
+
+  -- With no address and R not agreed the limit is the session's own.
+  pub no-address : session .r ≡ false → limitFor s ero session [] ≡ session .limit
+  unfolding limitFor staysOff ownAdjacency
+  no-address e = rw (e, none-in-none (localAddress s), and-false (isAdjacency (firstHead s .nt)), and-false (session .a), and-false ero)
+
+-- Any two answers that fit the contract of `session_for` are equal -----------------------------------------------
+
+pub session-for-determined : (s : List ℕ) (ero : Bool) (session : Session) (addresses : List ℕ) {x y : Session}
+    → x ≡ sessionFor s ero session addresses → y ≡ sessionFor s ero session addresses → x ≡ y
+session-for-determined s ero session addresses = determined

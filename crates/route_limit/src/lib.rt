@@ -1,0 +1,85 @@
+// The limit that an ERO is judged by (document 02, C-15; document 001, section 5): one segment more where the first stays
+// off the header.
+//
+// It stays off if both ends set R, or both set A and it is an adjacency of the head end: its NT is 4 or 6, and the first 16
+// octets of its NAI, which are its local address, are one of the head end's addresses. Whether it has a SID is no matter.
+// H.Encaps' v then permits v + 1; what Segments Left permits stays.
+ghost use mathlib.Core.Path.{_≡_};
+ghost use Rattle.route_limit.specs.FirstOff.{isAdjacency, ownAdjacency, limitFor, sessionFor};
+use head_end::ADDRESS;
+use msd::ABSENT;
+use objects::HEADER;
+use session::Limit;
+use session::Session;
+use subobject::ADJACENCY;
+use subobject::FIXED_LENGTH;
+use subobject::LINK_LOCAL;
+use subobject::SID_LENGTH;
+use subobject::WORTH_NT;
+
+// The places of NT and of the flags of the first segment.
+const NT_PLACE: usize = HEADER + 2;
+
+const FLAGS_PLACE: usize = HEADER + 3;
+
+// Whether an NT is that of an adjacency.
+fn adjacency(nt: usize) -> bool
+    ensures adjacency { λ r. ⌜ r ≡ isAdjacency nt ⌝ }
+{
+    octets::either(nt == ADJACENCY, nt == LINK_LOCAL)
+}
+
+// Whether the first segment is an adjacency of the head end. Octets that are not there count for nothing.
+fn own_adjacency(s: &[u8], addresses: &[u8]) -> bool
+    ensures own { λ r. ⌜ r ≡ ownAdjacency (now (s .entry)) (now (addresses .entry)) ⌝ }
+{
+    if !adjacency(octets::octet(s, NT_PLACE) / WORTH_NT) {
+        return false;
+    }
+    let without = octets::octet(s, FLAGS_PLACE) % 2;
+    let at = HEADER + FIXED_LENGTH + octets::pick(without == 0, SID_LENGTH, 0);
+    if s.len() < at + ADDRESS {
+        return false;
+    }
+    head_end::has(addresses, &s[at..at + ADDRESS])
+}
+
+// The limit for a route. The addresses are looked at only where A decides: R is not agreed, and H.Encaps is there.
+fn limit_for(s: &[u8], ero: bool, session: Session, addresses: &[u8]) -> Limit
+    ensures limit { λ r. ⌜ r ≡ limitFor (now (s .entry)) ero session (now (addresses .entry)) ⌝ }
+{
+    let limit = session.limit;
+    let v = session.v;
+    let m = session.m;
+    if !ero {
+        return limit;
+    }
+    if session.r {
+        return msd_limit::one_more(limit, v, m);
+    }
+    if !session.a {
+        return limit;
+    }
+    if ABSENT <= v {
+        return limit;
+    }
+    if own_adjacency(s, addresses) {
+        return msd_limit::one_more(limit, v, m);
+    }
+    limit
+}
+
+// The session with the limit for a route.
+pub fn session_for(s: &[u8], ero: bool, session: Session, addresses: &[u8]) -> Session
+    ensures session { λ r. ⌜ r ≡ sessionFor (now (s .entry)) ero session (now (addresses .entry)) ⌝ }
+{
+    Session {
+        agreed: session.agreed,
+        n: session.n,
+        limit: limit_for(s, ero, session, addresses),
+        a: session.a,
+        r: session.r,
+        v: session.v,
+        m: session.m,
+    }
+}
