@@ -201,7 +201,8 @@ typedef struct strundevi_written {
 } strundevi_written;
 
 /* A board. All zeros is the empty one. A key 0 is an empty place, a length 0 at a key the mark of a removal. The order names the used places from
- * the oldest change to the newest, each by 1 more than the place, with 0 behind them; only the calls may change it.
+ * the oldest change to the newest, each by 1 more than the place, with 0 behind them; tops has the largest version of each 8 places. Only the calls may
+ * change these.
  *
  * An old mark may fit a board that was started anew, and its follower would keep paths that are withdrawn: whoever starts a board anew sees to
  * it that every follower empties itself and takes a fresh mark. */
@@ -212,6 +213,7 @@ typedef struct strundevi_board {
     uint64_t version;
     uint64_t floor;
     uint8_t order[STRUNDEVI_PLACES];
+    uint64_t tops[STRUNDEVI_PLACES / 8];
 } strundevi_board;
 
 /* Octets start to start + length of the store; refused: none. */
@@ -252,18 +254,21 @@ strundevi_written strundevi_raw_begin(uint8_t *buffer, size_t size, strundevi_wr
 strundevi_written strundevi_raw_add(uint8_t *buffer, size_t size, strundevi_writer writer, strundevi_outline outline, const uint8_t *sid,
                                     const uint8_t *nai, const uint8_t *structure);
 strundevi_written strundevi_raw_finish(uint8_t *buffer, size_t size, strundevi_writer writer);
-void strundevi_raw_empty(uint32_t *keys, uint64_t *versions, uint16_t *lengths, uint64_t *version, uint64_t *floor, uint8_t *order);
-strundevi_verdict strundevi_raw_report(uint32_t *keys, uint64_t *versions, uint16_t *lengths, uint64_t *version, uint64_t *floor, uint8_t *order,
+void strundevi_raw_empty(uint32_t *keys, uint64_t *versions, uint16_t *lengths, uint64_t *version, uint64_t *floor, uint8_t *order, uint64_t *tops);
+strundevi_verdict strundevi_raw_report(uint32_t *keys, uint64_t *versions, uint16_t *lengths, uint64_t *version, uint64_t *floor, uint8_t *order, uint64_t *tops,
                                        uint8_t *store, size_t size, uint64_t key, const uint8_t *ero, size_t length, strundevi_session session, uint64_t pst,
                                        const uint8_t *addresses, size_t given);
-strundevi_verdict strundevi_raw_remove(const uint32_t *keys, uint64_t *versions, uint16_t *lengths, uint64_t *version, uint64_t floor, uint8_t *order,
+strundevi_verdict strundevi_raw_remove(const uint32_t *keys, uint64_t *versions, uint16_t *lengths, uint64_t *version, uint64_t floor, uint8_t *order, uint64_t *tops,
                                        const uint8_t *store, size_t size, uint64_t key);
-strundevi_verdict strundevi_raw_compact(uint32_t *keys, uint64_t *versions, const uint16_t *lengths, uint64_t version, uint64_t *floor, uint8_t *order,
+strundevi_verdict strundevi_raw_compact(uint32_t *keys, uint64_t *versions, const uint16_t *lengths, uint64_t version, uint64_t *floor, uint8_t *order, uint64_t *tops,
                                         const uint8_t *store, size_t size, uint64_t c);
 strundevi_part strundevi_raw_body(const uint32_t *keys, const uint64_t *versions, const uint16_t *lengths, uint64_t version, uint64_t floor,
-                                  const uint8_t *order, const uint8_t *store, size_t size, uint64_t key);
+                                  const uint8_t *order, const uint64_t *tops, const uint8_t *store, size_t size, uint64_t key);
 strundevi_change strundevi_raw_next(const uint32_t *keys, const uint64_t *versions, const uint16_t *lengths, uint64_t version, uint64_t floor,
-                                  const uint8_t *order, const uint8_t *store, size_t size, uint64_t s, uint64_t w);
+                                  const uint8_t *order, const uint64_t *tops, const uint8_t *store, size_t size, uint64_t s, uint64_t w);
+strundevi_verdict strundevi_raw_moved(const uint32_t *keys, const uint64_t *versions, const uint16_t *lengths, uint64_t version, uint64_t floor,
+                                      const uint8_t *order, const uint64_t *tops, const uint8_t *store, size_t size, uint64_t from, uint64_t to,
+                                      uint64_t v);
 strundevi_mark strundevi_raw_fresh_mark(uint64_t version);
 
 /* ---- the calls */
@@ -342,7 +347,7 @@ STRUNDEVI_LOOK_AT static inline strundevi_written strundevi_finish(uint8_t *buff
 /* Makes the board the empty one. Then every follower of what it was has to empty itself and take a fresh mark. */
 static inline void strundevi_empty(strundevi_board *board) {
     if (board != NULL)
-        strundevi_raw_empty(board->keys, board->versions, board->lengths, &board->version, &board->floor, board->order);
+        strundevi_raw_empty(board->keys, board->versions, board->lengths, &board->version, &board->floor, board->order, board->tops);
 }
 
 /* Reports a path: 28, 17, 18, the route's numbers, 19, 20, 21. The counts are those of its segments and of the stray ones. The addresses are the head
@@ -354,7 +359,7 @@ STRUNDEVI_LOOK_AT static inline strundevi_verdict strundevi_report(strundevi_boa
         strundevi_verdict unusable = {STRUNDEVI_NOT_USABLE, 0, 0, 0};
         return strundevi_lent(addresses, given) % STRUNDEVI_ADDRESS_OCTETS != 0 ? unusable : strundevi_no_board();
     }
-    return strundevi_raw_report(board->keys, board->versions, board->lengths, &board->version, &board->floor, board->order,
+    return strundevi_raw_report(board->keys, board->versions, board->lengths, &board->version, &board->floor, board->order, board->tops,
                                 strundevi_into(store, none), strundevi_lent(store, size), key, strundevi_from(ero), strundevi_lent(ero, length), session, pst,
                                 strundevi_from(addresses), strundevi_lent(addresses, given));
 }
@@ -363,7 +368,7 @@ STRUNDEVI_LOOK_AT static inline strundevi_verdict strundevi_report(strundevi_boa
 STRUNDEVI_LOOK_AT static inline strundevi_verdict strundevi_remove(strundevi_board *board, const uint8_t *store, size_t size, uint64_t key) {
     if (board == NULL)
         return strundevi_no_board();
-    return strundevi_raw_remove(board->keys, board->versions, board->lengths, &board->version, board->floor, board->order,
+    return strundevi_raw_remove(board->keys, board->versions, board->lengths, &board->version, board->floor, board->order, board->tops,
                                 strundevi_from(store), strundevi_lent(store, size), key);
 }
 
@@ -371,7 +376,7 @@ STRUNDEVI_LOOK_AT static inline strundevi_verdict strundevi_remove(strundevi_boa
 STRUNDEVI_LOOK_AT static inline strundevi_verdict strundevi_compact(strundevi_board *board, const uint8_t *store, size_t size, uint64_t c) {
     if (board == NULL)
         return strundevi_no_board();
-    return strundevi_raw_compact(board->keys, board->versions, board->lengths, board->version, &board->floor, board->order,
+    return strundevi_raw_compact(board->keys, board->versions, board->lengths, board->version, &board->floor, board->order, board->tops,
                                  strundevi_from(store), strundevi_lent(store, size), c);
 }
 
@@ -381,7 +386,7 @@ STRUNDEVI_LOOK_AT static inline strundevi_part strundevi_body(const strundevi_bo
         strundevi_part refused = {STRUNDEVI_NOT_A_BOARD, 0, 0};
         return refused;
     }
-    return strundevi_raw_body(board->keys, board->versions, board->lengths, board->version, board->floor, board->order,
+    return strundevi_raw_body(board->keys, board->versions, board->lengths, board->version, board->floor, board->order, board->tops,
                               strundevi_from(store), strundevi_lent(store, size), key);
 }
 
@@ -391,8 +396,17 @@ STRUNDEVI_LOOK_AT static inline strundevi_change strundevi_next(const strundevi_
         strundevi_change refused = {STRUNDEVI_NOT_A_BOARD, STRUNDEVI_REFUSED, 0, 0, 0, 0};
         return refused;
     }
-    return strundevi_raw_next(board->keys, board->versions, board->lengths, board->version, board->floor, board->order,
+    return strundevi_raw_next(board->keys, board->versions, board->lengths, board->version, board->floor, board->order, board->tops,
                               strundevi_from(store), strundevi_lent(store, size), mark.s, mark.w);
+}
+
+/* Whether a key from `from` to `to` changed after version v: 17, 24, 23. The count is 1 for yes and 0 for no; from above to is no. */
+STRUNDEVI_LOOK_AT static inline strundevi_verdict strundevi_moved(const strundevi_board *board, const uint8_t *store, size_t size, uint64_t from,
+                                                                  uint64_t to, uint64_t v) {
+    if (board == NULL)
+        return strundevi_no_board();
+    return strundevi_raw_moved(board->keys, board->versions, board->lengths, board->version, board->floor, board->order, board->tops,
+                               strundevi_from(store), strundevi_lent(store, size), from, to, v);
 }
 
 /* The mark of a follower that begins, and holds nothing. Without a board it is (0, 0). */

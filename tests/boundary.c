@@ -60,6 +60,7 @@ int main(void) {
         EXPECT(strundevi_body(&board, NULL, n, 1).number == STRUNDEVI_NOT_A_BOARD);
         EXPECT(strundevi_body(NULL, store, n, 1).number == STRUNDEVI_NOT_A_BOARD);
         EXPECT(strundevi_next(&board, NULL, n, mark).number == STRUNDEVI_NOT_A_BOARD);
+        EXPECT(refused(strundevi_moved(&board, NULL, n, 0, UINT64_MAX, 0), STRUNDEVI_NOT_A_BOARD));
         EXPECT(strundevi_next(NULL, store, n, mark).number == STRUNDEVI_NOT_A_BOARD);
         EXPECT(kept());
     }
@@ -105,13 +106,14 @@ int main(void) {
         EXPECT(memcmp(buffer, zeros, sizeof buffer) == 0);
     }
     EXPECT(refused(strundevi_compact(&board, store, sizeof store, 1), STRUNDEVI_MARK_AHEAD));
+    EXPECT(refused(strundevi_moved(&board, store, sizeof store, 0, UINT64_MAX, 1), STRUNDEVI_MARK_AHEAD));
     EXPECT(strundevi_next(&board, store, sizeof store, (strundevi_mark){UINT64_MAX, 0}).number == STRUNDEVI_MARK_AHEAD);
     EXPECT(strundevi_next(&board, store, sizeof store, (strundevi_mark){0, UINT64_MAX}).number == STRUNDEVI_MARK_AHEAD);
     EXPECT(kept());
 
     /* a store that is an octet short, and records that are no boards */
     EXPECT(refused(strundevi_report(&board, store, sizeof store - 1, 1, route, sizeof route, session, 3, NULL, 0), STRUNDEVI_NOT_A_BOARD));
-    for (int i = 0; i < 6; i++) {
+    for (int i = 0; i < 8; i++) {
         memset(&board, 0, sizeof board);
         switch (i) {
         case 0: board.keys[127] = 1; break;
@@ -119,6 +121,8 @@ int main(void) {
         case 2: board.lengths[0] = 24; break;
         case 3: board.floor = 1; break;
         case 4: board.version = UINT64_MAX; break;
+        case 5: board.order[0] = 1; break;
+        case 6: board.tops[15] = 1; break;
         default: memset(&board, 0xFF, sizeof board); break;
         }
         before = board;
@@ -127,6 +131,7 @@ int main(void) {
         EXPECT(refused(strundevi_compact(&board, store, sizeof store, 0), STRUNDEVI_NOT_A_BOARD));
         EXPECT(strundevi_body(&board, store, sizeof store, 1).number == STRUNDEVI_NOT_A_BOARD);
         EXPECT(strundevi_next(&board, store, sizeof store, (strundevi_mark){0, 0}).number == STRUNDEVI_NOT_A_BOARD);
+        EXPECT(refused(strundevi_moved(&board, store, sizeof store, 0, UINT64_MAX, 0), STRUNDEVI_NOT_A_BOARD));
         EXPECT(kept());
     }
 
@@ -135,6 +140,9 @@ int main(void) {
     EXPECT(strundevi_report(&board, store, sizeof store, STRUNDEVI_KEY_MOST, route, sizeof route, session, 3, NULL, 0).count == 1);
     EXPECT(strundevi_body(&board, store, sizeof store, STRUNDEVI_KEY_MOST).length == 24);
     EXPECT(memcmp(store, route + 4, 24) == 0);
+    EXPECT(strundevi_moved(&board, store, sizeof store, 0, UINT64_MAX, 0).count == 1);
+    EXPECT(strundevi_moved(&board, store, sizeof store, 0, STRUNDEVI_KEY_MOST - 1, 0).count == 0);
+    EXPECT(strundevi_moved(&board, store, sizeof store, 0, UINT64_MAX, 1).count == 0);
     EXPECT(strundevi_fresh_mark(&board).s == 1 && strundevi_fresh_mark(&board).w == 0);
     return wrong;
 }

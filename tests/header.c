@@ -48,6 +48,8 @@ int main(void) {
     next = strundevi_next(&board, store, sizeof store, mark);
     if (next.kind != STRUNDEVI_LEVEL || strundevi_mark_after(mark, next).s != strundevi_mark_level(1).s)
         return 1;
+    if (strundevi_moved(&board, store, sizeof store, 9, 9, 0).count != 1 || strundevi_moved(&board, store, sizeof store, 9, 9, 1).count != 0)
+        return 1;
     if (strundevi_remove(&board, store, sizeof store, 9).number != STRUNDEVI_ACCEPTED ||
         strundevi_compact(&board, store, sizeof store, 2).number != STRUNDEVI_ACCEPTED)
         return 1;

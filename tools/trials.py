@@ -439,11 +439,11 @@ def follow(out, s, w, turns):
 
 
 def trial_board():
-    out = ["# the empty board", "board", "mark", "chain", "body 1", "remove 1", "next 0 0", "next 1 0", "next 0 1", "compact 0", "compact 1", "report 1 3 " + hexes(E)]
+    out = ["# the empty board", "board", "mark", "chain", "moved 0 18446744073709551615 0", "moved 1 0 0", "moved 0 0 1", "body 1", "remove 1", "next 0 0", "next 1 0", "next 0 1", "compact 0", "compact 1", "report 1 3 " + hexes(E)]
     out += ["pcc " + hexes(opened(setup([3], srv6(2, [])))), "pce " + hexes(O)]
     A, B = hexes(E), hexes(route([sub(nt=2), sub()]))
-    out += ["# report A, report B, remove A; mark (1, 1); compact 3", "report 10 3 " + A, "chain", "report 20 3 " + B, "chain", "remove 10", "chain", "board", "next 1 1", "next 1 2", "next 1 3", "mark", "next 3 0", "next 3 2",
-            "compact 3", "chain", "board", "next 2 2", "next 3 3", "next 3 0", "next 3 2", "next 2 3", "next 0 3", "next 3 4", "next 4 3", "compact 2", "board", "compact 4"]
+    out += ["# report A, report B, remove A; mark (1, 1); compact 3", "report 10 3 " + A, "chain", "report 20 3 " + B, "chain", "remove 10", "chain", "moved 10 19 1", "moved 10 10 2", "moved 10 10 3", "moved 20 29 1", "moved 20 29 2", "moved 11 20 1", "moved 11 19 0", "moved 0 1048575 0", "moved 20 10 0", "moved 0 9 0", "moved 10 20 4", "board", "next 1 1", "next 1 2", "next 1 3", "mark", "next 3 0", "next 3 2",
+            "compact 3", "chain", "moved 10 20 2", "moved 10 20 3", "moved 20 20 3", "moved 20 10 2", "moved 20 10 4", "board", "next 2 2", "next 3 3", "next 3 0", "next 3 2", "next 2 3", "next 0 3", "next 3 4", "next 4 3", "compact 2", "board", "compact 4"]
     out.append("# keys, and the order of the numbers")
     for key in (0, 1, 1048574, 1048575, 2**32 + 1, ALL64):
         out += ["report %d 3 %s" % (key, A), "report %d 1 %s" % (key, A), "body %d" % key, "remove %d" % key, "body %d" % key, "remove %d" % key]
@@ -480,6 +480,8 @@ def trial_board():
             out.append("body %d" % key)
         elif roll < 0.82:
             out += ["board", "mark", "chain"]
+            v, a = r.randrange(max(0, version - 150), version + 2), r.randrange(0, 150)
+            out += ["moved %d %d %d" % (a, a + r.randrange(-1, 30), v), "moved 0 %d %d" % (ALL64, v)]
         else:
             s = r.randrange(max(0, version - 200), version + 3)
             out.append("next %d %d" % (s, max(0, s + r.randrange(-60, 60))))
@@ -509,7 +511,7 @@ def console():
             "add 0 0 0 1 " + sid + " - 1, 2,3,4", "add 0 0 0 1 " + sid + " - 1;2;3;4", "add 0 0 0 1 " + sid + " - --", "add 0 0 0 1 " + sid + " - 0001,2,3,4", "add 0 0 0 1 " + sid + " -", "add 0 0 0 1 " + sid + " - - -", "add 0 0 0 1 - - -", "add 1 1 2 65535 - " + "ab" * 16 + " -", "add 00 01 002 0001 " + sid + " " + "Cd" * 16 + " -", "finish", "lent",
             "finish ", "finish 1", "lent ", "lent 0", "begin rro 4", "lent"]
     out += ["# form goes before meaning", "report 0 3 0", "report 0 x " + hexes(E), "report 0 3 " + hexes(E), "ero-segment 1 x " + hexes(E), "ero-segment 1 0 " + hexes(E)]
-    out += ["# the board's words", "report", "report 1", "report 1 3", "report 1 3 " + hexes(E) + " 1", "remove", "remove ", "remove 1 1", "remove x", "compact", "compact -", "body", "body 1", "next", "next 0", "next 0 0 0", "next 0 0", "mark 0", "mark", "chain 0", "chain -", "chains", "Chain", "board 0",
+    out += ["# the board's words", "report", "report 1", "report 1 3", "report 1 3 " + hexes(E) + " 1", "remove", "remove ", "remove 1 1", "remove x", "compact", "compact -", "body", "body 1", "next", "next 0", "next 0 0 0", "next 0 0", "mark 0", "mark", "chain 0", "chain -", "chains", "Chain", "moved", "moved 1", "moved 1 2", "moved 1 2 3 4", "moved 1 2 x", "moved - 2 0", "moved  1 2 0", "Moved 1 2 0", "moved 1 2 18446744073709551616", "moved 0 0 0", "moved 0001 18446744073709551615 000", "board 0",
             "report 1 3 " + hexes(E), "body 1", "next 0 0", "remove 0001", "next 1 1", "mark"]
     text = "\n".join(out) + "\n"
     text += "#" + "x" * 131300 + "\n"

@@ -76,9 +76,9 @@ fn random_keys() -> Vec<u64> {
     keys
 }
 
-/// The record of a board, which keeps its places in order.
+/// The record of a board, which keeps its places in order and the largest version of each 8.
 fn record(b: &reference::Board) -> raw::Record {
-    raw::Record { keys: b.keys, versions: b.versions, lengths: b.lengths, version: b.version, floor: b.floor, order: b.order() }
+    raw::Record { keys: b.keys, versions: b.versions, lengths: b.lengths, version: b.version, floor: b.floor, order: b.order(), tops: b.tops() }
 }
 
 struct Bench {
@@ -298,6 +298,37 @@ impl Bench {
         );
     }
 
+    /// Whether keys of a range moved, on a full board: none since the last change, one key, every key; and a range that no key is in.
+    fn moved(&mut self) {
+        let other = reference::Session { agreed: true, n: true, ..Default::default() };
+        let ero = plain_route(4);
+        let keys = random_keys();
+        let mut store = vec![0; reference::STORE_OCTETS];
+        let mut b = reference::Board::default();
+        for &key in &keys {
+            b.report(&mut store, key, &ero, &other, PST, &[]).unwrap();
+        }
+        let r = record(&b);
+        let (all, top) = ((0, u64::MAX), PLACES as u64);
+        for (duty, (from, to), v, yes) in [
+            ("moved, full board, nothing moved", all, top, false),
+            ("moved, full board, one key moved", all, top - 1, true),
+            ("moved, full board, all moved, one asked", (keys[100], keys[100]), 0, true),
+            ("moved, full board, all moved, none asked", (1_048_575, u64::MAX), 0, false),
+        ] {
+            assert_eq!(b.moved(&store, from, to, v), Ok(yes));
+            self.time(
+                duty,
+                |_| {
+                    assert_eq!(black_box(raw::moved(black_box(&r), &store, black_box(from), black_box(to), black_box(v))).count, yes as usize);
+                },
+                |_| {
+                    assert!(black_box(black_box(&b).moved(&store, black_box(from), black_box(to), black_box(v))) == Ok(yes));
+                },
+            );
+        }
+    }
+
     /// A follower's next calls on a full board: one whose mark lies so many changes behind, one that is handed the first path behind so many
     /// removals that it does not want, and all from fresh to level.
     fn follow(&mut self) {
@@ -411,6 +442,7 @@ fn main() {
         bench.board(used, &format!("places: {used}"), &random_keys());
     }
     bench.follow();
+    bench.moved();
     let in_a_row: Vec<u64> = (1..=PLACES as u64).collect();
     bench.board(PLACES, "full, keys in a row", &in_a_row);
 }

@@ -8,7 +8,7 @@ use Rattle.board_record.specs.declared.record.Board.{Board}
 use Rattle.board_rules.specs.declared.answer.Handed.{Handed}
 use Rattle.board_rules.specs.declared.answer.Mark.{Mark}
 use Rattle.board_by_value.specs.declared.answer.Answer.{Answer}
-use Rattle.board_by_value.specs.ByValue.{reportOn, reportStoreOn, removeOn, compactOn, bodyNumberOn, bodyOn, nextOn, freshMarkOn}
+use Rattle.board_by_value.specs.ByValue.{reportOn, reportStoreOn, removeOn, compactOn, bodyNumberOn, bodyOn, nextOn, movedOn, freshMarkOn}
 
 pub report-determined : (b : Board) (store : List ℕ) (k : ℕ) (ero : List ℕ) (session : Session) (pst : ℕ) (addresses : List ℕ) (v w : Answer) (x y : List ℕ)
     → v ≡ reportOn b store k ero session pst addresses
@@ -32,6 +32,9 @@ body-determined b store k x y p q = p ∙ sym q
 
 pub next-determined : (b : Board) (store : List ℕ) (s w : ℕ) (x y : Handed) → x ≡ nextOn b store s w → y ≡ nextOn b store s w → x ≡ y
 next-determined b store s w x y p q = p ∙ sym q
+
+pub moved-determined : (b : Board) (store : List ℕ) (from to m : ℕ) (v w : Verdict) → v ≡ movedOn b store from to m → w ≡ movedOn b store from to m → v ≡ w
+moved-determined b store from to m v w p q = p ∙ sym q
 
 pub fresh-determined : (b : Board) (x y : Mark) → x ≡ freshMarkOn b → y ≡ freshMarkOn b → x ≡ y
 fresh-determined b x y p q = p ∙ sym q

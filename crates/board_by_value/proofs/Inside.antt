@@ -9,7 +9,7 @@ use Rattle.board_record.specs.declared.record.Board.{Board}
 use Rattle.board_record.specs.Sizes.{room}
 use Rattle.answers.specs.Numbers.{notABoard}
 use Rattle.answers.specs.Verdicts.{refusedBy}
-use Rattle.board_record.specs.Record.{tableIn, orderly}
+use Rattle.board_record.specs.Record.{tableIn, tidy}
 use Rattle.board_rules.specs.declared.answer.Change.{Change}
 use Rattle.board_rules.specs.declared.answer.Octets.{Octets}
 use Rattle.board_rules.specs.declared.answer.Handed.the-variants.{Refused, Path}
@@ -21,7 +21,7 @@ use Rattle.board_by_value.specs.ByValue.{bodyOn, nextOn}
 
 pub body-inside : (b : Board) (store : List ℕ) (k : ℕ) → length (bodyOn b store k) ≤ length store
 unfolding lent.bodyOn
-body-inside b store k = go (orderly b)
+body-inside b store k = go (tidy b)
   where
     go : (x : Bool) → length (cond x (bodyOf (tableIn b) store k) []) ≤ length store
     go true = tables.body-inside (tableIn b) store k
@@ -30,7 +30,7 @@ body-inside b store k = go (orderly b)
 pub path-inside : (b : Board) (store : List ℕ) (s w : ℕ) {change : Change} {path : Octets} → nextOn b store s w ≡ Path change path
     → room * path .place + path .length ≤ length store
 unfolding lent.nextOn
-path-inside b store s w {change} {path} e = go (orderly b) e
+path-inside b store s w {change} {path} e = go (tidy b) e
   where
     go : (x : Bool) → cond x (nextAnswer (tableIn b) store s w) (Refused (refusedBy notABoard 0)) ≡ Path change path → room * path .place + path .length ≤ length store
     go true q = tables.path-inside (tableIn b) store s w q

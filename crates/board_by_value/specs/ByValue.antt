@@ -37,5 +37,8 @@ bodyOn b store k = lent.bodyOn b store k
 abbrev pub nextOn : Board → List ℕ → ℕ → ℕ → Handed
 nextOn b store s w = lent.nextOn b store s w
 
+abbrev pub movedOn : Board → List ℕ → ℕ → ℕ → ℕ → Verdict
+movedOn b store from to v = lent.movedOn b store from to v
+
 abbrev pub freshMarkOn : Board → Mark
 freshMarkOn b = freshMark (tableIn b)

@@ -1,10 +1,10 @@
 // The board's calls with the record by value (document 01, "The board"): report, remove and compact hand it back, changed
-// or after a refusal as it was; body hands back a part of the lent store; next hands out a change. Each lends the record's
+// or after a refusal as it was; body hands back a part of the lent store; next hands out a change, moved says if a key of a range changed. Each lends the record's
 // arrays to the call of report_call, board_remove or board_look.
 mod answer;
 
 ghost use mathlib.Core.Path.{_≡_};
-ghost use Rattle.board_by_value.specs.ByValue.{reportOn, reportStoreOn, removeOn, compactOn, bodyNumberOn, bodyOn, nextOn, freshMarkOn};
+ghost use Rattle.board_by_value.specs.ByValue.{reportOn, reportStoreOn, removeOn, compactOn, bodyNumberOn, bodyOn, nextOn, movedOn, freshMarkOn};
 pub use answer::Answer;
 use answers::Verdict;
 use board_record::Board;
@@ -31,6 +31,7 @@ pub fn report(
     let mut version = b.version;
     let mut floor = b.floor;
     let mut order = b.order;
+    let mut tops = b.tops;
     let verdict = report_call::report(
         &mut keys,
         &mut versions,
@@ -38,6 +39,7 @@ pub fn report(
         &mut version,
         &mut floor,
         &mut order,
+        &mut tops,
         store,
         key,
         ero,
@@ -52,6 +54,7 @@ pub fn report(
         version: version,
         floor: floor,
         order: order,
+        tops: tops,
     };
     Answer {
         verdict: verdict,
@@ -68,6 +71,7 @@ pub fn remove(b: Board, store: &[u8], key: u64) -> Answer
     let mut lengths = b.lengths;
     let mut version = b.version;
     let mut order = b.order;
+    let mut tops = b.tops;
     let verdict = board_remove::remove(
         &keys,
         &mut versions,
@@ -75,6 +79,7 @@ pub fn remove(b: Board, store: &[u8], key: u64) -> Answer
         &mut version,
         b.floor,
         &mut order,
+        &mut tops,
         store,
         key,
     );
@@ -85,6 +90,7 @@ pub fn remove(b: Board, store: &[u8], key: u64) -> Answer
         version: version,
         floor: b.floor,
         order: order,
+        tops: tops,
     };
     Answer {
         verdict: verdict,
@@ -101,6 +107,7 @@ pub fn compact(b: Board, store: &[u8], c: u64) -> Answer
     let lengths = b.lengths;
     let mut floor = b.floor;
     let mut order = b.order;
+    let mut tops = b.tops;
     let verdict = board_remove::compact(
         &mut keys,
         &mut versions,
@@ -108,6 +115,7 @@ pub fn compact(b: Board, store: &[u8], c: u64) -> Answer
         b.version,
         &mut floor,
         &mut order,
+        &mut tops,
         store,
         c,
     );
@@ -118,6 +126,7 @@ pub fn compact(b: Board, store: &[u8], c: u64) -> Answer
         version: b.version,
         floor: floor,
         order: order,
+        tops: tops,
     };
     Answer {
         verdict: verdict,
@@ -136,6 +145,7 @@ pub fn body_number(b: Board, store: &[u8], key: u64) -> Verdict
         b.version,
         b.floor,
         &b.order,
+        &b.tops,
         store,
         key,
     )
@@ -152,6 +162,7 @@ pub fn body<'a>(b: Board, store: &'a [u8], key: u64) -> &'a [u8]
         b.version,
         b.floor,
         &b.order,
+        &b.tops,
         store,
         key,
     )
@@ -168,9 +179,29 @@ pub fn next(b: Board, store: &[u8], s: u64, w: u64) -> Handed
         b.version,
         b.floor,
         &b.order,
+        &b.tops,
         store,
         s,
         w,
+    )
+}
+
+// Moved (keys from `from` to `to`, version v).
+pub fn moved(b: Board, store: &[u8], from: u64, to: u64, v: u64) -> Verdict
+    ensures moved { λ r. ⌜ r ≡ movedOn b (now (store .entry)) from to v ⌝ }
+{
+    board_look::moved(
+        &b.keys,
+        &b.versions,
+        &b.lengths,
+        b.version,
+        b.floor,
+        &b.order,
+        &b.tops,
+        store,
+        from,
+        to,
+        v,
     )
 }
 

@@ -5,7 +5,7 @@ use mathlib.Core.List.{List}
 use Rattle.answers.specs.declared.verdict.Verdict.{Verdict}
 use Rattle.board_record.specs.declared.record.Board.{Board}
 use Rattle.board_rules.specs.declared.answer.Handed.{Handed}
-use Rattle.board_rules.specs.OnRecord.{bodyNumberOn, bodyOn, nextOn}
+use Rattle.board_rules.specs.OnRecord.{bodyNumberOn, bodyOn, nextOn, movedOn}
 
 pub number-determined : (b : Board) (store : List ℕ) (k : ℕ) (v w : Verdict) → v ≡ bodyNumberOn b store k → w ≡ bodyNumberOn b store k → v ≡ w
 number-determined b store k v w p q = p ∙ sym q
@@ -15,3 +15,6 @@ body-determined b store k x y p q = p ∙ sym q
 
 pub next-determined : (b : Board) (store : List ℕ) (s w : ℕ) (x y : Handed) → x ≡ nextOn b store s w → y ≡ nextOn b store s w → x ≡ y
 next-determined b store s w x y p q = p ∙ sym q
+
+pub moved-determined : (b : Board) (store : List ℕ) (from to m : ℕ) (v w : Verdict) → v ≡ movedOn b store from to m → w ≡ movedOn b store from to m → v ≡ w
+moved-determined b store from to m v w p q = p ∙ sym q

@@ -14,7 +14,7 @@ use Rattle.answers.specs.Verdicts.{refusedBy, kept}
 use Rattle.octets.specs.Octets.{part}
 use Rattle.board_record.specs.Sizes.{places, room, storeSize}
 use Rattle.board_record.specs.declared.record.Board.{Board}
-use Rattle.board_record.specs.Record.{tableIn, orderly}
+use Rattle.board_record.specs.Record.{tableIn, tidy}
 use Rattle.board_record.specs.Table.{Table, keyAt, versionAt, lengthAt}
 use Rattle.board_record.specs.Search.{placeOf, nextOf}
 use Rattle.board_record.specs.Proper.{properB}
@@ -118,18 +118,18 @@ module _ (b : Table) (store : List ℕ) (s w : ℕ) where
 module _ (b : Board) (store : List ℕ) (k : ℕ) where
   pub body-none-on : (v : Verdict) → v ≡ bodyNumberOn b store k → (v .number ≡ 0 → ⊥) → [] ≡ bodyOn b store k
   unfolding bodyNumberOn bodyOn
-  body-none-on v e d = go (orderly b) e
+  body-none-on v e d = go (tidy b) e
     where
       go : (x : Bool) → v ≡ cond x (bodyNumber (tableIn b) store k) (refusedBy notABoard 0) → [] ≡ cond x (bodyOf (tableIn b) store k) []
       go true q = body-none (tableIn b) store k v q d
       go false q = refl
 
-  pub body-taken : (v : Verdict) → v ≡ bodyNumberOn b store k → v .number ≡ 0 → (orderly b ≡ true) × (v ≡ bodyNumber (tableIn b) store k)
+  pub body-taken : (v : Verdict) → v ≡ bodyNumberOn b store k → v .number ≡ 0 → (tidy b ≡ true) × (v ≡ bodyNumber (tableIn b) store k)
   unfolding bodyNumberOn
   body-taken v e z =
       let h = number-order b store k (ap (λ (y : Verdict). y .number) (sym e) ∙ z) in
       (h, rw h at e)
 
-  pub body-on : (octets : List ℕ) → orderly b ≡ true → octets ≡ bodyOf (tableIn b) store k → octets ≡ bodyOn b store k
+  pub body-on : (octets : List ℕ) → tidy b ≡ true → octets ≡ bodyOf (tableIn b) store k → octets ≡ bodyOn b store k
   unfolding bodyOn
   body-on octets h e = rw h e

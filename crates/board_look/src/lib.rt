@@ -3,4 +3,5 @@ mod looking;
 
 pub use looking::body;
 pub use looking::body_number;
+pub use looking::moved;
 pub use looking::next;

@@ -9,7 +9,7 @@ use mathlib.Core.List.{List}
 use mathlib.Core.Logic.{_⊎_, inl, inr, ⊎-elim}
 use lib.ListN.{getD}
 use lib.Dec.{eqb, ltb, leb}
-use borrow.Author.Tests.{eq-eqb, ne-eqb, eqb-true, eqb-false, lt-ltb, le-ltb, ltb-true, le-leb, lt-leb, leb-true, not-true, not-false}
+use borrow.Author.Tests.{eq-eqb, ne-eqb, eqb-true, eqb-false, lt-ltb, le-ltb, ltb-true, le-leb, leb-true, not-true, not-false}
 use Rattle.objects.specs.Objects.{unit}
 use Rattle.board_record.specs.Sizes.{places, room, keyMost, versionMost, bodyLeast}
 use Rattle.board_record.specs.Lists.{row, countBelow}
@@ -213,7 +213,7 @@ module _ (b : Table) (order : List ℕ) where
             (λ y. rw (eq-eqb (keyAt b q) 0 y, eq-eqb (versionAt b q) 0 (p .empty-version q k y), eq-eqb (lengthAt b q) 0 (p .empty-length q k y)))
             (λ y. rw (ne-eqb (keyAt b q) 0 y)) (same? (keyAt b q) 0)
 
-    clear-at : clearB order i ≡ true → (j : ℕ) → i ≤ j → j < places → getD order j 0 ≡ 0
+    pub clear-at : clearB order i ≡ true → (j : ℕ) → i ≤ j → j < places → getD order j 0 ≡ 0
     unfolding clearB
     clear-at e j h k =
         let t : eqb (getD order j 0) 0 ≡ true = rw (le-ltb j i h) at (all-at (λ m. ltb m i || eqb (getD order m 0) 0) 128 e j k) in
@@ -306,7 +306,7 @@ module _ (b : Table) (order : List ℕ) where
               (λ p q k m u e. chain-apart b order chained p q k m u
               (λ z. omega (arith, sound-at p k .low u, sound-at q m .none z .0, e)) e)
 
-    end-full : places ≤ i → allBelow (newB (along (b .keys) order)) i ≡ true → b .floor ≤ b .version → b .version ≤ versionMost → last ≤ b .version
+    pub end-full : places ≤ i → allBelow (newB (along (b .keys) order)) i ≡ true → b .floor ≤ b .version → b .version ≤ versionMost → last ≤ b .version
         → true ≡ (properB b && inOrder b order)
     end-full h new low high top = well seen (λ j m k. absurd (omega arith)) new low high top
       where
@@ -345,7 +345,3 @@ module _ (b : Table) (order : List ℕ) where
         go : (t : Bool) → clearB order i ≡ t → r ≡ (properB b && inOrder b order)
         go true w = q ∙ w ∙ well seen (clear-at w) new low high top
         go false w = q ∙ w ∙ refuted (λ p c. true≢false (sym (chain-clear c z) ∙ w))
-
-    pub end-of : places ≤ i → allBelow (newB (along (b .keys) order)) i ≡ true → b .floor ≤ b .version → b .version ≤ versionMost
-        → leb last (b .version) ≡ (properB b && inOrder b order)
-    end-of h new low high = ⊎-elim (λ t. le-leb last (b .version) t ∙ end-full h new low high t) (λ t. lt-leb last (b .version) t ∙ stop-top i last l a t) (from? last (b .version))

@@ -5,3 +5,6 @@ pub mod Search
 pub mod Proper
 pub mod Changed
 pub mod Determined
+pub mod Looks
+pub mod Tops
+pub mod Ranges

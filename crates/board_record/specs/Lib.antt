@@ -4,4 +4,5 @@ pub mod Table
 pub mod Search
 pub mod Proper
 pub mod Order
+pub mod Tops
 pub mod Record

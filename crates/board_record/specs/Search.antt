@@ -8,6 +8,7 @@ use mathlib.Core.List.{List}
 use lib.ListN.{getD}
 use lib.Dec.{eqb, ltb, leb}
 use Rattle.board_record.specs.Sizes.{places}
+use Rattle.board_record.specs.Lists.{anyBelow}
 use Rattle.board_record.specs.Table.{Table, keyAt, versionAt, lengthAt, Empty, Used, RemovalAt, PathAt, New, removalB}
 
 -- the first number below n that passes the test; n where none does
@@ -80,3 +81,18 @@ wantedB b s w i = not (eqb (keyAt b i) 0) && ltb w (versionAt b i) && (not (eqb 
 
 unfoldable pub nextOf : Table → ℕ → ℕ → ℕ
 nextOf b s w = leastWhere (wantedB b s w) (versionAt b) places
+
+-- ---- "any key from a to b changed after version v" (document 02): a used place with such a key and a higher version
+pub record MovedAt (b : Table) (from to v i : ℕ) : Type 0 where
+  pub here : i < places
+  pub used : Used b i
+  pub least : from ≤ keyAt b i
+  pub most : keyAt b i ≤ to
+  pub after : v < versionAt b i
+
+unfoldable pub movedB : List ℕ → List ℕ → ℕ → ℕ → ℕ → ℕ → Bool
+movedB keys versions from to v i = not (eqb (getD keys i 0) 0) && leb from (getD keys i 0) && leb (getD keys i 0) to && ltb v (getD versions i 0)
+
+-- "a look at all 128 places"
+unfoldable pub movedIn : List ℕ → List ℕ → ℕ → ℕ → ℕ → Bool
+movedIn keys versions from to v = anyBelow (movedB keys versions from to v) places

@@ -5,6 +5,13 @@ use Prim.Native.Nat.{ℕ}
 abbrev pub places : ℕ
 places = 128
 
+-- "for each 8 places" (document 02)
+abbrev pub group : ℕ
+group = 8
+
+abbrev pub groups : ℕ
+groups = 16
+
 -- "384 a place; place i, from 0, starts at 384 times i"
 abbrev pub room : ℕ
 room = 384

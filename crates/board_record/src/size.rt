@@ -3,6 +3,11 @@
 // the table has 128 places
 pub const PLACES: usize = 128;
 
+// places of a group, of which the record keeps the largest version, and the groups
+pub const GROUP: usize = 8;
+
+pub const GROUPS: usize = 16;
+
 // octets of the store that belong to a place: place i, from 0, starts at ROOM times i
 pub const ROOM: usize = 384;
 

@@ -1,12 +1,12 @@
 // Compact (c): 17, 24 if c is above the version. Drops the marks with version at most c; the floor becomes c if that is
-// higher, and what was dropped is off the order.
+// higher, what was dropped is off the order, and the largest version of its group may be lower.
 ghost use mathlib.Core.Path.{_≡_};
 ghost use mathlib.Core.Bool.{false, not, _&&_};
 ghost use lib.ListN.{length};
 ghost use lib.Dec.{eqb, leb};
 ghost use Rattle.board_record.specs.Sizes.{places};
 ghost use Rattle.board_record.specs.Table.{tableOf};
-ghost use Rattle.board_record.specs.Record.{withOrder};
+ghost use Rattle.board_record.specs.Record.{withRows};
 ghost use Rattle.board_rules.specs.OnRecord.{resultOf, compactOn};
 ghost use Rattle.board_remove.specs.Sweep.{keysKept, versionsKept};
 use answers::NOT_A_BOARD;
@@ -14,9 +14,10 @@ use answers::Verdict;
 use answers::refused;
 use board_order::drop_empty;
 use board_record::PLACES;
+use board_record::larger;
 use board_rules::compact_rules;
 use board_rules::is_board;
-use board_rules::larger;
+use board_tops::work_out;
 
 // Whether a place holds a mark with version at most c.
 fn is_dropped(k: u32, v: u64, l: u16, c: u64) -> bool
@@ -60,15 +61,25 @@ pub fn compact(
     version: u64,
     floor: &mut u64,
     order: &mut [u8; 128],
+    tops: &mut [u64; 16],
     store: &[u8],
     c: u64,
 ) -> Verdict
     ensures answer { λ r.
         let before = tableOf (now (keys .entry)) (now (versions .entry)) (now (lengths .entry)) version (now (floor .entry)) in
         let after = tableOf (now (keys .exit)) (now (versions .exit)) (now (lengths .entry)) version (now (floor .exit)) in
-        ⌜ resultOf r (withOrder after (now (order .exit))) ≡ compactOn (withOrder before (now (order .entry))) (now (store .entry)) c ⌝ }
+        ⌜ resultOf r (withRows after (now (order .exit)) (now (tops .exit))) ≡ compactOn (withRows before (now (order .entry)) (now (tops .entry))) (now (store .entry)) c ⌝ }
 {
-    if !is_board(store.len(), keys, versions, lengths, version, *floor, order) {
+    if !is_board(
+        store.len(),
+        keys,
+        versions,
+        lengths,
+        version,
+        *floor,
+        order,
+        tops,
+    ) {
         return refused(NOT_A_BOARD, 0);
     }
     let verdict = compact_rules(c, version);
@@ -78,5 +89,6 @@ pub fn compact(
     let dropped = sweep(keys, versions, lengths, c);
     *floor = larger(*floor, c);
     drop_empty(keys, versions, lengths, version, *floor, order, dropped);
+    work_out(versions, tops, dropped);
     verdict
 }

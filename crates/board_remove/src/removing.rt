@@ -1,8 +1,8 @@
 // Remove (key): 17, 18, 22, 20. The removal stays as a mark: the key keeps its place, with length 0 and the version that
-// the removal bears, and goes to the end of the order.
+// the removal bears, goes to the end of the order, and that version is the largest of its group.
 ghost use mathlib.Core.Path.{_≡_};
 ghost use Rattle.board_record.specs.Table.{tableOf};
-ghost use Rattle.board_record.specs.Record.{withOrder};
+ghost use Rattle.board_record.specs.Record.{withRows};
 ghost use Rattle.board_rules.specs.OnRecord.{resultOf, removeOn};
 use answers::NOT_A_BOARD;
 use answers::Verdict;
@@ -12,6 +12,7 @@ use board_rules::is_board;
 use board_rules::length_at;
 use board_rules::remove_rules;
 use board_search::place_of;
+use board_tops::raise;
 
 pub fn remove(
     keys: &[u32; 128],
@@ -20,15 +21,25 @@ pub fn remove(
     version: &mut u64,
     floor: u64,
     order: &mut [u8; 128],
+    tops: &mut [u64; 16],
     store: &[u8],
     key: u64,
 ) -> Verdict
     ensures answer { λ r.
         let before = tableOf (now (keys .entry)) (now (versions .entry)) (now (lengths .entry)) (now (version .entry)) floor in
         let after = tableOf (now (keys .entry)) (now (versions .exit)) (now (lengths .exit)) (now (version .exit)) floor in
-        ⌜ resultOf r (withOrder after (now (order .exit))) ≡ removeOn (withOrder before (now (order .entry))) (now (store .entry)) key ⌝ }
+        ⌜ resultOf r (withRows after (now (order .exit)) (now (tops .exit))) ≡ removeOn (withRows before (now (order .entry)) (now (tops .entry))) (now (store .entry)) key ⌝ }
 {
-    if !is_board(store.len(), keys, versions, lengths, *version, floor, order) {
+    if !is_board(
+        store.len(),
+        keys,
+        versions,
+        lengths,
+        *version,
+        floor,
+        order,
+        tops,
+    ) {
         return refused(NOT_A_BOARD, 0);
     }
     let at = place_of(keys, key);
@@ -38,6 +49,7 @@ pub fn remove(
     }
     let next = *version + 1;
     move_last(keys, versions, lengths, *version, floor, order, at);
+    raise(versions, tops, at, next);
     versions[at] = next;
     lengths[at] = 0;
     *version = next;

@@ -1,12 +1,12 @@
 // Report (key, ERO, session, PST): 17, 18, the route checks, 19, 20, 21. A key on the table, path or removal, keeps its
 // place; a new key takes the lowest empty place; with none, that of the oldest removal, and the floor rises to that
 // removal's version. The body, which is the ERO after its header, is written at the place's start, and
-// the place goes to the end of the order.
+// the place goes to the end of the order; the new version is the largest of its group.
 ghost use mathlib.Core.Path.{_≡_};
 ghost use Prim.Native.Nat.{_-_};
 ghost use Rattle.objects.specs.Objects.{header};
 ghost use Rattle.board_record.specs.Table.{tableOf};
-ghost use Rattle.board_record.specs.Record.{withOrder};
+ghost use Rattle.board_record.specs.Record.{withRows};
 ghost use Rattle.board_rules.specs.OnRecord.{resultOf, reportOn, reportStoreOn};
 use answers::NOT_A_BOARD;
 use answers::Verdict;
@@ -17,6 +17,7 @@ use board_rules::report_rules;
 use board_rules::start_of;
 use board_search::floor_after;
 use board_search::target;
+use board_tops::raise;
 use objects::HEADER;
 use octets::lay;
 use route::judge;
@@ -36,6 +37,7 @@ pub fn report(
     version: &mut u64,
     floor: &mut u64,
     order: &mut [u8; 128],
+    tops: &mut [u64; 16],
     store: &mut [u8],
     key: u64,
     ero: &[u8],
@@ -45,10 +47,10 @@ pub fn report(
     ensures answer { λ r.
         let before = tableOf (now (keys .entry)) (now (versions .entry)) (now (lengths .entry)) (now (version .entry)) (now (floor .entry)) in
         let after = tableOf (now (keys .exit)) (now (versions .exit)) (now (lengths .exit)) (now (version .exit)) (now (floor .exit)) in
-        ⌜ resultOf r (withOrder after (now (order .exit))) ≡ reportOn (withOrder before (now (order .entry))) (now (store .entry)) key (now (ero .entry)) session pst ⌝ }
+        ⌜ resultOf r (withRows after (now (order .exit)) (now (tops .exit))) ≡ reportOn (withRows before (now (order .entry)) (now (tops .entry))) (now (store .entry)) key (now (ero .entry)) session pst ⌝ }
     ensures octets { λ r.
         let before = tableOf (now (keys .entry)) (now (versions .entry)) (now (lengths .entry)) (now (version .entry)) (now (floor .entry)) in
-        ⌜ now (store .exit) ≡ reportStoreOn (withOrder before (now (order .entry))) (now (store .entry)) key (now (ero .entry)) session pst ⌝ }
+        ⌜ now (store .exit) ≡ reportStoreOn (withRows before (now (order .entry)) (now (tops .entry))) (now (store .entry)) key (now (ero .entry)) session pst ⌝ }
 {
     if !is_board(
         store.len(),
@@ -58,6 +60,7 @@ pub fn report(
         *version,
         *floor,
         order,
+        tops,
     ) {
         return refused(NOT_A_BOARD, 0);
     }
@@ -70,6 +73,7 @@ pub fn report(
     let raised = floor_after(keys, versions, *floor, key, at);
     let next = *version + 1;
     move_last(keys, versions, lengths, *version, *floor, order, at);
+    raise(versions, tops, at, next);
     lay(store, start_of(at), &ero[HEADER..]);
     keys[at] = key as u32;
     versions[at] = next;

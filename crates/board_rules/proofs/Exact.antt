@@ -30,7 +30,7 @@ use Rattle.board_rules.proofs.Verdicts.{Whole, board-whole, whole-board
 abbrev pub NoBoard : Table → ℕ → Type 0
 NoBoard b n = Whole b n → ⊥
 
-no-board : (b : Table) (n : ℕ) → NoBoard b n → isBoard b n ≡ false
+pub no-board : (b : Table) (n : ℕ) → NoBoard b n → isBoard b n ≡ false
 no-board b n f = go (isBoard b n) refl
   where
     go : (x : Bool) → isBoard b n ≡ x → isBoard b n ≡ false

@@ -6,4 +6,5 @@ pub mod Exact
 pub mod Stores
 pub mod Inside
 pub mod Told
+pub mod Moves
 pub mod OnRecord

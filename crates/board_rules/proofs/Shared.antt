@@ -12,13 +12,19 @@ use Rattle.board_record.specs.Table.{Table, lengthAt}
 use Rattle.board_record.specs.Search.{placeOf}
 use Rattle.board_record.specs.Proper.{properB}
 use Rattle.board_record.specs.Order.{inOrder}
-use Rattle.board_record.specs.Record.{withOrder}
+use Rattle.board_record.specs.Tops.{inTops}
+use Rattle.board_record.specs.Record.{withRows}
 use Rattle.board_rules.specs.Rules.{isBoard, lengthIn, hasPath}
 use Rattle.board_rules.specs.OnRecord.{isRecord}
 
-pub board-long : (b : Table) (order : List ℕ) (n : ℕ) (r : Bool) → storeSize ≤ n → r ≡ (properB b && inOrder b order) → r ≡ isRecord (withOrder b order) n
+pub board-long : (b : Table) (order tops : List ℕ) (n : ℕ) (r : Bool) → storeSize ≤ n → r ≡ (properB b && inOrder b order && inTops (b .versions) tops)
+    → r ≡ isRecord (withRows b order tops) n
 unfolding isRecord isBoard
-board-long b order n r l e = rw (le-leb 49152 n l) e
+board-long b order tops n r l e = rw (le-leb 49152 n l) (e ∙ apart (properB b) (inOrder b order) (inTops (b .versions) tops))
+  where
+    apart : (p q t : Bool) → (p && q && t) ≡ (p && (q && t))
+    apart true q t = refl
+    apart false q t = refl
 
 -- the test for a path, on the numbers that the code has
 pub path-test : (b : Table) (k at n : ℕ) → at ≡ placeOf b k → n ≡ lengthIn (b .lengths) at → (ltb at places && not (eqb n 0)) ≡ hasPath b k

@@ -4,4 +4,5 @@ pub mod Remove
 pub mod Compact
 pub mod Body
 pub mod Next
+pub mod Moved
 pub mod OnRecord

@@ -10,7 +10,7 @@ pub use answer::Mark;
 pub use answer::Octets;
 pub use rule::body_rules;
 pub use rule::compact_rules;
-pub use rule::larger;
+pub use rule::moved_rules;
 pub use rule::next_rules;
 pub use rule::remove_rules;
 pub use rule::report_rules;

@@ -3,13 +3,13 @@
 ghost use mathlib.Core.Path.{_≡_};
 ghost use mathlib.Core.Bool.{true, not, _&&_};
 ghost use lib.Dec.{eqb, ltb};
-ghost use Prim.Native.Nat.{max};
 ghost use Rattle.board_record.specs.Sizes.{places};
 ghost use Rattle.board_rules.specs.Report.{reportRules};
 ghost use Rattle.board_rules.specs.Remove.{removeRules};
 ghost use Rattle.board_rules.specs.Compact.{compactRules};
 ghost use Rattle.board_rules.specs.Body.{bodyRules};
 ghost use Rattle.board_rules.specs.Next.{nextRules};
+ghost use Rattle.board_rules.specs.Moved.{movedRules};
 use answers::ALL_PATHS;
 use answers::BODY_TOO_LONG;
 use answers::KEY_OUT_OF_RANGE;
@@ -25,6 +25,7 @@ use board_record::KEY_MOST;
 use board_record::PLACES;
 use board_record::ROOM;
 use board_record::VERSION_MOST;
+use board_record::larger;
 
 // 18, the route checks, 19, 20, 21. `route` is what the route checks answer, n the octets of the body, `target` the place
 // that the report takes, 128 for none. Acceptance carries the number of segments, as that of the route does.
@@ -103,12 +104,6 @@ pub fn body_rules(key: u64, at: usize, n: usize) -> Verdict
     accepted(0)
 }
 
-pub fn larger(s: u64, w: u64) -> u64
-    ensures larger { λ r. ⌜ r ≡ max s w ⌝ }
-{
-    if s < w { w } else { s }
-}
-
 // 24, 23. A mark at exactly the floor is not too old.
 pub fn next_rules(s: u64, w: u64, top: u64, floor: u64) -> Verdict
     ensures first { λ r. ⌜ r ≡ nextRules true s w top floor ⌝ }
@@ -120,6 +115,19 @@ pub fn next_rules(s: u64, w: u64, top: u64, floor: u64) -> Verdict
         return refused(MARK_AHEAD, 0);
     }
     if larger(s, w) < floor {
+        return refused(MARK_TOO_OLD, 0);
+    }
+    accepted(0)
+}
+
+// 24, 23. A version at exactly the floor is not too old.
+pub fn moved_rules(v: u64, top: u64, floor: u64) -> Verdict
+    ensures first { λ r. ⌜ r ≡ movedRules true v top floor ⌝ }
+{
+    if top < v {
+        return refused(MARK_AHEAD, 0);
+    }
+    if v < floor {
         return refused(MARK_TOO_OLD, 0);
     }
     accepted(0)

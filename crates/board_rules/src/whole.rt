@@ -4,7 +4,7 @@ ghost use mathlib.Core.Path.{_≡_};
 ghost use Prim.Native.Nat.{_*_, _<_};
 ghost use Rattle.board_record.specs.Sizes.{places, room};
 ghost use Rattle.board_record.specs.Table.{tableOf};
-ghost use Rattle.board_record.specs.Record.{withOrder};
+ghost use Rattle.board_record.specs.Record.{withRows};
 ghost use Rattle.board_rules.specs.Rules.{lengthIn};
 ghost use Rattle.board_rules.specs.OnRecord.{isRecord};
 use board_record::PLACES;
@@ -21,15 +21,16 @@ pub fn is_board<'a>(
     top: u64,
     floor: u64,
     order: &'a [u8; 128],
+    tops: &'a [u64; 16],
 ) -> bool
     ensures board { λ r.
         let b = tableOf (now (keys .entry)) (now (versions .entry)) (now (lengths .entry)) top floor in
-        ⌜ r ≡ isRecord (withOrder b (now (order .entry))) n ⌝ }
+        ⌜ r ≡ isRecord (withRows b (now (order .entry)) (now (tops .entry))) n ⌝ }
 {
     if n < STORE {
         return false;
     }
-    board_proper::is_proper(keys, versions, lengths, top, floor, order)
+    board_proper::is_proper(keys, versions, lengths, top, floor, order, tops)
 }
 
 // Place i, from 0, starts at 384 times i.

@@ -3,3 +3,4 @@ pub mod Tracks
 pub mod Targets
 pub mod Along
 pub mod Determined
+pub mod Ranges

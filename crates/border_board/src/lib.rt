@@ -2,7 +2,7 @@
 // A refusal writes nothing.
 ghost use mathlib.Core.Path.{_≡_};
 ghost use Rattle.board_record.specs.Table.{tableOf};
-ghost use Rattle.board_record.specs.Record.{withOrder, emptyBoard};
+ghost use Rattle.board_record.specs.Record.{withRows, emptyBoard};
 ghost use Rattle.board_rules.specs.OnRecord.{removeOn, compactOn};
 ghost use Rattle.report_call.specs.Reported.{reportForOn, reportStoreForOn};
 ghost use Rattle.border_records.specs.Records.{sessionIn, verdictOut};
@@ -17,10 +17,11 @@ pub fn empty(
     version: &mut u64,
     floor: &mut u64,
     order: &mut [u8; 128],
+    tops: &mut [u64; 16],
 )
     ensures empty { λ _.
         let after = tableOf (now (keys .exit)) (now (versions .exit)) (now (lengths .exit)) (now (version .exit)) (now (floor .exit)) in
-        ⌜ withOrder after (now (order .exit)) ≡ emptyBoard ⌝ }
+        ⌜ withRows after (now (order .exit)) (now (tops .exit)) ≡ emptyBoard ⌝ }
 {
     *keys = [0; 128];
     *versions = [0; 128];
@@ -28,6 +29,7 @@ pub fn empty(
     *version = 0;
     *floor = 0;
     *order = [0; 128];
+    *tops = [0; 16];
 }
 
 // Reports a path.
@@ -38,6 +40,7 @@ pub fn report(
     version: &mut u64,
     floor: &mut u64,
     order: &mut [u8; 128],
+    tops: &mut [u64; 16],
     store: &mut [u8],
     key: u64,
     ero: &[u8],
@@ -46,14 +49,14 @@ pub fn report(
     addresses: &[u8],
 ) -> VerdictRecord
     ensures verdict { λ r.
-        let before = withOrder (tableOf (now (keys .entry)) (now (versions .entry)) (now (lengths .entry)) (now (version .entry)) (now (floor .entry))) (now (order .entry)) in
+        let before = withRows (tableOf (now (keys .entry)) (now (versions .entry)) (now (lengths .entry)) (now (version .entry)) (now (floor .entry))) (now (order .entry)) (now (tops .entry)) in
         ⌜ r ≡ verdictOut (reportForOn before (now (store .entry)) key (now (ero .entry)) (sessionIn session) pst (now (addresses .entry)) .verdict) ⌝ }
     ensures board { λ _.
-        let before = withOrder (tableOf (now (keys .entry)) (now (versions .entry)) (now (lengths .entry)) (now (version .entry)) (now (floor .entry))) (now (order .entry)) in
-        let after = withOrder (tableOf (now (keys .exit)) (now (versions .exit)) (now (lengths .exit)) (now (version .exit)) (now (floor .exit))) (now (order .exit)) in
+        let before = withRows (tableOf (now (keys .entry)) (now (versions .entry)) (now (lengths .entry)) (now (version .entry)) (now (floor .entry))) (now (order .entry)) (now (tops .entry)) in
+        let after = withRows (tableOf (now (keys .exit)) (now (versions .exit)) (now (lengths .exit)) (now (version .exit)) (now (floor .exit))) (now (order .exit)) (now (tops .exit)) in
         ⌜ after ≡ reportForOn before (now (store .entry)) key (now (ero .entry)) (sessionIn session) pst (now (addresses .entry)) .board ⌝ }
     ensures octets { λ _.
-        let before = withOrder (tableOf (now (keys .entry)) (now (versions .entry)) (now (lengths .entry)) (now (version .entry)) (now (floor .entry))) (now (order .entry)) in
+        let before = withRows (tableOf (now (keys .entry)) (now (versions .entry)) (now (lengths .entry)) (now (version .entry)) (now (floor .entry))) (now (order .entry)) (now (tops .entry)) in
         ⌜ now (store .exit) ≡ reportStoreForOn before (now (store .entry)) key (now (ero .entry)) (sessionIn session) pst (now (addresses .entry)) ⌝ }
 {
     let agreed = border_records::session_in(session);
@@ -64,6 +67,7 @@ pub fn report(
         version,
         floor,
         order,
+        tops,
         store,
         key,
         ero,
@@ -82,18 +86,29 @@ pub fn remove(
     version: &mut u64,
     floor: u64,
     order: &mut [u8; 128],
+    tops: &mut [u64; 16],
     store: &[u8],
     key: u64,
 ) -> VerdictRecord
     ensures verdict { λ r.
-        let before = withOrder (tableOf (now (keys .entry)) (now (versions .entry)) (now (lengths .entry)) (now (version .entry)) floor) (now (order .entry)) in
+        let before = withRows (tableOf (now (keys .entry)) (now (versions .entry)) (now (lengths .entry)) (now (version .entry)) floor) (now (order .entry)) (now (tops .entry)) in
         ⌜ r ≡ verdictOut (removeOn before (now (store .entry)) key .verdict) ⌝ }
     ensures board { λ _.
-        let before = withOrder (tableOf (now (keys .entry)) (now (versions .entry)) (now (lengths .entry)) (now (version .entry)) floor) (now (order .entry)) in
-        let after = withOrder (tableOf (now (keys .entry)) (now (versions .exit)) (now (lengths .exit)) (now (version .exit)) floor) (now (order .exit)) in
+        let before = withRows (tableOf (now (keys .entry)) (now (versions .entry)) (now (lengths .entry)) (now (version .entry)) floor) (now (order .entry)) (now (tops .entry)) in
+        let after = withRows (tableOf (now (keys .entry)) (now (versions .exit)) (now (lengths .exit)) (now (version .exit)) floor) (now (order .exit)) (now (tops .exit)) in
         ⌜ after ≡ removeOn before (now (store .entry)) key .board ⌝ }
 {
-    let v = board_remove::remove(keys, versions, lengths, version, floor, order, store, key);
+    let v = board_remove::remove(
+        keys,
+        versions,
+        lengths,
+        version,
+        floor,
+        order,
+        tops,
+        store,
+        key,
+    );
     border_records::verdict_out(v)
 }
 
@@ -105,17 +120,28 @@ pub fn compact(
     version: u64,
     floor: &mut u64,
     order: &mut [u8; 128],
+    tops: &mut [u64; 16],
     store: &[u8],
     c: u64,
 ) -> VerdictRecord
     ensures verdict { λ r.
-        let before = withOrder (tableOf (now (keys .entry)) (now (versions .entry)) (now (lengths .entry)) version (now (floor .entry))) (now (order .entry)) in
+        let before = withRows (tableOf (now (keys .entry)) (now (versions .entry)) (now (lengths .entry)) version (now (floor .entry))) (now (order .entry)) (now (tops .entry)) in
         ⌜ r ≡ verdictOut (compactOn before (now (store .entry)) c .verdict) ⌝ }
     ensures board { λ _.
-        let before = withOrder (tableOf (now (keys .entry)) (now (versions .entry)) (now (lengths .entry)) version (now (floor .entry))) (now (order .entry)) in
-        let after = withOrder (tableOf (now (keys .exit)) (now (versions .exit)) (now (lengths .entry)) version (now (floor .exit))) (now (order .exit)) in
+        let before = withRows (tableOf (now (keys .entry)) (now (versions .entry)) (now (lengths .entry)) version (now (floor .entry))) (now (order .entry)) (now (tops .entry)) in
+        let after = withRows (tableOf (now (keys .exit)) (now (versions .exit)) (now (lengths .entry)) version (now (floor .exit))) (now (order .exit)) (now (tops .exit)) in
         ⌜ after ≡ compactOn before (now (store .entry)) c .board ⌝ }
 {
-    let v = board_remove::compact(keys, versions, lengths, version, floor, order, store, c);
+    let v = board_remove::compact(
+        keys,
+        versions,
+        lengths,
+        version,
+        floor,
+        order,
+        tops,
+        store,
+        c,
+    );
     border_records::verdict_out(v)
 }

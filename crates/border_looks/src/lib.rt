@@ -3,12 +3,14 @@
 ghost use mathlib.Core.Path.{_≡_};
 ghost use Rattle.board_record.specs.Table.{tableOf};
 ghost use Rattle.octets.specs.Octets.{part};
-ghost use Rattle.board_record.specs.Record.{withOrder};
-ghost use Rattle.board_rules.specs.OnRecord.{bodyOn, nextOn};
+ghost use Rattle.board_record.specs.Record.{withRows};
+ghost use Rattle.board_rules.specs.OnRecord.{bodyOn, nextOn, movedOn};
 ghost use Rattle.border_answers.specs.Handing.{changeOut};
+ghost use Rattle.border_records.specs.Records.{verdictOut};
 ghost use Rattle.border_looks.specs.Looks.{partOut, freshOut};
 use border_answers::ChangeRecord;
 use border_answers::change_out;
+use border_records::VerdictRecord;
 
 // Where a path's octets lie in the store; a refusal has none.
 #[repr(C)]
@@ -33,14 +35,15 @@ pub fn body<'a>(
     version: u64,
     floor: u64,
     order: &'a [u8; 128],
+    tops: &'a [u64; 16],
     store: &[u8],
     key: u64,
 ) -> PartRecord
     ensures part { λ r.
-        let b = withOrder (tableOf (now (keys .entry)) (now (versions .entry)) (now (lengths .entry)) version floor) (now (order .entry)) in
+        let b = withRows (tableOf (now (keys .entry)) (now (versions .entry)) (now (lengths .entry)) version floor) (now (order .entry)) (now (tops .entry)) in
         ⌜ r ≡ partOut b (now (store .entry)) key ⌝ }
     ensures octets { λ r.
-        let b = withOrder (tableOf (now (keys .entry)) (now (versions .entry)) (now (lengths .entry)) version floor) (now (order .entry)) in
+        let b = withRows (tableOf (now (keys .entry)) (now (versions .entry)) (now (lengths .entry)) version floor) (now (order .entry)) (now (tops .entry)) in
         ⌜ part (now (store .entry)) (r .start) (r .length) ≡ bodyOn b (now (store .entry)) key ⌝ }
 {
     let verdict = board_look::body_number(
@@ -50,6 +53,7 @@ pub fn body<'a>(
         version,
         floor,
         order,
+        tops,
         store,
         key,
     );
@@ -76,16 +80,62 @@ pub fn next<'a>(
     version: u64,
     floor: u64,
     order: &'a [u8; 128],
+    tops: &'a [u64; 16],
     store: &[u8],
     s: u64,
     w: u64,
 ) -> ChangeRecord
     ensures next { λ r.
-        let b = withOrder (tableOf (now (keys .entry)) (now (versions .entry)) (now (lengths .entry)) version floor) (now (order .entry)) in
+        let b = withRows (tableOf (now (keys .entry)) (now (versions .entry)) (now (lengths .entry)) version floor) (now (order .entry)) (now (tops .entry)) in
         ⌜ r ≡ changeOut (nextOn b (now (store .entry)) s w) ⌝ }
 {
-    let handed = board_look::next(keys, versions, lengths, version, floor, order, store, s, w);
+    let handed = board_look::next(
+        keys,
+        versions,
+        lengths,
+        version,
+        floor,
+        order,
+        tops,
+        store,
+        s,
+        w,
+    );
     change_out(handed)
+}
+
+// Whether a key from `from` to `to` changed after version v: the count is 1 for yes and 0 for no.
+pub fn moved<'a>(
+    keys: &'a [u32; 128],
+    versions: &'a [u64; 128],
+    lengths: &'a [u16; 128],
+    version: u64,
+    floor: u64,
+    order: &'a [u8; 128],
+    tops: &'a [u64; 16],
+    store: &[u8],
+    from: u64,
+    to: u64,
+    v: u64,
+) -> VerdictRecord
+    ensures moved { λ r.
+        let b = withRows (tableOf (now (keys .entry)) (now (versions .entry)) (now (lengths .entry)) version floor) (now (order .entry)) (now (tops .entry)) in
+        ⌜ r ≡ verdictOut (movedOn b (now (store .entry)) from to v) ⌝ }
+{
+    let told = board_look::moved(
+        keys,
+        versions,
+        lengths,
+        version,
+        floor,
+        order,
+        tops,
+        store,
+        from,
+        to,
+        v,
+    );
+    border_records::verdict_out(told)
 }
 
 // The mark of a follower that begins, and holds nothing, on a board of this version.

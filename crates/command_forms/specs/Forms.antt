@@ -39,6 +39,7 @@ rows =
     record { name = ascii "chain"; verb = v.Chain } ∷
     record { name = ascii "positions"; verb = v.Positions } ∷
     record { name = ascii "addresses"; verb = v.Addresses } ∷
+    record { name = ascii "moved"; verb = v.Moved } ∷
     []
 
 -- The command of the first row that has this name; `Bad` where none has it.
@@ -119,6 +120,7 @@ kindsOf v.Board = []
 kindsOf v.Chain = []
 kindsOf v.Positions = number ∷ number ∷ []
 kindsOf v.Addresses = octets ∷ []
+kindsOf v.Moved = number ∷ number ∷ number ∷ []
 
 -- Words i, i + 1, .. are of these kinds.
 abbrev pub fitFrom : List Kind → List ℕ → ℕ → Bool

@@ -33,6 +33,7 @@ pub enum Verb {
     Chain,
     Positions,
     Addresses,
+    Moved,
 }
 
 pub const ERO: [u8; 3] = *b"ero";
@@ -41,7 +42,7 @@ pub const RRO: [u8; 3] = *b"rro";
 
 // The letters: n a number, 1 one of 0 or 1, 8 of 0 to 255, 6 of 0 to 65,535, z a size, o octets, e `ero` or `rro`,
 // s a SID, a a NAI, t a structure.
-pub const ROWS: [u8; 177] = *b"\
+pub const ROWS: [u8; 187] = *b"\
 pcc o\n\
 pce o\n\
 ero no\n\
@@ -61,7 +62,8 @@ mark\n\
 board\n\
 chain\n\
 positions nn\n\
-addresses o";
+addresses o\n\
+moved nnn";
 
 // The place of the row that has this name, from 0; behind the last where none has it.
 pub fn place_named(w: &[u8]) -> usize
@@ -105,6 +107,7 @@ pub fn verb_at(place: usize) -> Verb
         17 => Verb::Chain,
         18 => Verb::Positions,
         19 => Verb::Addresses,
+        20 => Verb::Moved,
         _ => Verb::Bad,
     }
 }

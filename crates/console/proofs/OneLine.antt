@@ -21,7 +21,7 @@ use Rattle.writer.specs.declared.state.Written.{Written}
 use Rattle.route.specs.declared.picking.Picked.{Picked}
 use Rattle.board_rules.specs.declared.answer.Handed.{Handed}
 use Rattle.board_rules.specs.declared.answer.Handed.the-variants.{Refused, Path, Removed, Level}
-use Rattle.board_by_value.specs.ByValue.{bodyNumberOn, bodyOn, nextOn, freshMarkOn}
+use Rattle.board_by_value.specs.ByValue.{bodyNumberOn, bodyOn, nextOn, movedOn, freshMarkOn}
 use Rattle.printing.specs.Text.{spell, decimalOf, glyphOf, hexOf, octetsText, furtherText, listText}
 use Rattle.words.specs.Words.{newline, space, comma, ascii}
 use Rattle.console_lines.specs.Lines.{lineOf, acceptance, refusalLine, badLine, doneLine, oneLine, twoLine, octetsLine, listLine}
@@ -34,7 +34,7 @@ use Rattle.console_state.specs.Standing.{Console}
 use Rattle.console_state.specs.Answers.{answerLine, countLine, plainLine}
 use Rattle.console_routes.specs.Routing.{openIn, routeLine, pickedLine, segmentAnswer}
 use Rattle.console_writer.specs.Composing.{placeLine, finishLine}
-use Rattle.console_board.specs.Boarding.{bodyLine, handedLine, nextLine, chainOf}
+use Rattle.console_board.specs.Boarding.{bodyLine, handedLine, nextLine, movedLine, chainOf}
 use Rattle.console_turn.specs.Turns.{turnBy, turnOf}
 
 -- Octets above 31, none of them a newline.
@@ -234,7 +234,7 @@ handed-one store (Level n) = accepted-one (ascii "level" ∷ decimalOf n ∷ [])
 -- ## Turns
 
 by-verb-one : (w : Verb) → (w ≡ v.Skip → ⊥) → (k : Console) (c : Command) (line : List ℕ) (n : ℕ) → OneLine (turnBy w k c line n .answer)
-unfolding routeLine segmentAnswer finishLine bodyLine nextLine
+unfolding routeLine segmentAnswer finishLine bodyLine nextLine movedLine
 by-verb-one v.Skip h k c line n = absurd (h refl)
 by-verb-one v.Bad h k c line n = bad-one n
 by-verb-one v.Pcc h k c line n = opened-one (openIn (k .positions) line)
@@ -257,6 +257,8 @@ by-verb-one v.Board h k c line n = two-one (k .board .version) (k .board .floor)
 by-verb-one v.Chain h k c line n = list-one (chainOf (k .board .order))
 by-verb-one v.Positions h k c line n = accepted-one [] all-none
 by-verb-one v.Addresses h k c line n = accepted-one [] all-none
+by-verb-one v.Moved h k c line n =
+    let w = movedOn (k .board) (k .store) (c .one) (c .two) (c .three) in answer-one w (oneLine (w .count)) (number-one (w .count))
 
 pub turn-one : (k : Console) (line : List ℕ) (n : ℕ) → (commandOf line .verb ≡ v.Skip → ⊥) → OneLine (turnOf k line n .answer)
 unfolding turnOf

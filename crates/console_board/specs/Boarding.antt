@@ -10,9 +10,9 @@ use Rattle.board_record.specs.Sizes.{room}
 use Rattle.board_record.specs.Order.{named}
 use Rattle.board_rules.specs.declared.answer.Handed.{Handed}
 use Rattle.board_rules.specs.declared.answer.Handed.the-variants.{Refused, Path, Removed, Level}
-use Rattle.board_by_value.specs.ByValue.{reportOn, reportStoreOn, removeOn, compactOn, bodyNumberOn, bodyOn, nextOn, freshMarkOn}
+use Rattle.board_by_value.specs.ByValue.{reportOn, reportStoreOn, removeOn, compactOn, bodyNumberOn, bodyOn, nextOn, movedOn, freshMarkOn}
 use Rattle.command.specs.declared.Command.{Command}
-use Rattle.console_lines.specs.Lines.{refusalLine, octetsLine, listLine, pathLine, removedLine, levelLine, twoLine}
+use Rattle.console_lines.specs.Lines.{refusalLine, oneLine, octetsLine, listLine, pathLine, removedLine, levelLine, twoLine}
 use Rattle.console_state.specs.Answers.{answerLine, countLine, plainLine}
 use Rattle.console_state.specs.Spelled.{octetsIn}
 
@@ -60,6 +60,11 @@ handedLine store (Level version) = levelLine version
 -- `next S W`: "what a follower with mark (S, W) is handed"
 unfoldable pub nextLine : Board → List ℕ → Command → List ℕ
 nextLine b store c = handedLine store (nextOn b store (c .one) (c .two))
+
+-- `moved A B V`; `0 0 1` or `0 0 0`
+unfoldable pub movedLine : Board → List ℕ → Command → List ℕ
+movedLine b store c =
+    answerLine (movedOn b store (c .one) (c .two) (c .three)) (oneLine (movedOn b store (c .one) (c .two) (c .three) .count))
 
 -- `mark`: "a fresh mark"; `0 0 S W`
 abbrev pub markLine : Board → List ℕ

@@ -1,4 +1,4 @@
-// The console's commands about the board: report, remove, compact, body, next, mark, board, chain (console.md). `room`
+// The console's commands about the board: report, remove, compact, body, next, moved, mark, board, chain (console.md). `room`
 // takes the octets that the line spells.
 mod change;
 mod look;
@@ -10,5 +10,6 @@ pub use change::reported;
 pub use look::body;
 pub use look::chain;
 pub use look::mark;
+pub use look::moved;
 pub use look::next;
 pub use look::numbers;

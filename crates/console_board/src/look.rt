@@ -1,11 +1,11 @@
-// body, next, mark, board, chain: the line.
+// body, next, moved, mark, board, chain: the line.
 ghost use Prim.Native.Nat.{_+_, _*_, _≤_};
 ghost use mathlib.Core.Path.{_≡_};
 ghost use lib.ListN.{length, take};
 ghost use Rattle.octets.specs.Octets.{part};
 ghost use Rattle.board_record.specs.Sizes.{places};
 ghost use Rattle.printing.specs.Text.{Behind};
-ghost use Rattle.console_board.specs.Boarding.{bodyLine, nextLine, markLine, boardLine, chainOf, chainLine};
+ghost use Rattle.console_board.specs.Boarding.{bodyLine, nextLine, movedLine, markLine, boardLine, chainOf, chainLine};
 use board_record::Board;
 use board_rules::Handed;
 use command::Command;
@@ -39,6 +39,18 @@ pub fn next(b: Board, c: Command, store: &[u8], out: &mut [u8]) -> usize
         Handed::Removed(change) => console_lines::removed(out, change.key, change.version),
         Handed::Level(version) => console_lines::level(out, version),
     }
+}
+
+// `moved A B V`
+pub fn moved(b: Board, c: Command, store: &[u8], out: &mut [u8]) -> usize
+    requires { ⌜ 128 ≤ length (now out) ⌝ }
+    ensures told { λ r. ⌜ Behind (now (out .entry)) (now (out .exit)) 0 r (movedLine b (now (store .entry)) c) ⌝ }
+{
+    let v = board_by_value::moved(b, store, c.one, c.two, c.three);
+    if v.number != 0 {
+        return console_lines::refusal(out, v.number, v.place);
+    }
+    console_lines::one(out, v.count as u64)
 }
 
 // The octets that a place and a length name.

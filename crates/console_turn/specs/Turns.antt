@@ -17,7 +17,7 @@ use Rattle.console_state.specs.Standing.{Console, consoleOf}
 use Rattle.console_state.specs.Spelled.{octetsIn}
 use Rattle.console_routes.specs.Routing.{openIn, routeLine, segmentAnswer}
 use Rattle.console_writer.specs.Composing.{Composing, beginTurn, addTurn, finishTurn, lentLine}
-use Rattle.console_board.specs.Boarding.{Boarding, reportTurn, removeTurn, compactTurn, bodyLine, nextLine, markLine, boardLine, chainLine}
+use Rattle.console_board.specs.Boarding.{Boarding, reportTurn, removeTurn, compactTurn, bodyLine, nextLine, movedLine, markLine, boardLine, chainLine}
 
 -- the console after a line, and the line that answers it
 pub record Turned : Type 0 where
@@ -138,6 +138,8 @@ turnBy v.Chain k c line n = stays k (chainLine (k .board))
 turnBy v.Positions k c line n = positionsTurn k c
 -- `addresses OCTETS`: "sets the head end's addresses"
 turnBy v.Addresses k c line n = addressesTurn k line
+-- `moved A B V`
+turnBy v.Moved k c line n = stays k (movedLine (k .board) (k .store) c)
 
 -- What a line does, the n-th of all.
 unfoldable pub turnOf : Console → List ℕ → ℕ → Turned

@@ -97,5 +97,6 @@ pub fn answered(
             let n = console_routes::addressed(line, memory);
             ended(with_given(state, n), console_lines::done(out))
         }
+        Verb::Moved => ended(state, console_board::moved(b, c, store, out)),
     }
 }

@@ -11,3 +11,4 @@ pub mod Owed
 pub mod Theorem
 pub mod Asks
 pub mod Bodies
+pub mod Moved

@@ -4,3 +4,4 @@ pub mod Follower
 pub mod Heard
 pub mod Run
 pub mod Promise
+pub mod Moved

@@ -1,12 +1,12 @@
 -- A call on the record of a proper table answers as on the table, and leaves the record of what it leaves there. So by the calls before it the record is always that of the
--- table, which stays proper, and its order is sound. Assumes nothing.
+-- table, which stays proper, and its rows are sound. Assumes nothing.
 use Prim.Native.Nat.{ℕ}
 use mathlib.Core.Path.{_≡_, refl, sym, ap, _∙_}
 use mathlib.Core.Bool.{Bool, true, false, cond}
 use mathlib.Core.List.{List, [], _∷_}
 use mathlib.Core.Logic.{_⊎_, inl, inr, ⊎-elim}
 use native.Mathlib.Omega.{arith}
-use Prim.Native.Nat.{_<_, _≤_}
+use Prim.Native.Nat.{_+_, _*_, _<_, _≤_}
 use lib.ListN.{length, getD, replicate, length-replicate, getD-replicate}
 use Rattle.answers.specs.declared.verdict.Verdict.{Verdict}
 use Rattle.session.specs.declared.Session.{Session}
@@ -15,9 +15,11 @@ use Rattle.board_record.specs.Sizes.{places}
 use Rattle.board_record.specs.Table.{Table, emptyTable, Sized}
 use Rattle.board_record.specs.Proper.{Proper}
 use Rattle.board_record.specs.Order.{placeOn, Chained, orderOf}
-use Rattle.board_record.specs.Record.{tableIn, withOrder, recordOf, orderly, emptyBoard}
+use Rattle.board_record.specs.Tops.{topsOf}
+use Rattle.board_record.specs.Record.{tableIn, withRows, recordOf, tidy, emptyBoard}
 use Rattle.board_record.proofs.Logic.{same?}
 use Rattle.board_record.proofs.Proper.{empty-sized, empty-proper}
+use Rattle.board_record.proofs.Tops.{top-one, tops-are, tops-in}
 use Rattle.board_order.proofs.Names.{named-none}
 use Rattle.board_order.proofs.Chains.{proper-apart, in-order, order-is}
 use Rattle.answers.specs.Numbers.{notUsable}
@@ -31,11 +33,12 @@ use Rattle.board_rules.specs.Remove.{removeAnswer}
 use Rattle.board_rules.specs.Compact.{compactAnswer}
 use Rattle.board_rules.specs.Body.{bodyNumber, bodyOf}
 use Rattle.board_rules.specs.Next.{nextAnswer}
-use Rattle.board_rules.specs.OnRecord.{Result, resultOf, resultOn, reportOn, reportStoreOn, removeOn, compactOn, bodyNumberOn, bodyOn, nextOn}
+use Rattle.board_rules.specs.Moved.{movedAnswer}
+use Rattle.board_rules.specs.OnRecord.{Result, resultOf, resultOn, reportOn, reportStoreOn, removeOn, compactOn, bodyNumberOn, bodyOn, nextOn, movedOn}
 use Rattle.board_rules.proofs.Verdicts.{kept-old, kept-new}
 use Rattle.board_rules.proofs.Keeps.{report-proper, remove-proper, compact-proper, report-refused-keeps, remove-refused-keeps, compact-refused-keeps}
 use Rattle.board_rules.proofs.Stores.{report-sized, remove-sized, compact-sized}
-use Rattle.follow_record.specs.Calls.{Call, report, remove, compact, body, next, fresh, Reply, verdict, octets, handed, mark}
+use Rattle.follow_record.specs.Calls.{Call, report, remove, compact, body, next, moved, fresh, Reply, verdict, octets, handed, mark}
 use Rattle.follow_record.specs.Calls.{OnTable, replyOf, leftOf, repliesOf, OnRecord, replyOn, leftOn, repliesOn, AnswersAsTheTable}
 
 -- ---- the empty record is that of the empty table
@@ -54,13 +57,21 @@ empty-chained =
       rest = λ i l h. zeros i l;
     }
 
+empty-tops : replicate {A = ℕ} 16 0 ≡ topsOf (replicate 128 0)
+empty-tops =
+    tops-are (replicate 128 0) (replicate 16 0) (length-replicate {A = ℕ} 16 0)
+    (λ g l. top-one (replicate 128 0) g (getD {A = ℕ} (replicate 16 0) g 0)
+    (record { most = λ j k. omega (arith, zeros (8 * g + j) (omega arith)); is = inl (getD-replicate 16 g 0 0 l) }))
+
 pub empty-record : emptyBoard ≡ recordOf emptyTable
-empty-record = ap (withOrder emptyTable) (order-is emptyTable (replicate 128 0) (length-replicate {A = ℕ} 128 0) empty-chained)
+empty-record =
+    ap (λ (o : List ℕ). withRows emptyTable o (replicate 16 0)) (order-is emptyTable (replicate 128 0) (length-replicate {A = ℕ} 128 0) empty-chained)
+    ∙ ap (withRows emptyTable (orderOf emptyTable)) empty-tops
 
 -- ---- one call
 module _ (t : Table) (p : Proper t) where
-  sound : orderly (recordOf t) ≡ true
-  sound = in-order t (proper-apart t p)
+  sound : tidy (recordOf t) ≡ true
+  sound = rw (in-order t (proper-apart t p), tops-in (t .versions))
 
   result-is : (o : Outcome) → ((o .verdict .number ≡ 0 → ⊥) → o .table ≡ t) → resultOn (recordOf t) o ≡ resultOf (o .verdict) (recordOf (o .table))
   unfolding resultOn
@@ -108,6 +119,10 @@ module _ (t : Table) (p : Proper t) where
   unfolding nextOn
   next-is store s w = rw sound
 
+  pub moved-is : (store : List ℕ) (from to v : ℕ) → movedOn (recordOf t) store from to v ≡ movedAnswer t store from to v
+  unfolding movedOn
+  moved-is store from to v = rw sound
+
 -- ---- what a report leaves
 pub for-proper : (t : Table) → Sized t → Proper t → (store : List ℕ) (k : ℕ) (ero : List ℕ) (session : Session) (pst : ℕ) (addresses : List ℕ) →
     let o = reportFor t store k ero session pst addresses in Sized (o .table) × Proper (o .table)
@@ -132,6 +147,7 @@ reply-same x p (remove k) = ap (λ (a : Result). verdict (a .verdict)) (remove-i
 reply-same x p (compact c) = ap (λ (a : Result). verdict (a .verdict)) (compact-is (x .table) p (x .store) c)
 reply-same x p (body k) = rw (number-is (x .table) p (x .store) k, body-is (x .table) p (x .store) k)
 reply-same x p (next s w) = ap handed (next-is (x .table) p (x .store) s w)
+reply-same x p (moved a b v) = ap verdict (moved-is (x .table) p (x .store) a b v)
 reply-same x p fresh = refl
 
 left-same : (x : OnTable) → Proper (x .table) → (c : Call) → leftOn (recorded x) c ≡ recorded (leftOf x c)
@@ -142,6 +158,7 @@ left-same x p (remove k) = ap (λ (a : Result). record { board = a .board; store
 left-same x p (compact c) = ap (λ (a : Result). record { board = a .board; store = x .store }) (compact-is (x .table) p (x .store) c)
 left-same x p (body k) = refl
 left-same x p (next s w) = refl
+left-same x p (moved a b v) = refl
 left-same x p fresh = refl
 
 left-proper : (x : OnTable) → Sized (x .table) → Proper (x .table) → (c : Call) → Sized (leftOf x c .table) × Proper (leftOf x c .table)
@@ -151,6 +168,7 @@ left-proper x s p (remove k) = (remove-sized (x .table) (x .store) k s, remove-p
 left-proper x s p (compact c) = (compact-sized (x .table) (x .store) c s, compact-proper (x .table) (x .store) c p)
 left-proper x s p (body k) = (s, p)
 left-proper x s p (next a w) = (s, p)
+left-proper x s p (moved a b v) = (s, p)
 left-proper x s p fresh = (s, p)
 
 pub replies-same : (x : OnTable) → Sized (x .table) → Proper (x .table) → (calls : List Call) → repliesOn (recorded x) calls ≡ repliesOf x calls

@@ -12,17 +12,21 @@ use Rattle.board_record.specs.Proper.{Proper}
 use Rattle.board_record.specs.Record.{tableIn, recordOf, emptyBoard}
 use Rattle.board_record.proofs.Proper.{empty-sized, empty-proper}
 use Rattle.board_rules.specs.Report.{bodyIn}
-use Rattle.board_rules.specs.OnRecord.{Result}
+use Rattle.answers.specs.declared.verdict.Verdict.{Verdict}
+use Rattle.board_rules.specs.OnRecord.{Result, movedOn}
 use Rattle.board_rules.proofs.Keeps.{remove-proper, compact-proper}
 use Rattle.board_rules.proofs.Stores.{remove-sized, compact-sized}
 use Rattle.follow.specs.Story.{sets, clears, Story, beginning, begun, did, compactedTo}
 use Rattle.follow.specs.Follower.{Follower, fresh}
 use Rattle.follow.specs.Heard.{Heard, heardIn, does, cutOff}
 use Rattle.follow.specs.Run.{World, Act, report, remove, compact, begin, ask, askCut, answerTo, following, step, run, start, allFresh}
-use Rattle.follow.specs.Promise.{Answered}
+use Rattle.follow.specs.Promise.{Answered, Ready}
+use Rattle.follow.specs.Moved.{MovedSaid}
 use Rattle.follow.proofs.Theorem.{from-the-empty-start}
+use Rattle.follow.proofs.Moved.{moved-is-the-storys}
 use Rattle.follow_record.specs.Followers.{WorldOn, toldOn, answerToOn, followingOn, stepOn, runOn, startOn, NoFollowerOfARecordIsFooled}
-use Rattle.follow_record.proofs.Same.{empty-record, report-for-is, store-for-is, for-proper, remove-is, compact-is, next-is}
+use Rattle.follow_record.specs.Moved.{MovedOnARecordIsTheStorys}
+use Rattle.follow_record.proofs.Same.{empty-record, report-for-is, store-for-is, for-proper, remove-is, compact-is, next-is, moved-is}
 
 abbrev recordedWorld : World → WorldOn
 recordedWorld x = record { board = recordOf (x .table); store = x .store; story = x .story; followers = x .followers }
@@ -76,3 +80,14 @@ no-follower-of-a-record-is-fooled store e acts n =
     subst (λ (y : WorldOn). Answered (y .story) (y .followers n) (answerToOn y n)) (sym q)
     (subst (λ (h : Heard). Answered (run x acts .story) (run x acts .followers n) h) (sym (answer-same (run x acts) (run-proper x empty-sized empty-proper acts) n))
     (from-the-empty-start store e acts n))
+
+-- and whoever asks a record whether a range moved is told by the story
+pub moved-on-a-record-is-the-storys : MovedOnARecordIsTheStorys
+moved-on-a-record-is-the-storys store e acts from to v =
+    let x = start emptyTable store (allFresh emptyTable) in
+    let y = run x acts in
+    let g : Ready emptyTable store = record { sized = empty-sized; proper = empty-proper; enough = e } in
+    let q : runOn (startOn store) acts ≡ recordedWorld y = ap (λ (z : WorldOn). runOn z acts) (start-same store) ∙ run-same x empty-sized empty-proper acts in
+    subst (λ (z : WorldOn). MovedSaid (z .story) from to v (movedOn (z .board) (z .store) from to v)) (sym q)
+    (subst (λ (a : Verdict). MovedSaid (y .story) from to v a) (sym (moved-is (y .table) (run-proper x empty-sized empty-proper acts) (y .store) from to v))
+    (moved-is-the-storys emptyTable store (allFresh emptyTable) g acts from to v))

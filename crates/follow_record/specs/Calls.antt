@@ -1,5 +1,5 @@
 -- "Each call must answer as the old table does, call for call, from the empty start" (document 02): any sequence of calls with any arguments, made on a record that keeps
--- its places in order and on the table without, each with a store. What a call leaves, the next one gets.
+-- its rows beside the table and on the table without, each with a store. What a call leaves, the next one gets.
 use Prim.Native.Nat.{ℕ}
 use mathlib.Core.Path.{_≡_}
 use mathlib.Core.List.{List, [], _∷_}
@@ -14,16 +14,18 @@ use Rattle.board_rules.specs.Remove.{removeAnswer}
 use Rattle.board_rules.specs.Compact.{compactAnswer}
 use Rattle.board_rules.specs.Body.{bodyNumber, bodyOf}
 use Rattle.board_rules.specs.Next.{nextAnswer, freshMark}
+use Rattle.board_rules.specs.Moved.{movedAnswer}
 use Rattle.report_call.specs.Reported.{reportFor, reportStoreFor, reportForOn, reportStoreForOn}
-use Rattle.board_rules.specs.OnRecord.{removeOn, compactOn, bodyNumberOn, bodyOn, nextOn}
+use Rattle.board_rules.specs.OnRecord.{removeOn, compactOn, bodyNumberOn, bodyOn, nextOn, movedOn}
 
--- report (key, ERO, session, PST, addresses), remove (key), compact (c), body (key), next (mark s, w), a fresh mark
+-- report (key, ERO, session, PST, addresses), remove (key), compact (c), body (key), next (mark s, w), moved (keys a to b, version v), a fresh mark
 pub data Call : Type 0 where
   report : ℕ → List ℕ → Session → ℕ → List ℕ → Call
   remove : ℕ → Call
   compact : ℕ → Call
   body : ℕ → Call
   next : ℕ → ℕ → Call
+  moved : ℕ → ℕ → ℕ → Call
   fresh : Call
 
 -- what the caller is answered: a verdict; a body's number and octets; a change or level; a mark
@@ -44,6 +46,7 @@ replyOf x (remove k) = verdict (removeAnswer (x .table) (x .store) k .verdict)
 replyOf x (compact c) = verdict (compactAnswer (x .table) (x .store) c .verdict)
 replyOf x (body k) = octets (bodyNumber (x .table) (x .store) k) (bodyOf (x .table) (x .store) k)
 replyOf x (next s w) = handed (nextAnswer (x .table) (x .store) s w)
+replyOf x (moved a b v) = verdict (movedAnswer (x .table) (x .store) a b v)
 replyOf x fresh = mark (freshMark (x .table))
 
 unfoldable pub leftOf : OnTable → Call → OnTable
@@ -53,6 +56,7 @@ leftOf x (remove k) = record { table = removeAnswer (x .table) (x .store) k .tab
 leftOf x (compact c) = record { table = compactAnswer (x .table) (x .store) c .table; store = x .store }
 leftOf x (body k) = x
 leftOf x (next s w) = x
+leftOf x (moved a b v) = x
 leftOf x fresh = x
 
 unfoldable pub repliesOf : OnTable → List Call → List Reply
@@ -70,6 +74,7 @@ replyOn x (remove k) = verdict (removeOn (x .board) (x .store) k .verdict)
 replyOn x (compact c) = verdict (compactOn (x .board) (x .store) c .verdict)
 replyOn x (body k) = octets (bodyNumberOn (x .board) (x .store) k) (bodyOn (x .board) (x .store) k)
 replyOn x (next s w) = handed (nextOn (x .board) (x .store) s w)
+replyOn x (moved a b v) = verdict (movedOn (x .board) (x .store) a b v)
 replyOn x fresh = mark (freshMark (tableIn (x .board)))
 
 unfoldable pub leftOn : OnRecord → Call → OnRecord
@@ -79,6 +84,7 @@ leftOn x (remove k) = record { board = removeOn (x .board) (x .store) k .board; 
 leftOn x (compact c) = record { board = compactOn (x .board) (x .store) c .board; store = x .store }
 leftOn x (body k) = x
 leftOn x (next s w) = x
+leftOn x (moved a b v) = x
 leftOn x fresh = x
 
 unfoldable pub repliesOn : OnRecord → List Call → List Reply

@@ -22,7 +22,7 @@ reportFor b store k ero session pst addresses =
 unfoldable pub reportStoreFor : Table → List ℕ → ℕ → List ℕ → Session → ℕ → List ℕ → List ℕ
 reportStoreFor b store k ero session pst addresses = cond (rule28 addresses) store (reportStore b store k ero (sessionFor ero true session addresses) pst)
 
--- the same on the record: 28 goes before 17, so before the order is looked at
+-- the same on the record: 28 goes before 17, so before the record is looked at
 unfoldable pub reportForOn : Board → List ℕ → ℕ → List ℕ → Session → ℕ → List ℕ → Result
 reportForOn b store k ero session pst addresses =
     cond (rule28 addresses) (resultOf (refusedBy notUsable 0) b) (reportOn b store k ero (sessionFor ero true session addresses) pst)

@@ -2,7 +2,7 @@
 // under the limit that holds for this route. A refusal writes nothing.
 ghost use mathlib.Core.Path.{_≡_};
 ghost use Rattle.board_record.specs.Table.{tableOf};
-ghost use Rattle.board_record.specs.Record.{withOrder};
+ghost use Rattle.board_record.specs.Record.{withRows};
 ghost use Rattle.board_rules.specs.OnRecord.{resultOf};
 ghost use Rattle.report_call.specs.Reported.{reportForOn, reportStoreForOn};
 use answers::NOT_USABLE;
@@ -18,6 +18,7 @@ pub fn report(
     version: &mut u64,
     floor: &mut u64,
     order: &mut [u8; 128],
+    tops: &mut [u64; 16],
     store: &mut [u8],
     key: u64,
     ero: &[u8],
@@ -28,10 +29,10 @@ pub fn report(
     ensures answer { λ r.
         let before = tableOf (now (keys .entry)) (now (versions .entry)) (now (lengths .entry)) (now (version .entry)) (now (floor .entry)) in
         let after = tableOf (now (keys .exit)) (now (versions .exit)) (now (lengths .exit)) (now (version .exit)) (now (floor .exit)) in
-        ⌜ resultOf r (withOrder after (now (order .exit))) ≡ reportForOn (withOrder before (now (order .entry))) (now (store .entry)) key (now (ero .entry)) session pst (now (addresses .entry)) ⌝ }
+        ⌜ resultOf r (withRows after (now (order .exit)) (now (tops .exit))) ≡ reportForOn (withRows before (now (order .entry)) (now (tops .entry))) (now (store .entry)) key (now (ero .entry)) session pst (now (addresses .entry)) ⌝ }
     ensures octets { λ r.
         let before = tableOf (now (keys .entry)) (now (versions .entry)) (now (lengths .entry)) (now (version .entry)) (now (floor .entry)) in
-        ⌜ now (store .exit) ≡ reportStoreForOn (withOrder before (now (order .entry))) (now (store .entry)) key (now (ero .entry)) session pst (now (addresses .entry)) ⌝ }
+        ⌜ now (store .exit) ≡ reportStoreForOn (withRows before (now (order .entry)) (now (tops .entry))) (now (store .entry)) key (now (ero .entry)) session pst (now (addresses .entry)) ⌝ }
 {
     if !head_end::usable(addresses) {
         return refused(NOT_USABLE, 0);
@@ -44,6 +45,7 @@ pub fn report(
         version,
         floor,
         order,
+        tops,
         store,
         key,
         ero,

@@ -10,7 +10,7 @@ use Rattle.open.specs.Open.{openOf}
 use Rattle.route_call.specs.Called.{judgedFor, segmentFor}
 use Rattle.subobject.specs.Segments.{segmentWith}
 use Rattle.writer.specs.Writing.{beginAnswer, beginBuffer, addAnswer, addBuffer, finishAnswer, finishBuffer}
-use Rattle.board_rules.specs.OnRecord.{removeOn, compactOn, nextOn}
+use Rattle.board_rules.specs.OnRecord.{removeOn, compactOn, nextOn, movedOn}
 use Rattle.report_call.specs.Reported.{reportForOn, reportStoreForOn}
 use Rattle.border_records.specs.declared.verdict.VerdictRecord.{VerdictRecord}
 use Rattle.border_records.specs.declared.opened.OpenedRecord.{OpenedRecord}
@@ -84,6 +84,9 @@ body-determined b store k = one _
 
 pub next-determined : (b : Board) (store : List ℕ) (s w : ℕ) → One (changeOut (nextOn b store s w))
 next-determined b store s w = one _
+
+pub moved-determined : (b : Board) (store : List ℕ) (from to v : ℕ) → One (verdictOut (movedOn b store from to v))
+moved-determined b store from to v = one _
 
 pub fresh-mark-determined : (version : ℕ) → One (freshOut version)
 fresh-mark-determined version = one _

@@ -1,9 +1,9 @@
 // The board's calls, on a record whose parts are lent one by one. A refusal writes nothing.
 ghost use mathlib.Core.Path.{_≡_};
 ghost use Rattle.board_record.specs.Table.{tableOf};
-ghost use Rattle.board_record.specs.Record.{withOrder, emptyBoard};
+ghost use Rattle.board_record.specs.Record.{withRows, emptyBoard};
 ghost use Rattle.octets.specs.Octets.{part};
-ghost use Rattle.board_rules.specs.OnRecord.{removeOn, compactOn, bodyOn, nextOn};
+ghost use Rattle.board_rules.specs.OnRecord.{removeOn, compactOn, bodyOn, nextOn, movedOn};
 ghost use Rattle.report_call.specs.Reported.{reportForOn, reportStoreForOn};
 ghost use Rattle.border_records.specs.Records.{sessionIn, verdictOut};
 ghost use Rattle.border_answers.specs.Handing.{changeOut};
@@ -23,12 +23,13 @@ pub extern "C" fn strundevi_raw_empty(
     version: &mut u64,
     floor: &mut u64,
     order: &mut [u8; 128],
+    tops: &mut [u64; 16],
 )
     ensures empty { λ _.
         let after = tableOf (now (keys .exit)) (now (versions .exit)) (now (lengths .exit)) (now (version .exit)) (now (floor .exit)) in
-        ⌜ withOrder after (now (order .exit)) ≡ emptyBoard ⌝ }
+        ⌜ withRows after (now (order .exit)) (now (tops .exit)) ≡ emptyBoard ⌝ }
 {
-    border_board::empty(keys, versions, lengths, version, floor, order);
+    border_board::empty(keys, versions, lengths, version, floor, order, tops);
 }
 
 // Reports a path.
@@ -40,6 +41,7 @@ pub extern "C" fn strundevi_raw_report(
     version: &mut u64,
     floor: &mut u64,
     order: &mut [u8; 128],
+    tops: &mut [u64; 16],
     store: &mut [u8],
     key: u64,
     ero: &[u8],
@@ -48,14 +50,14 @@ pub extern "C" fn strundevi_raw_report(
     addresses: &[u8],
 ) -> VerdictRecord
     ensures verdict { λ r.
-        let before = withOrder (tableOf (now (keys .entry)) (now (versions .entry)) (now (lengths .entry)) (now (version .entry)) (now (floor .entry))) (now (order .entry)) in
+        let before = withRows (tableOf (now (keys .entry)) (now (versions .entry)) (now (lengths .entry)) (now (version .entry)) (now (floor .entry))) (now (order .entry)) (now (tops .entry)) in
         ⌜ r ≡ verdictOut (reportForOn before (now (store .entry)) key (now (ero .entry)) (sessionIn session) pst (now (addresses .entry)) .verdict) ⌝ }
     ensures board { λ _.
-        let before = withOrder (tableOf (now (keys .entry)) (now (versions .entry)) (now (lengths .entry)) (now (version .entry)) (now (floor .entry))) (now (order .entry)) in
-        let after = withOrder (tableOf (now (keys .exit)) (now (versions .exit)) (now (lengths .exit)) (now (version .exit)) (now (floor .exit))) (now (order .exit)) in
+        let before = withRows (tableOf (now (keys .entry)) (now (versions .entry)) (now (lengths .entry)) (now (version .entry)) (now (floor .entry))) (now (order .entry)) (now (tops .entry)) in
+        let after = withRows (tableOf (now (keys .exit)) (now (versions .exit)) (now (lengths .exit)) (now (version .exit)) (now (floor .exit))) (now (order .exit)) (now (tops .exit)) in
         ⌜ after ≡ reportForOn before (now (store .entry)) key (now (ero .entry)) (sessionIn session) pst (now (addresses .entry)) .board ⌝ }
     ensures octets { λ _.
-        let before = withOrder (tableOf (now (keys .entry)) (now (versions .entry)) (now (lengths .entry)) (now (version .entry)) (now (floor .entry))) (now (order .entry)) in
+        let before = withRows (tableOf (now (keys .entry)) (now (versions .entry)) (now (lengths .entry)) (now (version .entry)) (now (floor .entry))) (now (order .entry)) (now (tops .entry)) in
         ⌜ now (store .exit) ≡ reportStoreForOn before (now (store .entry)) key (now (ero .entry)) (sessionIn session) pst (now (addresses .entry)) ⌝ }
 {
     border_board::report(
@@ -65,6 +67,7 @@ pub extern "C" fn strundevi_raw_report(
         version,
         floor,
         order,
+        tops,
         store,
         key,
         ero,
@@ -83,18 +86,29 @@ pub extern "C" fn strundevi_raw_remove(
     version: &mut u64,
     floor: u64,
     order: &mut [u8; 128],
+    tops: &mut [u64; 16],
     store: &[u8],
     key: u64,
 ) -> VerdictRecord
     ensures verdict { λ r.
-        let before = withOrder (tableOf (now (keys .entry)) (now (versions .entry)) (now (lengths .entry)) (now (version .entry)) floor) (now (order .entry)) in
+        let before = withRows (tableOf (now (keys .entry)) (now (versions .entry)) (now (lengths .entry)) (now (version .entry)) floor) (now (order .entry)) (now (tops .entry)) in
         ⌜ r ≡ verdictOut (removeOn before (now (store .entry)) key .verdict) ⌝ }
     ensures board { λ _.
-        let before = withOrder (tableOf (now (keys .entry)) (now (versions .entry)) (now (lengths .entry)) (now (version .entry)) floor) (now (order .entry)) in
-        let after = withOrder (tableOf (now (keys .entry)) (now (versions .exit)) (now (lengths .exit)) (now (version .exit)) floor) (now (order .exit)) in
+        let before = withRows (tableOf (now (keys .entry)) (now (versions .entry)) (now (lengths .entry)) (now (version .entry)) floor) (now (order .entry)) (now (tops .entry)) in
+        let after = withRows (tableOf (now (keys .entry)) (now (versions .exit)) (now (lengths .exit)) (now (version .exit)) floor) (now (order .exit)) (now (tops .exit)) in
         ⌜ after ≡ removeOn before (now (store .entry)) key .board ⌝ }
 {
-    border_board::remove(keys, versions, lengths, version, floor, order, store, key)
+    border_board::remove(
+        keys,
+        versions,
+        lengths,
+        version,
+        floor,
+        order,
+        tops,
+        store,
+        key,
+    )
 }
 
 // Drops the marks with version at most c.
@@ -106,18 +120,29 @@ pub extern "C" fn strundevi_raw_compact(
     version: u64,
     floor: &mut u64,
     order: &mut [u8; 128],
+    tops: &mut [u64; 16],
     store: &[u8],
     c: u64,
 ) -> VerdictRecord
     ensures verdict { λ r.
-        let before = withOrder (tableOf (now (keys .entry)) (now (versions .entry)) (now (lengths .entry)) version (now (floor .entry))) (now (order .entry)) in
+        let before = withRows (tableOf (now (keys .entry)) (now (versions .entry)) (now (lengths .entry)) version (now (floor .entry))) (now (order .entry)) (now (tops .entry)) in
         ⌜ r ≡ verdictOut (compactOn before (now (store .entry)) c .verdict) ⌝ }
     ensures board { λ _.
-        let before = withOrder (tableOf (now (keys .entry)) (now (versions .entry)) (now (lengths .entry)) version (now (floor .entry))) (now (order .entry)) in
-        let after = withOrder (tableOf (now (keys .exit)) (now (versions .exit)) (now (lengths .entry)) version (now (floor .exit))) (now (order .exit)) in
+        let before = withRows (tableOf (now (keys .entry)) (now (versions .entry)) (now (lengths .entry)) version (now (floor .entry))) (now (order .entry)) (now (tops .entry)) in
+        let after = withRows (tableOf (now (keys .exit)) (now (versions .exit)) (now (lengths .entry)) version (now (floor .exit))) (now (order .exit)) (now (tops .exit)) in
         ⌜ after ≡ compactOn before (now (store .entry)) c .board ⌝ }
 {
-    border_board::compact(keys, versions, lengths, version, floor, order, store, c)
+    border_board::compact(
+        keys,
+        versions,
+        lengths,
+        version,
+        floor,
+        order,
+        tops,
+        store,
+        c,
+    )
 }
 
 // Where the octets of a key's path lie.
@@ -129,17 +154,28 @@ pub extern "C" fn strundevi_raw_body<'a>(
     version: u64,
     floor: u64,
     order: &'a [u8; 128],
+    tops: &'a [u64; 16],
     store: &[u8],
     key: u64,
 ) -> PartRecord
     ensures part { λ r.
-        let b = withOrder (tableOf (now (keys .entry)) (now (versions .entry)) (now (lengths .entry)) version floor) (now (order .entry)) in
+        let b = withRows (tableOf (now (keys .entry)) (now (versions .entry)) (now (lengths .entry)) version floor) (now (order .entry)) (now (tops .entry)) in
         ⌜ r ≡ partOut b (now (store .entry)) key ⌝ }
     ensures octets { λ r.
-        let b = withOrder (tableOf (now (keys .entry)) (now (versions .entry)) (now (lengths .entry)) version floor) (now (order .entry)) in
+        let b = withRows (tableOf (now (keys .entry)) (now (versions .entry)) (now (lengths .entry)) version floor) (now (order .entry)) (now (tops .entry)) in
         ⌜ part (now (store .entry)) (r .start) (r .length) ≡ bodyOn b (now (store .entry)) key ⌝ }
 {
-    border_looks::body(keys, versions, lengths, version, floor, order, store, key)
+    border_looks::body(
+        keys,
+        versions,
+        lengths,
+        version,
+        floor,
+        order,
+        tops,
+        store,
+        key,
+    )
 }
 
 // What a follower with the mark (s, w) is handed.
@@ -151,15 +187,61 @@ pub extern "C" fn strundevi_raw_next<'a>(
     version: u64,
     floor: u64,
     order: &'a [u8; 128],
+    tops: &'a [u64; 16],
     store: &[u8],
     s: u64,
     w: u64,
 ) -> ChangeRecord
     ensures next { λ r.
-        let b = withOrder (tableOf (now (keys .entry)) (now (versions .entry)) (now (lengths .entry)) version floor) (now (order .entry)) in
+        let b = withRows (tableOf (now (keys .entry)) (now (versions .entry)) (now (lengths .entry)) version floor) (now (order .entry)) (now (tops .entry)) in
         ⌜ r ≡ changeOut (nextOn b (now (store .entry)) s w) ⌝ }
 {
-    border_looks::next(keys, versions, lengths, version, floor, order, store, s, w)
+    border_looks::next(
+        keys,
+        versions,
+        lengths,
+        version,
+        floor,
+        order,
+        tops,
+        store,
+        s,
+        w,
+    )
+}
+
+// Whether a key from `from` to `to` changed after version v: the count is 1 for yes and 0 for no.
+#[no_mangle]
+pub extern "C" fn strundevi_raw_moved<'a>(
+    keys: &'a [u32; 128],
+    versions: &'a [u64; 128],
+    lengths: &'a [u16; 128],
+    version: u64,
+    floor: u64,
+    order: &'a [u8; 128],
+    tops: &'a [u64; 16],
+    store: &[u8],
+    from: u64,
+    to: u64,
+    v: u64,
+) -> VerdictRecord
+    ensures moved { λ r.
+        let b = withRows (tableOf (now (keys .entry)) (now (versions .entry)) (now (lengths .entry)) version floor) (now (order .entry)) (now (tops .entry)) in
+        ⌜ r ≡ verdictOut (movedOn b (now (store .entry)) from to v) ⌝ }
+{
+    border_looks::moved(
+        keys,
+        versions,
+        lengths,
+        version,
+        floor,
+        order,
+        tops,
+        store,
+        from,
+        to,
+        v,
+    )
 }
 
 // The mark of a follower that begins, and holds nothing, on a board of this version.

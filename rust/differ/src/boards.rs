@@ -18,10 +18,11 @@ enum Step {
     Compact { c: u64 },
     Body { key: u64 },
     Next { s: u64, w: u64 },
+    Moved { a: u64, b: u64, v: u64 },
     FreshMark,
     /// The board is started anew.
     Empty,
-    /// The record gets another number at this place of one of its parts, with the order of what it then holds or with the order that it had.
+    /// The record gets another number at this place of one of its parts, with the order and the tops of what it then holds or with those that it had.
     Set { part: usize, at: usize, value: u64, ordered: bool },
     /// Two numbers of the record's order change places.
     Swap { at: usize, other: usize },
@@ -40,7 +41,7 @@ struct Pair {
 }
 
 fn record(b: &Board) -> raw::Record {
-    raw::Record { keys: b.keys, versions: b.versions, lengths: b.lengths, version: b.version, floor: b.floor, order: b.order() }
+    raw::Record { keys: b.keys, versions: b.versions, lengths: b.lengths, version: b.version, floor: b.floor, order: b.order(), tops: b.tops() }
 }
 
 /// The record's numbers, a line for the board and one for each place in use.
@@ -49,7 +50,7 @@ fn numbers(b: &raw::Record) -> Vec<String> {
     let places = used.map(|i| format!("place {i}: key {} version {} length {}", b.keys[i], b.versions[i], b.lengths[i]));
     let order: Vec<&u8> = b.order.iter().collect();
     let ends = order.len() - order.iter().rev().take_while(|&&&n| n == 0).count();
-    [format!("version {} floor {}", b.version, b.floor), format!("order {:?}", &order[..ends])].into_iter().chain(places).collect()
+    [format!("version {} floor {}", b.version, b.floor), format!("order {:?}", &order[..ends]), format!("tops {:?}", b.tops)].into_iter().chain(places).collect()
 }
 
 fn only_left(name: &str, left: &[String], right: &[String]) -> String {
@@ -71,7 +72,7 @@ fn handed(answer: &reference::Answer<Change>) -> Handed {
 impl Pair {
     fn new() -> Pair {
         let store: Vec<u8> = (0..STORE_OCTETS + 8).map(|i| (i / 7) as u8).collect();
-        let mut ours = raw::Record { keys: [1; PLACES], versions: [1; PLACES], lengths: [1; PLACES], version: 1, floor: 1, order: [1; PLACES] };
+        let mut ours = raw::Record { keys: [1; PLACES], versions: [1; PLACES], lengths: [1; PLACES], version: 1, floor: 1, order: [1; PLACES], tops: [1; PLACES / 8] };
         raw::empty(&mut ours);
         Pair { theirs: Board::default(), their_store: store.clone(), ours, our_store: store, size: STORE_OCTETS }
     }
@@ -79,9 +80,9 @@ impl Pair {
     /// One step on both sides: call and number, or what differs.
     fn step(&mut self, door: Door, step: &Step) -> Result<Option<(Call, usize)>, String> {
         let n = self.size;
-        // the reference keeps no order: where the record's is another, each call must answer 17 and leave everything as it was
-        let order = self.ours.order;
-        let lied = order != self.theirs.order();
+        // the reference keeps no rows: where the record's are others, each call must answer 17 and leave everything as it was
+        let (order, tops) = (self.ours.order, self.ours.tops);
+        let lied = order != self.theirs.order() || tops != self.theirs.tops();
         let size = if lied { 0 } else { n };
         let (call, ours, theirs) = match step {
             Step::Report { key, ero, session, pst, addresses } => {
@@ -121,6 +122,11 @@ impl Pair {
                 }
                 (Call::Next, (ours.0, 0, 0, 0), (theirs.0, 0, 0, 0))
             }
+            Step::Moved { a, b, v } => {
+                let answer = self.theirs.moved(&self.their_store[..size], *a, *b, *v);
+                let ours = doors::moved(door, &mut self.ours, &mut self.our_store[..n], *a, *b, *v);
+                (Call::Moved, plain::ours(ours), plain::theirs(&answer, |&moved| moved as usize))
+            }
             Step::FreshMark => {
                 let (ours, theirs) = (doors::fresh_mark(door, &mut self.ours, &mut self.our_store[..n]), self.theirs.fresh_mark());
                 (Call::FreshMark, (0, ours.0 as usize, ours.1 as usize, 0), (0, theirs.0 as usize, theirs.1 as usize, 0))
@@ -134,6 +140,10 @@ impl Pair {
                 self.ours.order[*at] = *value as u8;
                 return Ok(None);
             }
+            Step::Set { part: 6, at, value, .. } => {
+                self.ours.tops[*at / 8] = *value;
+                return Ok(None);
+            }
             Step::Set { part, at, value, ordered } => {
                 match part {
                     0 => self.theirs.keys[*at] = *value as u32,
@@ -144,7 +154,7 @@ impl Pair {
                 }
                 self.ours = record(&self.theirs);
                 if !ordered {
-                    self.ours.order = order;
+                    (self.ours.order, self.ours.tops) = (order, tops);
                 }
                 return Ok(None);
             }
@@ -167,7 +177,7 @@ impl Pair {
         }
         let mut expected = record(&self.theirs);
         if lied && !matches!(step, Step::Empty) {
-            expected.order = order;
+            (expected.order, expected.tops) = (order, tops);
         }
         if self.ours != expected {
             let (ours, theirs) = (numbers(&self.ours), numbers(&expected));
@@ -321,13 +331,17 @@ fn some_set(r: &mut Random, b: &Board) -> Step {
         let at = r.below(PLACES);
         return Step::Swap { at, other: (at + r.of(&[0, 1, 1, 2, 64])) % PLACES };
     }
-    let (part, at, other) = (r.below(6), r.below(PLACES), r.below(PLACES));
+    let (part, at, other) = (r.below(7), r.below(PLACES), r.below(PLACES));
     let value = match part {
         0 => r.of(&[0, 1, 1_048_574, 1_048_575, u64::from(u32::MAX), u64::from(b.keys[other])]),
         1 => r.of(&[0, 1, b.version, b.version.wrapping_add(1), b.floor, b.floor + 1, b.versions[other], u64::MAX]),
         2 => r.of(&[0, 4, 20, 22, 24, 25, 380, 384, 386, 388, 65_535]),
         3 => r.of(&[0, b.version.wrapping_sub(1), b.floor, b.floor.wrapping_sub(1), u64::MAX, u64::MAX - 1, b.versions[other]]),
         4 => r.of(&[0, b.version, b.version.wrapping_add(1), b.versions[at], b.versions[other], u64::MAX]),
+        6 => {
+            let tops = b.tops();
+            r.of(&[0, b.version, b.versions[at], b.versions[other], tops[at / 8], tops[at / 8].wrapping_add(1), tops[at / 8].wrapping_sub(1), tops[other / 8], u64::MAX])
+        }
         _ => {
             let order = b.order();
             let (near, far) = (order[(at + 1) % PLACES], order[other]);
@@ -368,6 +382,28 @@ fn some_key(r: &mut Random, keys: usize) -> u64 {
         1 => r.number(),
         _ => 1 + (r.below(keys) as u64 * 8191) % 1_048_574,
     }
+}
+
+fn some_moved(r: &mut Random, b: &Board, keys: usize) -> Step {
+    let from = some_key(r, keys);
+    let to = match r.below(5) {
+        0 => from,
+        1 => from.wrapping_add(r.below(9000) as u64),
+        2 => some_key(r, keys),
+        3 => u64::MAX,
+        _ => from.wrapping_sub(1),
+    };
+    let from = if r.one_in(6) { 0 } else { from };
+    let at = r.below(PLACES);
+    let v = match r.below(6) {
+        0 => b.version.wrapping_add(r.below(3) as u64).wrapping_sub(1),
+        1 => b.floor.wrapping_add(r.below(3) as u64).wrapping_sub(1),
+        2 => b.versions[at],
+        3 => b.tops()[at / 8],
+        4 => b.versions[at].wrapping_sub(1),
+        _ => b.version - (r.below(40) as u64).min(b.version),
+    };
+    Step::Moved { a: from, b: to, v }
 }
 
 /// A board's life from the empty start.
@@ -436,6 +472,10 @@ fn life(tally: &mut Tally, r: &mut Random, most: usize) -> Result<usize, String>
                 let mut near = || (version + 2).saturating_sub(r.below(12)) as u64;
                 let (s, w) = (near(), near());
                 h.step(tally, r, Step::Next { s, w })?;
+            }
+            22 | 23 if r.one_in(3) => {
+                let step = some_moved(r, &h.pair.theirs, keys);
+                h.step(tally, r, step)?;
             }
             20 if r.one_in(40) => {
                 let size = r.of(&[0, 1, STORE_OCTETS - 1, STORE_OCTETS - 384]);
@@ -506,7 +546,8 @@ fn records(tally: &mut Tally, r: &mut Random) -> Result<usize, String> {
             2 => b.version.wrapping_add(r.below(3) as u64).wrapping_sub(1),
             _ => r.number(),
         };
-        let step = match r.below(6) {
+        let step = match r.below(7) {
+            6 => some_moved(r, &b, 300),
             0 | 1 => Step::Report { key, ero: objects::good_ero(r, PLACE_OCTETS), session: agreed, pst: 3, addresses: Vec::new() },
             2 => Step::Remove { key },
             3 => Step::Compact { c: near(r) },

@@ -237,6 +237,14 @@ pub fn body(door: Door, b: &mut raw::Record, store: &mut [u8], key: u64) -> raw:
     }
 }
 
+pub fn moved(door: Door, b: &mut raw::Record, store: &mut [u8], from: u64, to: u64, v: u64) -> raw::Verdict {
+    match door {
+        Door::Archive => raw::moved(b, store, from, to, v),
+        Door::Header => header::moved(b, store, from, to, v),
+        Door::Wrapper => with(b, store, |board| verdict(board.moved(from..=to, v).map(usize::from))),
+    }
+}
+
 /// What a follower is handed, and the mark it then has, where the door says it.
 pub fn next(door: Door, b: &mut raw::Record, store: &mut [u8], s: u64, w: u64) -> (raw::Next, Option<(u64, u64)>) {
     let first = store.as_ptr() as usize;

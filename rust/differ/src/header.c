@@ -60,6 +60,10 @@ strundevi_change header_next(const strundevi_board *board, const uint8_t *store,
     return strundevi_next(board, store, size, mark);
 }
 
+strundevi_verdict header_moved(const strundevi_board *board, const uint8_t *store, size_t size, uint64_t from, uint64_t to, uint64_t v) {
+    return strundevi_moved(board, store, size, from, to, v);
+}
+
 strundevi_mark header_fresh_mark(const strundevi_board *board) {
     return strundevi_fresh_mark(board);
 }
@@ -97,6 +101,7 @@ static const size_t layout[] = {
     sizeof(strundevi_writer), AT(writer, ero), AT(writer, at),
     sizeof(strundevi_written), AT(written, verdict), AT(written, writer),
     sizeof(strundevi_board), AT(board, keys), AT(board, versions), AT(board, lengths), AT(board, version), AT(board, floor),
+    AT(board, order), AT(board, tops),
     sizeof(strundevi_part), AT(part, number), AT(part, start), AT(part, length),
     sizeof(strundevi_change), AT(change, number), AT(change, kind), AT(change, key), AT(change, version), AT(change, place), AT(change, length),
     sizeof(strundevi_mark), AT(mark, s), AT(mark, w),

@@ -45,6 +45,7 @@ extern "C" {
     fn header_remove(board: *mut Record, store: *const u8, size: usize, key: u64) -> Verdict;
     fn header_compact(board: *mut Record, store: *const u8, size: usize, c: u64) -> Verdict;
     fn header_body(board: *const Record, store: *const u8, size: usize, key: u64) -> Part;
+    fn header_moved(board: *const Record, store: *const u8, size: usize, from: u64, to: u64, v: u64) -> Verdict;
     fn header_next(board: *const Record, store: *const u8, size: usize, mark: Mark) -> Next;
     fn header_fresh_mark(board: *const Record) -> Mark;
     fn header_mark_after(mark: Mark, change: Next) -> Mark;
@@ -111,6 +112,10 @@ pub fn next(b: &Record, store: &[u8], mark: Mark) -> Next {
     unsafe { header_next(b, store.as_ptr(), store.len(), mark) }
 }
 
+pub fn moved(b: &Record, store: &[u8], from: u64, to: u64, v: u64) -> Verdict {
+    unsafe { header_moved(b, store.as_ptr(), store.len(), from, to, v) }
+}
+
 pub fn fresh_mark(b: &Record) -> Mark {
     unsafe { header_fresh_mark(b) }
 }
@@ -147,7 +152,7 @@ fn layout() -> Vec<usize> {
         Stepped: verdict segment next;
         Writer: ero at;
         Written: verdict writer;
-        Record: keys versions lengths version floor;
+        Record: keys versions lengths version floor order tops;
         Part: number start length;
         Next: number kind key version place length;
         Mark: s w;

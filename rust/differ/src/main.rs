@@ -48,7 +48,7 @@ fn main() -> ExitCode {
         return ExitCode::FAILURE;
     }
     let judged = tally.calls(&[Call::Open, Call::Ero, Call::Rro]);
-    let board = tally.calls(&[Call::Report, Call::Remove, Call::Compact, Call::Body, Call::Next]);
+    let board = tally.calls(&[Call::Report, Call::Remove, Call::Compact, Call::Body, Call::Next, Call::Moved]);
     println!("seed {seed}: {judged} objects judged, {board} board calls, no difference ({:.0} s)", start.elapsed().as_secs_f64());
     ExitCode::SUCCESS
 }

@@ -18,11 +18,12 @@ pub enum Call {
     Compact,
     Body,
     Next,
+    Moved,
     FreshMark,
     Empty,
 }
 
-const CALLS: [(&str, &[usize]); 15] = [
+const CALLS: [(&str, &[usize]); 16] = [
     ("open", &[0, 1, 2, 3, 28]),
     ("ero", &[0, 4, 5, 6, 7, 8, 9, 10, 11, 12, 13, 14, 28]),
     ("rro", &[0, 4, 5, 6, 7, 8, 9, 11, 13, 14, 28]),
@@ -36,6 +37,7 @@ const CALLS: [(&str, &[usize]); 15] = [
     ("compact", &[0, 17, 24]),
     ("body", &[0, 17, 18, 22]),
     ("next", &[0, 17, 23, 24]),
+    ("moved", &[0, 17, 23, 24]),
     ("mark", &[0]),
     ("empty", &[0]),
 ];

@@ -229,6 +229,27 @@ impl Board {
         order
     }
 
+    /// Whether a key from `a` to `b` changed after version `v`: a look at every place.
+    pub fn moved(&self, store: &[u8], a: u64, b: u64, v: u64) -> Answer<bool> {
+        self.check(store)?;
+        if v > self.version {
+            return refuse(MARK_AHEAD);
+        }
+        if self.floor > v {
+            return refuse(MARK_TOO_OLD);
+        }
+        Ok((0..PLACES).any(|i| self.keys[i] != 0 && a <= self.keys[i].into() && u64::from(self.keys[i]) <= b && self.versions[i] > v))
+    }
+
+    /// What a record keeps beside its table too: the largest version of each 8 places, 0 where all are empty.
+    pub fn tops(&self) -> [u64; PLACES / 8] {
+        let mut tops = [0; PLACES / 8];
+        for (top, versions) in tops.iter_mut().zip(self.versions.chunks(8)) {
+            *top = versions.iter().copied().max().unwrap_or(0);
+        }
+        tops
+    }
+
     /// The mark of a follower that begins, and holds nothing.
     pub fn fresh_mark(&self) -> (u64, u64) {
         (self.version, 0)

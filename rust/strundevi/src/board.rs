@@ -86,7 +86,7 @@ impl<S: AsRef<[u8]> + AsMut<[u8]>> Board<S> {
     /// An old mark may fit a board that was started anew, and its follower would keep paths that are withdrawn: whoever starts a board anew
     /// sees to it that every follower empties itself and takes a fresh mark.
     pub fn new(store: S) -> Board<S> {
-        let mut record = raw::Record { keys: [0; PLACES], versions: [0; PLACES], lengths: [0; PLACES], version: 0, floor: 0, order: [0; PLACES] };
+        let mut record = raw::Record { keys: [0; PLACES], versions: [0; PLACES], lengths: [0; PLACES], version: 0, floor: 0, order: [0; PLACES], tops: [0; PLACES / 8] };
         raw::empty(&mut record);
         Board { record, store }
     }
@@ -153,6 +153,12 @@ impl<S: AsRef<[u8]> + AsMut<[u8]>> Board<S> {
             REMOVED => Change::Removed { key: r.key as u32, version: r.version },
             _ => Change::Level { version: r.version },
         })
+    }
+
+    /// Whether a key of this range changed after version `v`: was reported, reported again or removed. Refused with 17, 24, 23.
+    #[inline]
+    pub fn moved(&self, keys: core::ops::RangeInclusive<u64>, v: u64) -> Result<bool> {
+        raw::moved(&self.record, self.store.as_ref(), *keys.start(), *keys.end(), v).counts().map(|counts| counts.segments == 1)
     }
 
     /// The mark of a follower that begins, and holds nothing.

@@ -154,12 +154,14 @@ pub struct Record {
     pub version: u64,
     pub floor: u64,
     pub order: [u8; PLACES],
+    pub tops: [u64; PLACES / 8],
 }
 
 type Keys = [u32; PLACES];
 type Versions = [u64; PLACES];
 type Lengths = [u16; PLACES];
 type Order = [u8; PLACES];
+type Tops = [u64; PLACES / 8];
 
 extern "C" {
     fn strundevi_raw_read_open(setup: Setup, octets: *const u8, length: usize) -> Opened;
@@ -187,7 +189,7 @@ extern "C" {
         structure: *const [u8; 4],
     ) -> Written;
     fn strundevi_raw_finish(buffer: *mut u8, size: usize, writer: Writer) -> Written;
-    fn strundevi_raw_empty(keys: *mut Keys, versions: *mut Versions, lengths: *mut Lengths, version: *mut u64, floor: *mut u64, order: *mut Order);
+    fn strundevi_raw_empty(keys: *mut Keys, versions: *mut Versions, lengths: *mut Lengths, version: *mut u64, floor: *mut u64, order: *mut Order, tops: *mut Tops);
     fn strundevi_raw_report(
         keys: *mut Keys,
         versions: *mut Versions,
@@ -195,6 +197,7 @@ extern "C" {
         version: *mut u64,
         floor: *mut u64,
         order: *mut Order,
+        tops: *mut Tops,
         store: *mut u8,
         size: usize,
         key: u64,
@@ -212,6 +215,7 @@ extern "C" {
         version: *mut u64,
         floor: u64,
         order: *mut Order,
+        tops: *mut Tops,
         store: *const u8,
         size: usize,
         key: u64,
@@ -223,6 +227,7 @@ extern "C" {
         version: u64,
         floor: *mut u64,
         order: *mut Order,
+        tops: *mut Tops,
         store: *const u8,
         size: usize,
         c: u64,
@@ -234,6 +239,7 @@ extern "C" {
         version: u64,
         floor: u64,
         order: *const Order,
+        tops: *const Tops,
         store: *const u8,
         size: usize,
         key: u64,
@@ -245,11 +251,26 @@ extern "C" {
         version: u64,
         floor: u64,
         order: *const Order,
+        tops: *const Tops,
         store: *const u8,
         size: usize,
         s: u64,
         w: u64,
     ) -> Next;
+    fn strundevi_raw_moved(
+        keys: *const Keys,
+        versions: *const Versions,
+        lengths: *const Lengths,
+        version: u64,
+        floor: u64,
+        order: *const Order,
+        tops: *const Tops,
+        store: *const u8,
+        size: usize,
+        from: u64,
+        to: u64,
+        v: u64,
+    ) -> Verdict;
     fn strundevi_raw_fresh_mark(version: u64) -> Mark;
 }
 
@@ -297,7 +318,7 @@ pub fn finish(buffer: &mut [u8], writer: Writer) -> Written {
 
 #[inline]
 pub fn empty(b: &mut Record) {
-    unsafe { strundevi_raw_empty(&mut b.keys, &mut b.versions, &mut b.lengths, &mut b.version, &mut b.floor, &mut b.order) }
+    unsafe { strundevi_raw_empty(&mut b.keys, &mut b.versions, &mut b.lengths, &mut b.version, &mut b.floor, &mut b.order, &mut b.tops) }
 }
 
 #[inline]
@@ -310,6 +331,7 @@ pub fn report(b: &mut Record, store: &mut [u8], key: u64, ero: &[u8], session: S
             &mut b.version,
             &mut b.floor,
             &mut b.order,
+            &mut b.tops,
             store.as_mut_ptr(),
             store.len(),
             key,
@@ -325,22 +347,27 @@ pub fn report(b: &mut Record, store: &mut [u8], key: u64, ero: &[u8], session: S
 
 #[inline]
 pub fn remove(b: &mut Record, store: &[u8], key: u64) -> Verdict {
-    unsafe { strundevi_raw_remove(&b.keys, &mut b.versions, &mut b.lengths, &mut b.version, b.floor, &mut b.order, store.as_ptr(), store.len(), key) }
+    unsafe { strundevi_raw_remove(&b.keys, &mut b.versions, &mut b.lengths, &mut b.version, b.floor, &mut b.order, &mut b.tops, store.as_ptr(), store.len(), key) }
 }
 
 #[inline]
 pub fn compact(b: &mut Record, store: &[u8], c: u64) -> Verdict {
-    unsafe { strundevi_raw_compact(&mut b.keys, &mut b.versions, &b.lengths, b.version, &mut b.floor, &mut b.order, store.as_ptr(), store.len(), c) }
+    unsafe { strundevi_raw_compact(&mut b.keys, &mut b.versions, &b.lengths, b.version, &mut b.floor, &mut b.order, &mut b.tops, store.as_ptr(), store.len(), c) }
 }
 
 #[inline]
 pub fn body(b: &Record, store: &[u8], key: u64) -> Part {
-    unsafe { strundevi_raw_body(&b.keys, &b.versions, &b.lengths, b.version, b.floor, &b.order, store.as_ptr(), store.len(), key) }
+    unsafe { strundevi_raw_body(&b.keys, &b.versions, &b.lengths, b.version, b.floor, &b.order, &b.tops, store.as_ptr(), store.len(), key) }
 }
 
 #[inline]
 pub fn next(b: &Record, store: &[u8], s: u64, w: u64) -> Next {
-    unsafe { strundevi_raw_next(&b.keys, &b.versions, &b.lengths, b.version, b.floor, &b.order, store.as_ptr(), store.len(), s, w) }
+    unsafe { strundevi_raw_next(&b.keys, &b.versions, &b.lengths, b.version, b.floor, &b.order, &b.tops, store.as_ptr(), store.len(), s, w) }
+}
+
+#[inline]
+pub fn moved(b: &Record, store: &[u8], from: u64, to: u64, v: u64) -> Verdict {
+    unsafe { strundevi_raw_moved(&b.keys, &b.versions, &b.lengths, b.version, b.floor, &b.order, &b.tops, store.as_ptr(), store.len(), from, to, v) }
 }
 
 #[inline]

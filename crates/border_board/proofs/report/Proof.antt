@@ -1,6 +1,6 @@
 use Rattle.session.specs.declared.Session.{Session}
 use Rattle.board_record.specs.Table.{tableOf}
-use Rattle.board_record.specs.Record.{withOrder}
+use Rattle.board_record.specs.Record.{withRows}
 use Rattle.report_call.specs.Reported.{reportForOn, reportStoreForOn}
 use Rattle.border_board.proofs.Laws.{told-under}
 use borrow.Author.Needs.{needs}
@@ -23,9 +23,9 @@ returns : tie.Need-returns
 returns c =
     let e = c .before .before .before .report .ensures in
     let lent = c .before .before .before .before .before .before in
-    let came = lent .before .before .before .before .before in
+    let came = lent .before .before .before .before .before .before in
     let args = came .before .before .before .before .args in
-    let b = withOrder (tableOf (args .keys .now) (args .versions .now) (args .lengths .now) (args .version .now) (args .floor .now)) (args .order .now) in
+    let b = withRows (tableOf (args .keys .now) (args .versions .now) (args .lengths .now) (args .version .now) (args .floor .now)) (args .order .now) (args .tops .now) in
     told-under (λ (s : Session). reportForOn b (args .store .now) (args .key) (args .ero .now) s (args .pst) (args .addresses .now))
     (λ (s : Session). reportStoreForOn b (args .store .now) (args .key) (args .ero .now) s (args .pst) (args .addresses .now))
     _ (args .session) _ _ _ _ (came .session-in .ensures) (e .0) (e .1) (c .verdict-out .ensures)

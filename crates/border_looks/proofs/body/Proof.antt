@@ -1,6 +1,6 @@
 use native.Mathlib.Omega.{arith}
 use Rattle.board_record.specs.Table.{tableOf}
-use Rattle.board_record.specs.Record.{withOrder}
+use Rattle.board_record.specs.Record.{withRows}
 use Rattle.board_look.proofs.Looks.{body-here, body-taken}
 use Rattle.border_looks.proofs.Laws.{part-none, part-here}
 use borrow.Author.Needs.{needs}
@@ -13,17 +13,17 @@ body-number-requires c κs = search needs
 returns : tie.Need-returns
 returns c =
     let args = c .before .before .before .before .args in
-    part-none (withOrder (tableOf (args .keys .now) (args .versions .now) (args .lengths .now) (args .version) (args .floor)) (args .order .now))
+    part-none (withRows (tableOf (args .keys .now) (args .versions .now) (args .lengths .now) (args .version) (args .floor)) (args .order .now) (args .tops .now))
     (args .store .now) (args .key) _ (c .before .before .body-number .ensures) (c .if1 .taken)
 
 place-of-requires : tie.Need-place-of-requires
 place-of-requires c κs = search needs
 
-mul-t12 : tie.Need-mul-t12
-mul-t12 c =
+mul-t13 : tie.Need-mul-t13
+mul-t13 c =
     let args = c .before .before .before .before .before .args in
     let t = tableOf (args .keys .now) (args .versions .now) (args .lengths .now) (args .version) (args .floor) in
-    let taken = body-taken (withOrder t (args .order .now)) (args .store .now) (args .key) _ (c .before .before .before .body-number .ensures) (c .before .if1 .left) in
+    let taken = body-taken (withRows t (args .order .now) (args .tops .now)) (args .store .now) (args .key) _ (c .before .before .before .body-number .ensures) (c .before .if1 .left) in
     let h = body-here t (args .store .now) (args .key) _ (taken .1) (c .before .if1 .left) in
     omega (arith, c .place-of .ensures)
 
@@ -33,11 +33,11 @@ length-at-requires c κs = search needs
 returns-2 : tie.Need-returns-2
 returns-2 c =
     let args = c .before .before .before .before .before .before .args in
-    part-here (withOrder (tableOf (args .keys .now) (args .versions .now) (args .lengths .now) (args .version) (args .floor)) (args .order .now))
+    part-here (withRows (tableOf (args .keys .now) (args .versions .now) (args .lengths .now) (args .version) (args .floor)) (args .order .now) (args .tops .now))
     (args .store .now) (args .key) _ _ _ (c .before .before .before .before .body-number .ensures)
     (c .before .before .if1 .left) (c .before .place-of .ensures) (c .length-at .ensures)
 
 pub body-spec : {M : Type 1} → statement M
 body-spec =
     tie.close
-    (tie.spec body-number-requires returns place-of-requires mul-t12 length-at-requires returns-2)
+    (tie.spec body-number-requires returns place-of-requires mul-t13 length-at-requires returns-2)

@@ -1,6 +1,6 @@
 use Rattle.report_call.proofs.Laws.{reported-28, reported-under}
 use Rattle.board_record.specs.Table.{tableOf}
-use Rattle.board_record.specs.Record.{withOrder}
+use Rattle.board_record.specs.Record.{withRows}
 use borrow.Author.Tests.{not-true, not-false}
 use borrow.Author.Needs.{needs}
 use Rattle.report_call.proofs.report.Statement.{statement}
@@ -15,7 +15,7 @@ refused-requires c κs = search needs
 returns : tie.Need-returns
 returns c =
     let args = c .before .before .before .before .before .before .args in
-    let b = withOrder (tableOf (args .keys .now) (args .versions .now) (args .lengths .now) (args .version .now) (args .floor .now)) (args .order .now) in
+    let b = withRows (tableOf (args .keys .now) (args .versions .now) (args .lengths .now) (args .version .now) (args .floor .now)) (args .order .now) (args .tops .now) in
     reported-28 b (args .store .now) (args .key) (args .ero .now) (args .session) (args .pst) (args .addresses .now) (c .before .before .usable .ensures)
     (not-true _ (c .before .if1 .taken)) (c .refused .ensures)
 
@@ -31,11 +31,11 @@ same-length c = search needs
 returns-2 : tie.Need-returns-2
 returns-2 c =
     let e = c .before .before .report .ensures in
-    let before10 = c .before .before .before .before .before .before .before .before .before .before in
-    let args = before10 .before .before .before .before .before .before .args in
-    let b = withOrder (tableOf (args .keys .now) (args .versions .now) (args .lengths .now) (args .version .now) (args .floor .now)) (args .order .now) in
-    reported-under b (args .store .now) (args .key) (args .ero .now) (args .session) (args .pst) (args .addresses .now) (before10 .before .before .usable .ensures)
-    (not-false _ (before10 .before .if1 .left)) (before10 .session-for .ensures) (e .0) (e .1)
+    let before11 = c .before .before .before .before .before .before .before .before .before .before .before in
+    let args = before11 .before .before .before .before .before .before .args in
+    let b = withRows (tableOf (args .keys .now) (args .versions .now) (args .lengths .now) (args .version .now) (args .floor .now)) (args .order .now) (args .tops .now) in
+    reported-under b (args .store .now) (args .key) (args .ero .now) (args .session) (args .pst) (args .addresses .now) (before11 .before .before .usable .ensures)
+    (not-false _ (before11 .before .if1 .left)) (before11 .session-for .ensures) (e .0) (e .1)
 
 pub report-spec : {M : Type 1} → statement M
 report-spec =

@@ -205,6 +205,7 @@ impl Console {
                 Change::Removed { key, version } => format!(" removed {key} {version}"),
                 Change::Level { version } => format!(" level {version}"),
             }),
+            ["moved", a, b, v] => self.board.moved(&self.store, number(a)?, number(b)?, number(v)?).map(|moved| format!(" {}", moved as u8)),
             ["mark"] => {
                 let (s, w) = self.board.fresh_mark();
                 Ok(format!(" {s} {w}"))

@@ -1,6 +1,6 @@
 use native.Mathlib.Omega.{arith}
 use Rattle.board_record.specs.Table.{tableOf}
-use Rattle.board_record.specs.Record.{withOrder}
+use Rattle.board_record.specs.Record.{withRows}
 use Rattle.board_look.proofs.Looks.{body-none-on, body-taken, body-on, body-here, body-room, body-is}
 use borrow.Author.Needs.{needs}
 use Rattle.board_look.proofs.looking.body.Statement.{statement}
@@ -22,7 +22,7 @@ returns : tie.Need-returns
 returns c =
     let args = c .before .before .before .before .before .args in
     let t = tableOf (args .keys .now) (args .versions .now) (args .lengths .now) (args .version) (args .floor) in
-    body-none-on (withOrder t (args .order .now)) (args .store .now) (args .key) _ (c .before .before .before .body-number .ensures) (c .before .if1 .taken)
+    body-none-on (withRows t (args .order .now) (args .tops .now)) (args .store .now) (args .key) _ (c .before .before .before .body-number .ensures) (c .before .if1 .taken)
 
 place-of-requires : tie.Need-place-of-requires
 place-of-requires c κs = search needs
@@ -31,7 +31,7 @@ start-of-requires : tie.Need-start-of-requires
 start-of-requires c κs =
     let args = c .before .before .before .before .before .args in
     let t = tableOf (args .keys .now) (args .versions .now) (args .lengths .now) (args .version) (args .floor) in
-    let taken = body-taken (withOrder t (args .order .now)) (args .store .now) (args .key) _ (c .before .before .before .body-number .ensures) (c .before .if1 .left) in
+    let taken = body-taken (withRows t (args .order .now) (args .tops .now)) (args .store .now) (args .key) _ (c .before .before .before .body-number .ensures) (c .before .if1 .left) in
     let h = body-here t (args .store .now) (args .key) _ (taken .1) (c .before .if1 .left) in
     omega (arith, c .place-of .ensures)
 
@@ -42,8 +42,10 @@ add-to : tie.Need-add-to
 add-to c =
     let args = c .before .before .before .before .before .before .before .args in
     let t = tableOf (args .keys .now) (args .versions .now) (args .lengths .now) (args .version) (args .floor) in
-    let taken = body-taken (withOrder t (args .order .now)) (args .store .now) (args .key) _ (c .before .before .before .before .before .body-number .ensures) (c .before .before .before .if1 .left) in
-    let h = body-room t (args .store .now) (args .key) _ _ _ (taken .1) (c .before .before .before .if1 .left) (c .before .before .place-of .ensures) (c .length-at .ensures) in
+    let taken = body-taken (withRows t (args .order .now) (args .tops .now)) (args .store .now) (args .key) _
+    (c .before .before .before .before .before .body-number .ensures) (c .before .before .before .if1 .left) in
+    let h = body-room t (args .store .now) (args .key) _ _ _ (taken .1) (c .before .before .before .if1 .left)
+    (c .before .before .place-of .ensures) (c .length-at .ensures) in
     omega (arith, c .before .start-of .ensures)
 
 sub-result-2 : tie.Need-sub-result-2
@@ -56,8 +58,10 @@ part-result-end-2 : tie.Need-part-result-end-2
 part-result-end-2 c =
     let args = c .before .before .before .before .before .before .before .args in
     let t = tableOf (args .keys .now) (args .versions .now) (args .lengths .now) (args .version) (args .floor) in
-    let taken = body-taken (withOrder t (args .order .now)) (args .store .now) (args .key) _ (c .before .before .before .before .before .body-number .ensures) (c .before .before .before .if1 .left) in
-    let h = body-room t (args .store .now) (args .key) _ _ _ (taken .1) (c .before .before .before .if1 .left) (c .before .before .place-of .ensures) (c .length-at .ensures) in
+    let taken = body-taken (withRows t (args .order .now) (args .tops .now)) (args .store .now) (args .key) _
+    (c .before .before .before .before .before .body-number .ensures) (c .before .before .before .if1 .left) in
+    let h = body-room t (args .store .now) (args .key) _ _ _ (taken .1) (c .before .before .before .if1 .left)
+    (c .before .before .place-of .ensures) (c .length-at .ensures) in
     omega (arith, c .before .start-of .ensures)
 
 returns-2 : tie.Need-returns-2
@@ -65,9 +69,9 @@ returns-2 c =
     let before4 = c .before .before .before .before in
     let args = before4 .before .before .before .before .args in
     let t = tableOf (args .keys .now) (args .versions .now) (args .lengths .now) (args .version) (args .floor) in
-    let taken = body-taken (withOrder t (args .order .now)) (args .store .now) (args .key) _
+    let taken = body-taken (withRows t (args .order .now) (args .tops .now)) (args .store .now) (args .key) _
     (before4 .before .before .body-number .ensures) (before4 .if1 .left) in
-    body-on (withOrder t (args .order .now)) (args .store .now) (args .key) _ (taken .0)
+    body-on (withRows t (args .order .now) (args .tops .now)) (args .store .now) (args .key) _ (taken .0)
     (body-is t (args .store .now) (args .key) _ _ _ _ (taken .1) (before4 .if1 .left)
     (c .before .before .before .place-of .ensures) (c .before .length-at .ensures)
     (c .before .before .start-of .ensures))

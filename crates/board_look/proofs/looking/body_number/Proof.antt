@@ -1,7 +1,7 @@
 use Rattle.board_record.specs.Table.{tableOf}
 use mathlib.Core.Path.{refl, sym}
 use mathlib.Core.Bool.{true, false}
-use Rattle.board_record.specs.Record.{withOrder}
+use Rattle.board_record.specs.Record.{withRows}
 use Rattle.board_rules.proofs.OnRecord.{record-is, number-not, number-on}
 use Rattle.board_look.proofs.Looks.{number-not-board, number-is}
 use borrow.Author.Needs.{needs}
@@ -18,7 +18,7 @@ returns : tie.Need-returns
 returns c =
     let args = c .before .before .before .before .args in
     let t = tableOf (args .keys .now) (args .versions .now) (args .lengths .now) (args .version) (args .floor) in
-    number-not (withOrder t (args .order .now)) (args .store .now) (args .key) _ _ _ (c .before .before .is-board .ensures) (c .before .if1 .taken)
+    number-not (withRows t (args .order .now) (args .tops .now)) (args .store .now) (args .key) _ _ _ (c .before .before .is-board .ensures) (c .before .if1 .taken)
     (c .refused .ensures) (λ h. number-not-board t (args .store .now) (args .key) false _ (sym h) refl (c .refused .ensures))
 
 place-of-requires : tie.Need-place-of-requires
@@ -34,7 +34,7 @@ returns-2 : tie.Need-returns-2
 returns-2 c =
     let args = c .before .before .before .before .before .before .args in
     let t = tableOf (args .keys .now) (args .versions .now) (args .lengths .now) (args .version) (args .floor) in
-    let b = withOrder t (args .order .now) in
+    let b = withRows t (args .order .now) (args .tops .now) in
     let h = record-is b _ _ (c .before .before .before .before .is-board .ensures) (c .before .before .before .if1 .left) in
     number-on b (args .store .now) (args .key) _ (h .1)
     (number-is t (args .store .now) (args .key) true _ _ _ (sym (h .0)) refl (c .before .before .place-of .ensures) (c .before .length-at .ensures)

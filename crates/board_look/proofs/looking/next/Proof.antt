@@ -3,9 +3,9 @@ use native.Mathlib.Omega.{arith}
 use Rattle.board_record.specs.Table.{tableOf}
 use mathlib.Core.Path.{refl, sym, ap}
 use mathlib.Core.Bool.{true, false}
-use Rattle.board_record.specs.Record.{withOrder}
+use Rattle.board_record.specs.Record.{withRows}
 use Rattle.board_rules.specs.declared.answer.Handed.the-variants.{Refused}
-use Rattle.board_rules.proofs.OnRecord.{record-is, next-not, next-on}
+use Rattle.board_rules.proofs.OnRecord.{record-is, tidy-order, next-not, next-on}
 use Rattle.board_rules.proofs.Told.{board-proper}
 use Rattle.board_look.proofs.Looks.{next-not-board, next-verdict, next-refused, next-level, next-removed, next-path}
 use borrow.Author.Needs.{needs}
@@ -22,7 +22,7 @@ returns : tie.Need-returns
 returns c =
     let args = c .before .before .before .before .args in
     let t = tableOf (args .keys .now) (args .versions .now) (args .lengths .now) (args .version) (args .floor) in
-    next-not (withOrder t (args .order .now)) (args .store .now) (args .s) (args .w) _ _ _ (c .before .before .is-board .ensures) (c .before .if1 .taken)
+    next-not (withRows t (args .order .now) (args .tops .now)) (args .store .now) (args .s) (args .w) _ _ _ (c .before .before .is-board .ensures) (c .before .if1 .taken)
     (ap Refused (c .refused .ensures)) (λ h. next-not-board t (args .store .now) (args .s) (args .w) false _ (sym h) refl (c .refused .ensures))
 
 next-rules-requires : tie.Need-next-rules-requires
@@ -32,11 +32,11 @@ returns-2 : tie.Need-returns-2
 returns-2 c =
     let args = c .before .before .before .before .before .before .args in
     next-on
-    (withOrder (tableOf (args .keys .now) (args .versions .now) (args .lengths .now) (args .version) (args .floor))
-    (args .order .now)) (args .store .now) (args .s) (args .w) _
+    (withRows (tableOf (args .keys .now) (args .versions .now) (args .lengths .now) (args .version) (args .floor))
+    (args .order .now) (args .tops .now)) (args .store .now) (args .s) (args .w) _
     ((record-is
-    (withOrder (tableOf (args .keys .now) (args .versions .now) (args .lengths .now) (args .version) (args .floor))
-    (args .order .now)) _ _ (c .before .before .before .before .is-board .ensures)
+    (withRows (tableOf (args .keys .now) (args .versions .now) (args .lengths .now) (args .version) (args .floor))
+    (args .order .now) (args .tops .now)) _ _ (c .before .before .before .before .is-board .ensures)
     (c .before .before .before .if1 .left)) .1)
     (next-refused (tableOf (args .keys .now) (args .versions .now) (args .lengths .now) (args .version) (args .floor))
     (args .store .now) (args .s) (args .w) _
@@ -44,35 +44,36 @@ returns-2 c =
     (args .store .now) (args .s) (args .w) true _
     (sym
     ((record-is
-    (withOrder (tableOf (args .keys .now) (args .versions .now) (args .lengths .now) (args .version) (args .floor))
-    (args .order .now)) _ _ (c .before .before .before .before .is-board .ensures)
+    (withRows (tableOf (args .keys .now) (args .versions .now) (args .lengths .now) (args .version) (args .floor))
+    (args .order .now) (args .tops .now)) _ _ (c .before .before .before .before .is-board .ensures)
     (c .before .before .before .if1 .left)) .0)) refl (c .before .before .next-rules .ensures)) (c .if2 .taken))
 
 next-place-requires : tie.Need-next-place-requires
 next-place-requires c κs =
     let args = c .before .before .before .before .before .before .args in
     let t = tableOf (args .keys .now) (args .versions .now) (args .lengths .now) (args .version) (args .floor) in
-    let h = record-is (withOrder t (args .order .now)) _ _ (c .before .before .before .before .is-board .ensures) (c .before .before .before .if1 .left) in
-    (board-proper t _ (h .0), h .1)
+    let b = withRows t (args .order .now) (args .tops .now) in
+    let h = record-is b _ _ (c .before .before .before .before .is-board .ensures) (c .before .before .before .if1 .left) in
+    (board-proper t _ (h .0), tidy-order b (h .1))
 
 returns-3 : tie.Need-returns-3
 returns-3 c =
     let before4 = c .before .before .before .before in
     let args = before4 .before .before .before .before .args in
     next-on
-    (withOrder (tableOf (args .keys .now) (args .versions .now) (args .lengths .now) (args .version) (args .floor))
-    (args .order .now)) (args .store .now) (args .s) (args .w) _
+    (withRows (tableOf (args .keys .now) (args .versions .now) (args .lengths .now) (args .version) (args .floor))
+    (args .order .now) (args .tops .now)) (args .store .now) (args .s) (args .w) _
     ((record-is
-    (withOrder (tableOf (args .keys .now) (args .versions .now) (args .lengths .now) (args .version) (args .floor))
-    (args .order .now)) _ _ (before4 .before .before .is-board .ensures) (before4 .before .if1 .left)) .1)
+    (withRows (tableOf (args .keys .now) (args .versions .now) (args .lengths .now) (args .version) (args .floor))
+    (args .order .now) (args .tops .now)) _ _ (before4 .before .before .is-board .ensures) (before4 .before .if1 .left)) .1)
     (next-level (tableOf (args .keys .now) (args .versions .now) (args .lengths .now) (args .version) (args .floor))
     (args .store .now) (args .s) (args .w) _ _
     (next-verdict (tableOf (args .keys .now) (args .versions .now) (args .lengths .now) (args .version) (args .floor))
     (args .store .now) (args .s) (args .w) true _
     (sym
     ((record-is
-    (withOrder (tableOf (args .keys .now) (args .versions .now) (args .lengths .now) (args .version) (args .floor))
-    (args .order .now)) _ _ (before4 .before .before .is-board .ensures) (before4 .before .if1 .left)) .0)) refl
+    (withRows (tableOf (args .keys .now) (args .versions .now) (args .lengths .now) (args .version) (args .floor))
+    (args .order .now) (args .tops .now)) _ _ (before4 .before .before .is-board .ensures) (before4 .before .if1 .left)) .0)) refl
     (before4 .next-rules .ensures)) (c .before .before .if2 .left) (c .before .next-place .ensures) (c .if3 .taken))
 
 mul-wide32 : tie.Need-mul-wide32
@@ -84,11 +85,11 @@ element-copy-out-wide32 c = search needs
 wide32-requires : tie.Need-wide32-requires
 wide32-requires c κs = search needs
 
-mul-t22 : tie.Need-mul-t22
-mul-t22 c = search needs
+mul-t23 : tie.Need-mul-t23
+mul-t23 c = search needs
 
-element-copy-out-t25 : tie.Need-element-copy-out-t25
-element-copy-out-t25 c = search needs
+element-copy-out-t26 : tie.Need-element-copy-out-t26
+element-copy-out-t26 c = search needs
 
 mul-wide16 : tie.Need-mul-wide16
 mul-wide16 c = search needs
@@ -105,19 +106,19 @@ returns-4 c =
     let before10 = before6 .before .before .before .before in
     let args = before10 .before .before .before .before .args in
     next-on
-    (withOrder (tableOf (args .keys .now) (args .versions .now) (args .lengths .now) (args .version) (args .floor))
-    (args .order .now)) (args .store .now) (args .s) (args .w) _
+    (withRows (tableOf (args .keys .now) (args .versions .now) (args .lengths .now) (args .version) (args .floor))
+    (args .order .now) (args .tops .now)) (args .store .now) (args .s) (args .w) _
     ((record-is
-    (withOrder (tableOf (args .keys .now) (args .versions .now) (args .lengths .now) (args .version) (args .floor))
-    (args .order .now)) _ _ (before10 .before .before .is-board .ensures) (before10 .before .if1 .left)) .1)
+    (withRows (tableOf (args .keys .now) (args .versions .now) (args .lengths .now) (args .version) (args .floor))
+    (args .order .now) (args .tops .now)) _ _ (before10 .before .before .is-board .ensures) (before10 .before .if1 .left)) .1)
     (next-removed (tableOf (args .keys .now) (args .versions .now) (args .lengths .now) (args .version) (args .floor))
     (args .store .now) (args .s) (args .w) _ _ _ _
     (next-verdict (tableOf (args .keys .now) (args .versions .now) (args .lengths .now) (args .version) (args .floor))
     (args .store .now) (args .s) (args .w) true _
     (sym
     ((record-is
-    (withOrder (tableOf (args .keys .now) (args .versions .now) (args .lengths .now) (args .version) (args .floor))
-    (args .order .now)) _ _ (before10 .before .before .is-board .ensures) (before10 .before .if1 .left)) .0)) refl
+    (withRows (tableOf (args .keys .now) (args .versions .now) (args .lengths .now) (args .version) (args .floor))
+    (args .order .now) (args .tops .now)) _ _ (before10 .before .before .is-board .ensures) (before10 .before .if1 .left)) .0)) refl
     (before10 .next-rules .ensures)) (before6 .before .before .if2 .left) (before6 .before .next-place .ensures)
     (before6 .if3 .left) (c .before .before .before .before .wide32 .ensures) (c .before .wide16 .ensures)
     (c .if4 .taken))
@@ -128,19 +129,19 @@ returns-5 c =
     let before10 = before6 .before .before .before .before in
     let args = before10 .before .before .before .before .args in
     next-on
-    (withOrder (tableOf (args .keys .now) (args .versions .now) (args .lengths .now) (args .version) (args .floor))
-    (args .order .now)) (args .store .now) (args .s) (args .w) _
+    (withRows (tableOf (args .keys .now) (args .versions .now) (args .lengths .now) (args .version) (args .floor))
+    (args .order .now) (args .tops .now)) (args .store .now) (args .s) (args .w) _
     ((record-is
-    (withOrder (tableOf (args .keys .now) (args .versions .now) (args .lengths .now) (args .version) (args .floor))
-    (args .order .now)) _ _ (before10 .before .before .is-board .ensures) (before10 .before .if1 .left)) .1)
+    (withRows (tableOf (args .keys .now) (args .versions .now) (args .lengths .now) (args .version) (args .floor))
+    (args .order .now) (args .tops .now)) _ _ (before10 .before .before .is-board .ensures) (before10 .before .if1 .left)) .1)
     (next-path (tableOf (args .keys .now) (args .versions .now) (args .lengths .now) (args .version) (args .floor))
     (args .store .now) (args .s) (args .w) _ _ _ _
     (next-verdict (tableOf (args .keys .now) (args .versions .now) (args .lengths .now) (args .version) (args .floor))
     (args .store .now) (args .s) (args .w) true _
     (sym
     ((record-is
-    (withOrder (tableOf (args .keys .now) (args .versions .now) (args .lengths .now) (args .version) (args .floor))
-    (args .order .now)) _ _ (before10 .before .before .is-board .ensures) (before10 .before .if1 .left)) .0)) refl
+    (withRows (tableOf (args .keys .now) (args .versions .now) (args .lengths .now) (args .version) (args .floor))
+    (args .order .now) (args .tops .now)) _ _ (before10 .before .before .is-board .ensures) (before10 .before .if1 .left)) .0)) refl
     (before10 .next-rules .ensures)) (before6 .before .before .if2 .left) (before6 .before .next-place .ensures)
     (before6 .if3 .left) (c .before .before .before .before .wide32 .ensures) (c .before .wide16 .ensures)
     (c .if4 .left))
@@ -159,8 +160,8 @@ next-spec =
     mul-wide32
     element-copy-out-wide32
     wide32-requires
-    mul-t22
-    element-copy-out-t25
+    mul-t23
+    element-copy-out-t26
     mul-wide16
     element-copy-out-wide16
     wide16-requires

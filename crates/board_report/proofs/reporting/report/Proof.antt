@@ -1,13 +1,15 @@
 -- The board decides, then stores. Each refusal is one law of the table (`report-not-board`, `report-refused`) and one of the record, the acceptance two others;
--- between them every need of a store is met by what the passed rules say (`passed`), and the order is what `move_last` leaves.
+-- between them every need of a store is met by what the passed rules say (`passed`), the order is what `move_last` leaves, the largest versions what `raise` does.
 use native.Mathlib.Omega.{arith}
 use Prim.Native.Nat.{_+_}
 use mathlib.Core.Path.{refl, sym}
 use mathlib.Core.Bool.{true, false}
 use Rattle.board_record.specs.Table.{tableOf}
-use Rattle.board_record.specs.Record.{withOrder}
+use Rattle.board_record.specs.Record.{withRows}
+use Rattle.board_record.proofs.Proper.{proper-is}
+use Rattle.board_record.proofs.Tops.{versions-in}
 use Rattle.board_rules.proofs.Told.{board-proper, version-room}
-use Rattle.board_rules.proofs.OnRecord.{record-is, result-not, result-refused, result-accepted, store-not, store-on}
+use Rattle.board_rules.proofs.OnRecord.{record-is, tidy-order, tidy-tops, result-not, result-refused, result-accepted, store-not, store-on}
 use Rattle.board_report.proofs.Reports.{passed, body-there, report-not-board, store-not-board, report-verdict, report-refused, store-refused}
 use Rattle.board_report.proofs.Reports.{report-accepted, store-accepted, report-room, lay-fits}
 use borrow.Author.Needs.{needs}
@@ -22,26 +24,20 @@ refused-requires c κs = search needs
 
 returns : tie.Need-returns
 returns c =
-    let args = c .before .before .before .before .before .before .before .before .before .before .before .args in
-    let t = tableOf (args .keys .now) (args .versions .now) (args .lengths .now) (args .version .now)
-    (args .floor .now) in
-    let b = withOrder t (args .order .now) in (
+    let args = c .before .before .before .before .before .before .before .before .before .before .before .before .args in
+    let t = tableOf (args .keys .now) (args .versions .now) (args .lengths .now) (args .version .now) (args .floor .now) in
+    let b = withRows t (args .order .now) (args .tops .now) in (
       result-not b _ _ _ _ (c .before .before .is-board .ensures) (c .before .if1 .taken) (c .refused .ensures)
-          (λ e.
-          report-not-board t (args .store .now) (args .key) (args .ero .now) (args .session) (args .pst) false _ (sym e)
-          refl (c .refused .ensures)),
-      store-not b (args .store .now) (args .key) (args .ero .now) (args .session) (args .pst) _ _
-          (c .before .before .is-board .ensures) (c .before .if1 .taken)
-          (λ e.
-          store-not-board t (args .store .now) (args .key) (args .ero .now) (args .session) (args .pst) false (sym e)
-          refl),
+          (λ e. report-not-board t (args .store .now) (args .key) (args .ero .now) (args .session) (args .pst) false _ (sym e) refl (c .refused .ensures)),
+      store-not b (args .store .now) (args .key) (args .ero .now) (args .session) (args .pst) _ _ (c .before .before .is-board .ensures) (c .before .if1 .taken)
+          (λ e. store-not-board t (args .store .now) (args .key) (args .ero .now) (args .session) (args .pst) false (sym e) refl),
     )
 
 target-requires : tie.Need-target-requires
 target-requires c κs =
-    let args = c .before .before .before .before .before .before .before .before .before .before .before .before .before .args in
+    let args = c .before .before .before .before .before .before .before .before .before .before .before .before .before .before .args in
     let t = tableOf (args .keys .now) (args .versions .now) (args .lengths .now) (args .version .now) (args .floor .now) in
-    let b = withOrder t (args .order .now) in
+    let b = withRows t (args .order .now) (args .tops .now) in
     let h = record-is b _ _ (c .before .before .before .before .is-board .ensures) (c .before .before .before .if1 .left) in
     board-proper t _ (h .0)
 
@@ -57,15 +53,15 @@ report-rules-requires c κs = search needs
 returns-2 : tie.Need-returns-2
 returns-2 c =
     let before9 = c .before .before .before .before .before .before .before .before .before in
-    let args = before9 .before .before .before .before .before .before .before .before .before .before .args in
+    let args = before9 .before .before .before .before .before .before .before .before .before .before .before .args in
     let t = tableOf (args .keys .now) (args .versions .now) (args .lengths .now) (args .version .now)
     (args .floor .now) in
-    let b = withOrder t (args .order .now) in
+    let b = withRows t (args .order .now) (args .tops .now) in
     let h = record-is b _ _ (before9 .before .is-board .ensures) (before9 .if1 .left) in
-    let v = (report-verdict t (args .store .now) (args .key) (args .ero .now) (args .session) (args .pst) true _ _ _ _
+    let v = report-verdict t (args .store .now) (args .key) (args .ero .now) (args .session) (args .pst) true _ _ _ _
     (sym (h .0)) refl (c .before .before .before .before .before .target .ensures)
     (c .before .before .before .before .body-size .ensures) (c .before .before .before .judge .ensures)
-    (c .before .before .report-rules .ensures)) in (
+    (c .before .before .report-rules .ensures) in (
       result-refused b _ _ (h .1)
           (report-refused t (args .store .now) (args .key) (args .ero .now) (args .session) (args .pst) _ v
           (c .if2 .taken)) (c .if2 .taken),
@@ -77,20 +73,23 @@ returns-2 c =
 floor-after-requires : tie.Need-floor-after-requires
 floor-after-requires c κs =
     let before4 = c .before .before .before .before in
+    let rules = before4 .report-rules in
+    let judge = before4 .before .judge in
+    let size = before4 .before .before .body-size in
+    let target = before4 .before .before .before .target in
     let before13 = before4 .before .before .before .before .before .before .before .before .before in
-    let args = before13 .before .before .before .before .before .before .before .before .args in
-    let g = passed (args .key) (before4 .before .judge .result) (before4 .before .before .body-size .result)
-    (args .version .now) (before4 .before .before .before .target .result) _ (before4 .report-rules .ensures)
+    let args = before13 .before .before .before .before .before .before .before .before .before .args in
+    let g = passed (args .key) (judge .result) (size .result) (args .version .now) (target .result) _ (rules .ensures)
     (c .before .before .if2 .left) in
     g .place
 
 add-next : tie.Need-add-next
 add-next c =
     let before12 = c .before .before .before .before .before .before .before .before .before .before .before .before in
-    let args = before12 .before .before .before .before .before .before .before .before .before .before .args in
+    let args = before12 .before .before .before .before .before .before .before .before .before .before .before .args in
     let t = tableOf (args .keys .now) (args .versions .now) (args .lengths .now) (args .version .now)
     (args .floor .now) in
-    let b = withOrder t (args .order .now) in
+    let b = withRows t (args .order .now) (args .tops .now) in
     let h = record-is b _ _ (before12 .before .is-board .ensures) (before12 .if1 .left) in
     let g = version-room t _ true (sym (h .0)) refl in omega arith
 
@@ -98,81 +97,119 @@ move-last-requires : tie.Need-move-last-requires
 move-last-requires c κs =
     let before11 = c .before .before .before .before .before .before .before .before .before .before .before in
     let before18 = before11 .before .before .before .before .before .before .before in
-    let args = before18 .before .before .before .before .before .before .before .before .before .before .args in
+    let args = before18 .before .before .before .before .before .before .before .before .before .before .before .args in
     let t = tableOf (args .keys .now) (args .versions .now) (args .lengths .now) (args .version .now)
     (args .floor .now) in
-    let b = withOrder t (args .order .now) in
+    let b = withRows t (args .order .now) (args .tops .now) in
     let h = record-is b _ _ (before18 .before .is-board .ensures) (before18 .if1 .left) in
     let g = passed (args .key) (before11 .before .judge .result) (before11 .before .before .body-size .result)
     (args .version .now) (before11 .before .before .before .target .result) _ (before11 .report-rules .ensures)
     (c .before .before .before .before .before .before .before .before .before .if2 .left) in
-    (search needs, search needs, search needs, board-proper t _ (h .0), h .1, g .place)
+    let keys = c .before .before .before .before .move-last-arg2 .given .0 in
+    let versions = c .before .before .move-last-arg4 .given .0 in
+    (keys, versions, search needs, board-proper t _ (h .0), tidy-order b (h .1), g .place)
+
+raise-requires : tie.Need-raise-requires
+raise-requires c κs =
+    let before13 = c .before .before .before .before .before .before .before .before .before .before .before .before .before in
+    let before16 = before13 .before .before .before in
+    let before22 = before16 .before .before .before .before .before .before in
+    let args = before22 .before .before .before .before .before .before .before .before .before .before .before .args in
+    let t = tableOf (args .keys .now) (args .versions .now) (args .lengths .now) (args .version .now)
+    (args .floor .now) in
+    let b = withRows t (args .order .now) (args .tops .now) in
+    let h = record-is b _ _ (before22 .before .is-board .ensures) (before22 .if1 .left) in
+    let g = passed (args .key) (before16 .judge .result) (before16 .before .body-size .result) (args .version .now)
+    (before16 .before .before .target .result) _ (before13 .before .before .report-rules .ensures) (before13 .if2 .left) in (
+      search needs,
+      search needs,
+      tidy-tops b (h .1),
+      g .place,
+      λ p k. omega (arith, versions-in t (proper-is t (board-proper t _ (h .0))) p k),
+    )
 
 start-of-requires : tie.Need-start-of-requires
 start-of-requires c κs =
-    let before11 = c .before .before .before .before .before .before .before .before .before .before .before in
-    let before14 = before11 .before .before .before in
-    let before22 = before14 .before .before .before .before .before .before .before .before in
-    let args = before22 .before .before .before .before .before .before .before .before .args in
-    let g = passed (args .key) (before14 .judge .result) (before14 .before .body-size .result) (args .version .now)
-    (before14 .before .before .target .result) _ (before11 .before .before .report-rules .ensures)
-    (before11 .if2 .left) in
+    let before7 = c .before .before .before .before .before .before .before in
+    let before15 = before7 .before .before .before .before .before .before .before .before in
+    let rules = before15 .before .before .report-rules in
+    let before18 = before15 .before .before .before in
+    let judge = before18 .judge in
+    let size = before18 .before .body-size in
+    let target = before18 .before .before .target in
+    let before27 = before18 .before .before .before .before .before .before .before .before .before in
+    let args = before27 .before .before .before .before .before .before .before .before .args in
+    let g = passed (args .key) (judge .result) (size .result) (args .version .now) (target .result) _ (rules .ensures)
+    (before15 .if2 .left) in
     g .place
 
 sub-lay : tie.Need-sub-lay
 sub-lay c =
-    let before12 = c .before .before .before .before .before .before .before .before .before .before .before .before in
-    let before15 = before12 .before .before .before in
-    let before23 = before15 .before .before .before .before .before .before .before .before in
-    let args = before23 .before .before .before .before .before .before .before .before .args in
-    let g = passed (args .key) (before15 .judge .result) (before15 .before .body-size .result) (args .version .now)
-    (before15 .before .before .target .result) _ (before12 .before .before .report-rules .ensures)
-    (before12 .if2 .left) in
-    let z = body-there (args .ero .now) (args .session) (args .pst) _ (before15 .judge .ensures) (g .route-taken) in
-    omega arith
+    let before8 = c .before .before .before .before .before .before .before .before in
+    let before16 = before8 .before .before .before .before .before .before .before .before in
+    let rules = before16 .before .before .report-rules in
+    let before19 = before16 .before .before .before in
+    let judge = before19 .judge in
+    let size = before19 .before .body-size in
+    let target = before19 .before .before .target in
+    let before28 = before19 .before .before .before .before .before .before .before .before .before in
+    let args = before28 .before .before .before .before .before .before .before .before .args in
+    let g = passed (args .key) (judge .result) (size .result) (args .version .now) (target .result) _ (rules .ensures)
+    (before16 .if2 .left) in
+    let z = body-there (args .ero .now) (args .session) (args .pst) _ (judge .ensures) (g .route-taken) in omega arith
 
 part-lay-start : tie.Need-part-lay-start
 part-lay-start c =
-    let before12 = c .before .before .before .before .before .before .before .before .before .before .before .before in
-    let before15 = before12 .before .before .before in
-    let before23 = before15 .before .before .before .before .before .before .before .before in
-    let args = before23 .before .before .before .before .before .before .before .before .args in
-    let g = passed (args .key) (before15 .judge .result) (before15 .before .body-size .result) (args .version .now)
-    (before15 .before .before .target .result) _ (before12 .before .before .report-rules .ensures)
-    (before12 .if2 .left) in
-    let z = body-there (args .ero .now) (args .session) (args .pst) _ (before15 .judge .ensures) (g .route-taken) in
-    omega arith
+    let before8 = c .before .before .before .before .before .before .before .before in
+    let before16 = before8 .before .before .before .before .before .before .before .before in
+    let rules = before16 .before .before .report-rules in
+    let before19 = before16 .before .before .before in
+    let judge = before19 .judge in
+    let size = before19 .before .body-size in
+    let target = before19 .before .before .target in
+    let before28 = before19 .before .before .before .before .before .before .before .before .before in
+    let args = before28 .before .before .before .before .before .before .before .before .args in
+    let g = passed (args .key) (judge .result) (size .result) (args .version .now) (target .result) _ (rules .ensures)
+    (before16 .if2 .left) in
+    let z = body-there (args .ero .now) (args .session) (args .pst) _ (judge .ensures) (g .route-taken) in omega arith
 
 part-lay-end : tie.Need-part-lay-end
 part-lay-end c = search needs
 
 lay-requires : tie.Need-lay-requires
 lay-requires c κs =
-    let before13 = c .before .before .before .before .before .before .before .before .before .before .before .before .before in
-    let before15 = before13 .before .before in
-    let before22 = before15 .before .before .before .before .before .before .before in
-    let args = before22 .before .before .before .before .before .before .before .before .before .before .args in
+    let before8 = c .before .before .before .before .before .before .before .before in
+    let before17 = before8 .before .before .before .before .before .before .before .before .before in
+    let before20 = before17 .before .before .before in
+    let before26 = before20 .before .before .before .before .before .before in
+    let args = before26 .before .before .before .before .before .before .before .before .before .before .before .args in
     let t = tableOf (args .keys .now) (args .versions .now) (args .lengths .now) (args .version .now)
     (args .floor .now) in
-    let b = withOrder t (args .order .now) in
-    let h = record-is b _ _ (before22 .before .is-board .ensures) (before22 .if1 .left) in
-    let g = passed (args .key) (before15 .before .judge .result) (before15 .before .before .body-size .result)
-    (args .version .now) (before15 .before .before .before .target .result) _ (before15 .report-rules .ensures)
-    (before13 .if2 .left) in
-    lay-fits (args .store .now) (args .ero .now) _ _ _ (before15 .before .before .body-size .ensures) (g .size)
+    let b = withRows t (args .order .now) (args .tops .now) in
+    let h = record-is b _ _ (before26 .before .is-board .ensures) (before26 .if1 .left) in
+    let judge = before20 .judge in
+    let size = before20 .before .body-size in
+    let target = before20 .before .before .target in
+    let rules = before17 .before .before .report-rules in
+    let g = passed (args .key) (judge .result) (size .result) (args .version .now) (target .result) _ (rules .ensures)
+    (before17 .if2 .left) in
+    lay-fits (args .store .now) (args .ero .now) _ _ _ (size .ensures) (g .size)
     (report-room t (args .store .now) (args .key) (args .ero .now) (args .session) (args .pst) true _ (sym (h .0)) refl
     (g .place)) (c .before .start-of .ensures)
 
 cast-keys : tie.Need-cast-keys
 cast-keys c =
-    let before8 = c .before .before .before .before .before .before .before .before in
-    let before16 = before8 .before .before .before .before .before .before .before .before in
-    let before19 = before16 .before .before .before in
-    let before27 = before19 .before .before .before .before .before .before .before .before in
-    let args = before27 .before .before .before .before .before .before .before .before .args in
-    let g = passed (args .key) (before19 .judge .result) (before19 .before .body-size .result) (args .version .now)
-    (before19 .before .before .target .result) _ (before16 .before .before .report-rules .ensures)
-    (before16 .if2 .left) in
+    let before10 = c .before .before .before .before .before .before .before .before .before .before in
+    let before20 = before10 .before .before .before .before .before .before .before .before .before .before in
+    let rules = before20 .before .before .report-rules in
+    let before23 = before20 .before .before .before in
+    let judge = before23 .judge in
+    let size = before23 .before .body-size in
+    let target = before23 .before .before .target in
+    let before32 = before23 .before .before .before .before .before .before .before .before .before in
+    let args = before32 .before .before .before .before .before .before .before .before .args in
+    let g = passed (args .key) (judge .result) (size .result) (args .version .now) (target .result) _ (rules .ensures)
+    (before20 .if2 .left) in
     omega (arith, g .key)
 
 mul-keys : tie.Need-mul-keys
@@ -180,14 +217,17 @@ mul-keys c = search needs
 
 element-write-keys : tie.Need-element-write-keys
 element-write-keys c =
-    let before8 = c .before .before .before .before .before .before .before .before in
-    let before16 = before8 .before .before .before .before .before .before .before .before in
-    let before19 = before16 .before .before .before in
-    let before27 = before19 .before .before .before .before .before .before .before .before in
-    let args = before27 .before .before .before .before .before .before .before .before .args in
-    let g = passed (args .key) (before19 .judge .result) (before19 .before .body-size .result) (args .version .now)
-    (before19 .before .before .target .result) _ (before16 .before .before .report-rules .ensures)
-    (before16 .if2 .left) in
+    let before10 = c .before .before .before .before .before .before .before .before .before .before in
+    let before20 = before10 .before .before .before .before .before .before .before .before .before .before in
+    let rules = before20 .before .before .report-rules in
+    let before23 = before20 .before .before .before in
+    let judge = before23 .judge in
+    let size = before23 .before .body-size in
+    let target = before23 .before .before .target in
+    let before32 = before23 .before .before .before .before .before .before .before .before .before in
+    let args = before32 .before .before .before .before .before .before .before .before .args in
+    let g = passed (args .key) (judge .result) (size .result) (args .version .now) (target .result) _ (rules .ensures)
+    (before20 .if2 .left) in
     omega (arith, g .place)
 
 mul-versions : tie.Need-mul-versions
@@ -195,26 +235,32 @@ mul-versions c = search needs
 
 element-write-versions : tie.Need-element-write-versions
 element-write-versions c =
-    let before8 = c .before .before .before .before .before .before .before .before in
-    let before16 = before8 .before .before .before .before .before .before .before .before in
-    let before19 = before16 .before .before .before in
-    let before27 = before19 .before .before .before .before .before .before .before .before in
-    let args = before27 .before .before .before .before .before .before .before .before .args in
-    let g = passed (args .key) (before19 .judge .result) (before19 .before .body-size .result) (args .version .now)
-    (before19 .before .before .target .result) _ (before16 .before .before .report-rules .ensures)
-    (before16 .if2 .left) in
+    let before10 = c .before .before .before .before .before .before .before .before .before .before in
+    let before20 = before10 .before .before .before .before .before .before .before .before .before .before in
+    let rules = before20 .before .before .report-rules in
+    let before23 = before20 .before .before .before in
+    let judge = before23 .judge in
+    let size = before23 .before .body-size in
+    let target = before23 .before .before .target in
+    let before32 = before23 .before .before .before .before .before .before .before .before .before in
+    let args = before32 .before .before .before .before .before .before .before .before .args in
+    let g = passed (args .key) (judge .result) (size .result) (args .version .now) (target .result) _ (rules .ensures)
+    (before20 .if2 .left) in
     omega (arith, g .place)
 
 cast-lengths : tie.Need-cast-lengths
 cast-lengths c =
-    let before8 = c .before .before .before .before .before .before .before .before in
-    let before16 = before8 .before .before .before .before .before .before .before .before in
-    let before19 = before16 .before .before .before in
-    let before27 = before19 .before .before .before .before .before .before .before .before in
-    let args = before27 .before .before .before .before .before .before .before .before .args in
-    let g = passed (args .key) (before19 .judge .result) (before19 .before .body-size .result) (args .version .now)
-    (before19 .before .before .target .result) _ (before16 .before .before .report-rules .ensures)
-    (before16 .if2 .left) in
+    let before10 = c .before .before .before .before .before .before .before .before .before .before in
+    let before20 = before10 .before .before .before .before .before .before .before .before .before .before in
+    let rules = before20 .before .before .report-rules in
+    let before23 = before20 .before .before .before in
+    let judge = before23 .judge in
+    let size = before23 .before .body-size in
+    let target = before23 .before .before .target in
+    let before32 = before23 .before .before .before .before .before .before .before .before .before in
+    let args = before32 .before .before .before .before .before .before .before .before .args in
+    let g = passed (args .key) (judge .result) (size .result) (args .version .now) (target .result) _ (rules .ensures)
+    (before20 .if2 .left) in
     omega (arith, g .size)
 
 mul-lengths : tie.Need-mul-lengths
@@ -222,14 +268,17 @@ mul-lengths c = search needs
 
 element-write-lengths : tie.Need-element-write-lengths
 element-write-lengths c =
-    let before8 = c .before .before .before .before .before .before .before .before in
-    let before16 = before8 .before .before .before .before .before .before .before .before in
-    let before19 = before16 .before .before .before in
-    let before27 = before19 .before .before .before .before .before .before .before .before in
-    let args = before27 .before .before .before .before .before .before .before .before .args in
-    let g = passed (args .key) (before19 .judge .result) (before19 .before .body-size .result) (args .version .now)
-    (before19 .before .before .target .result) _ (before16 .before .before .report-rules .ensures)
-    (before16 .if2 .left) in
+    let before10 = c .before .before .before .before .before .before .before .before .before .before in
+    let before20 = before10 .before .before .before .before .before .before .before .before .before .before in
+    let rules = before20 .before .before .report-rules in
+    let before23 = before20 .before .before .before in
+    let judge = before23 .judge in
+    let size = before23 .before .body-size in
+    let target = before23 .before .before .target in
+    let before32 = before23 .before .before .before .before .before .before .before .before .before in
+    let args = before32 .before .before .before .before .before .before .before .before .args in
+    let g = passed (args .key) (judge .result) (size .result) (args .version .now) (target .result) _ (rules .ensures)
+    (before20 .if2 .left) in
     omega (arith, g .place)
 
 same-length : tie.Need-same-length
@@ -237,32 +286,38 @@ same-length c = search needs
 
 returns-3 : tie.Need-returns-3
 returns-3 c =
-    let before13 = c .before .before .before .before .before .before .before .before .before .before .before .before .before in
-    let before16 = before13 .before .before .before in
-    let before20 = before16 .before .before .before .before in
-    let before25 = before20 .before .before .before .before .before in
-    let args = before25 .before .before .before .before .before .before .before .before .before .before .args in
+    let before10 = c .before .before .before .before .before .before .before .before .before .before in
+    let before20 = before10 .before .before .before .before .before .before .before .before .before .before in
+    let before24 = before20 .before .before .before .before in
+    let before29 = before24 .before .before .before .before .before in
+    let args = before29 .before .before .before .before .before .before .before .before .before .before .before .args in
     let t = tableOf (args .keys .now) (args .versions .now) (args .lengths .now) (args .version .now)
     (args .floor .now) in
-    let b = withOrder t (args .order .now) in
-    let h = record-is b _ _ (before25 .before .is-board .ensures) (before25 .if1 .left) in
-    let g = passed (args .key) (before16 .before .before .before .judge .result) (before20 .body-size .result)
-    (args .version .now) (before20 .before .target .result) _ (before16 .before .before .report-rules .ensures)
-    (before16 .if2 .left) in
-    let v = (report-verdict t (args .store .now) (args .key) (args .ero .now) (args .session) (args .pst) true _ _ _ _
-    (sym (h .0)) refl (before20 .before .target .ensures) (before20 .body-size .ensures)
-    (before16 .before .before .before .judge .ensures) (before16 .before .before .report-rules .ensures)) in (
-      result-accepted b _ _ _ _ (h .1)
+    let b = withRows t (args .order .now) (args .tops .now) in
+    let h = record-is b _ _ (before29 .before .is-board .ensures) (before29 .if1 .left) in
+    let judge = before20 .before .before .before .judge in
+    let size = before24 .body-size in
+    let target = before24 .before .target in
+    let rules = before20 .before .before .report-rules in
+    let g = passed (args .key) (judge .result) (size .result) (args .version .now) (target .result) _ (rules .ensures)
+    (before20 .if2 .left) in
+    let if2-left = before20 .if2 .left in
+    let floor-after = before10 .before .before .before .before .before .before .before .floor-after in
+    let v = report-verdict t (args .store .now) (args .key) (args .ero .now) (args .session) (args .pst) true _ _ _ _
+    (sym (h .0)) refl (before24 .before .target .ensures) (before24 .body-size .ensures)
+    (before20 .before .before .before .judge .ensures) (before20 .before .before .report-rules .ensures) in (
+      result-accepted b _ _ _ _ _ (h .1)
           (report-accepted t (args .store .now) (args .key) (args .ero .now) (args .session) (args .pst) _ _ _ _ v
-          (before16 .if2 .left) (before20 .before .target .ensures) (before20 .body-size .ensures)
-          (before13 .floor-after .ensures (args .lengths .now) (args .version .now))) (before16 .if2 .left)
-          (c .before .before .before .before .before .before .move-last .ensures
-          (record { key = args .key; version = args .version .now + 1; length = before20 .body-size .result })
-          (before13 .floor-after .result) (λ e. omega (arith, g .low)) (omega arith)),
+          if2-left (target .ensures) (size .ensures) (floor-after .ensures (args .lengths .now) (args .version .now)))
+          if2-left
+          (before10 .move-last .ensures
+          (record { key = args .key; version = args .version .now + 1; length = size .result }) (floor-after .result)
+          (λ e. omega (arith, g .low)) (omega arith))
+          (c .before .before .before .before .before .before .raise .ensures),
       store-on b (args .store .now) (args .key) (args .ero .now) (args .session) (args .pst) _ (h .1)
           (store-accepted t (args .store .now) (args .key) (args .ero .now) (args .session) (args .pst) _ _ _ _ v
-          (before16 .if2 .left) (before20 .before .target .ensures)
-          (c .before .before .before .before .start-of .ensures) (c .before .before .lay .ensures)),
+          if2-left (target .ensures) (c .before .before .before .before .start-of .ensures)
+          (c .before .before .lay .ensures)),
     )
 
 pub report-spec : {M : Type 1} → statement M
@@ -280,6 +335,7 @@ report-spec =
     floor-after-requires
     add-next
     move-last-requires
+    raise-requires
     start-of-requires
     sub-lay
     part-lay-start

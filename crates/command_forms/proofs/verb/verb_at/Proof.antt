@@ -64,7 +64,10 @@ returns-20 : tie.Need-returns-20
 returns-20 c = search needs
 
 returns-21 : tie.Need-returns-21
-returns-21 c = no-place (c .before .args .place) (c .match .rest)
+returns-21 c = search needs
+
+returns-22 : tie.Need-returns-22
+returns-22 c = no-place (c .before .args .place) (c .match .rest)
 
 pub verb-at-spec : {M : Type 1} → statement M
 verb-at-spec =
@@ -90,4 +93,5 @@ verb-at-spec =
     returns-18
     returns-19
     returns-20
-    returns-21)
+    returns-21
+    returns-22)

@@ -311,6 +311,15 @@ done-requires-2 c κs =
 ended-requires-16 : tie.Need-ended-requires-16
 ended-requires-16 c κs = tt
 
+enum-told-23 : tie.Need-enum-told-23
+enum-told-23 c = search needs
+
+moved-requires : tie.Need-moved-requires
+moved-requires c κs = search needs
+
+ended-requires-17 : tie.Need-ended-requires-17
+ended-requires-17 c κs = tt
+
 returns : tie.Need-returns
 returns c =
     let before9 = c .before .before .before .before .before .before .before .before .before in
@@ -667,6 +676,20 @@ returns-22 c =
     does v.Addresses (before18 .parse .ensures) (before10 .enum-told22 .given .1) (c .ended16 .ensures .0 ∙ before5 .with-given .ensures, c .ended16 .ensures .1) (before3 .done2 .ensures .0) refl
     (parts refl refl refl refl refl (part-stays (before24 .args .state .size) (before24 .args .memory .now) _ (before8 .addressed .ensures .1)) (before8 .addressed .ensures .0))
 
+same-length-45 : tie.Need-same-length-45
+same-length-45 c = search needs
+
+same-length-46 : tie.Need-same-length-46
+same-length-46 c = search needs
+
+returns-23 : tie.Need-returns-23
+returns-23 c =
+    let before3 = c .before .before .before in
+    let before6 = before3 .before .before .before in
+    let before14 = before6 .before .before .before .before .before .before .before .before in
+    does v.Moved (before14 .parse .ensures) (before6 .enum-told23 .given .1) (c .ended17 .ensures) (before3 .moved .ensures) refl
+    refl
+
 pub answered-spec : {M : Type 1} → statement M
 answered-spec =
     tie.close
@@ -753,6 +776,9 @@ answered-spec =
     with-given-requires
     done-requires-2
     ended-requires-16
+    enum-told-23
+    moved-requires
+    ended-requires-17
     returns
     same-length
     returns-2
@@ -818,4 +844,7 @@ answered-spec =
     returns-21
     same-length-43
     same-length-44
-    returns-22)
+    returns-22
+    same-length-45
+    same-length-46
+    returns-23)
