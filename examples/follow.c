@@ -37,6 +37,7 @@ static void compact(uint64_t c) {
 
 struct path {
     uint64_t key; /* 0: none */
+    size_t form;  /* the setup type: what the octets are */
     size_t length;
     uint8_t octets[STRUNDEVI_PLACE_OCTETS];
 };
@@ -72,6 +73,7 @@ static int make(const strundevi_change *change) {
         if (path == NULL)
             return 0;
         path->key = change->key;
+        path->form = change->form;
         path->length = change->length;
         memcpy(path->octets, store + change->place * STRUNDEVI_PLACE_OCTETS, change->length);
         printf("follower: path %llu at %llu, %zu octets, the last %d\n", (unsigned long long)change->key, (unsigned long long)change->version,
@@ -111,7 +113,7 @@ static int same(void) {
         if (held[i].key == 0)
             continue;
         strundevi_part body = strundevi_body(&board, store, sizeof store, held[i].key);
-        if (body.number != 0 || body.length != held[i].length || memcmp(store + body.start, held[i].octets, body.length) != 0)
+        if (body.number != 0 || body.form != held[i].form || body.length != held[i].length || memcmp(store + body.start, held[i].octets, body.length) != 0)
             return 0;
         paths--;
     }

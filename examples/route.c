@@ -30,7 +30,7 @@ int main(void) {
     uint8_t buffer[256];
     strundevi_segment segment = {.behaviour = 1, .hassid = 1, .sid = {0x20, 0x01, 0x0D, 0xB8, [15] = 1}};
     strundevi_writer writer = {0};
-    strundevi_written written = strundevi_begin(buffer, sizeof buffer, writer, STRUNDEVI_ERO);
+    strundevi_written written = strundevi_begin(buffer, sizeof buffer, writer, STRUNDEVI_ERO, STRUNDEVI_PST_SRV6);
     for (int i = 0; i < 3 && written.verdict.number == STRUNDEVI_ACCEPTED; i++) {
         segment.sid[15] = (uint8_t)(i + 1);
         written = strundevi_add(buffer, sizeof buffer, written.writer, segment);
@@ -54,7 +54,7 @@ int main(void) {
     /* all segments in one pass; each step moves on, so the loop ends */
     size_t at = STRUNDEVI_FIRST_PLACE;
     for (size_t i = 0; i < verdict.count; i++) {
-        strundevi_stepped stepped = strundevi_step(buffer, length, STRUNDEVI_ERO, at);
+        strundevi_stepped stepped = strundevi_step(buffer, length, STRUNDEVI_ERO, STRUNDEVI_PST_SRV6, at);
         if (!good("step", stepped.verdict.number))
             return 1;
         printf("step %zu: last octet of the SID %d\n", i, stepped.segment.sid[15]);

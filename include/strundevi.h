@@ -1,5 +1,7 @@
-/* Boxes beside a tram line: read OPEN objects, judge and write SRv6 routes, keep a board of paths that other boxes follow. C99 or later, C++11
- * or later.
+/* Boxes beside a tram line: read OPEN objects, judge and write SRv6 and MPLS routes, keep a board of paths that other boxes follow. C99 or later,
+ * C++11 or later.
+ *
+ * The form of a route is the one that its setup type names: 1 is MPLS's (RFC 8664), every other SRv6's, which only 3 is good for.
  *
  * Link with libstrundevi.a (`rt staticlib strundevi`), which has the proved functions, strundevi_raw_NAME. The language they are written in has no
  * null, so they take no null pointer: call strundevi_NAME, at the end of this file, which tests the pointers and calls them. A null buffer,
@@ -30,9 +32,9 @@
 #define STRUNDEVI_H
 
 #define STRUNDEVI_VERSION_MAJOR 1
-#define STRUNDEVI_VERSION_MINOR 0
+#define STRUNDEVI_VERSION_MINOR 1
 #define STRUNDEVI_VERSION_PATCH 0
-#define STRUNDEVI_VERSION 10000 /* 10000 times major, 100 times minor, patch */
+#define STRUNDEVI_VERSION 10100 /* 10000 times major, 100 times minor, patch */
 
 #include <stddef.h>
 #include <stdint.h>
@@ -54,18 +56,18 @@ enum strundevi_number {
     STRUNDEVI_ACCEPTED = 0,
     STRUNDEVI_OPEN_MALFORMED = 1,      /* OPEN ill formed */
     STRUNDEVI_CAPABILITY_MISSING = 2,  /* capability missing */
-    STRUNDEVI_WRONG_MSD = 3,           /* wrong MSD type */
+    STRUNDEVI_WRONG_MSD = 3,           /* wrong MSD type, or a depth of 0 */
     STRUNDEVI_FRAME_BROKEN = 4,        /* route frame broken */
     STRUNDEVI_ROUTE_EMPTY = 5,         /* route empty */
     STRUNDEVI_KINDS_MIXED = 6,         /* kinds mixed */
-    STRUNDEVI_LENGTH_WRONG = 7,        /* F isn't 1 exactly for NT 0, or Length isn't as expected */
-    STRUNDEVI_NAI_UNKNOWN = 8,         /* NT not 0, 2, 4, 6 */
+    STRUNDEVI_LENGTH_WRONG = 7,        /* F isn't 1 exactly for NT 0, or Length or M and C aren't as expected */
+    STRUNDEVI_NAI_UNKNOWN = 8,         /* NT not one of the form's */
     STRUNDEVI_NOTHING_THERE = 9,       /* S and F both 1 */
     STRUNDEVI_SID_NEEDED = 10,         /* no SID, and the PCC's N is 0 */
     STRUNDEVI_STRUCTURE_TOO_LONG = 11, /* four bit lengths sum above 128 */
     STRUNDEVI_TOO_MANY_SEGMENTS = 12,  /* more segments than the limit */
-    STRUNDEVI_NOT_AGREED = 13,         /* SRv6 not agreed */
-    STRUNDEVI_NO_SRV6 = 14,            /* no SRv6 subobject */
+    STRUNDEVI_NOT_AGREED = 13,         /* form not agreed */
+    STRUNDEVI_NONE_OF_FORM = 14,       /* no subobject of the form */
     STRUNDEVI_NO_SUCH_SEGMENT = 15,    /* no such segment */
     STRUNDEVI_BUFFER_FULL = 16,        /* lent buffer full */
     STRUNDEVI_NOT_A_BOARD = 17,        /* not a board */
@@ -76,18 +78,23 @@ enum strundevi_number {
     STRUNDEVI_NO_PATH = 22,            /* key has no path */
     STRUNDEVI_MARK_TOO_OLD = 23,       /* mark too old */
     STRUNDEVI_MARK_AHEAD = 24,         /* mark ahead */
-    STRUNDEVI_NOT_USABLE = 28          /* unusable bit positions, or address list not a multiple of 16 octets */
+    STRUNDEVI_NOT_USABLE = 28,         /* unusable bit positions, or address list not a multiple of 16 octets */
+    STRUNDEVI_BAD_LABEL_VALUE = 29,    /* bad label value */
+    STRUNDEVI_BAD_LABEL_FORMAT = 30    /* bad label format */
 };
 
 /* ---- sizes */
 
 enum strundevi_size {
     STRUNDEVI_FIRST_PLACE = 4,        /* of a segment in a route */
-    STRUNDEVI_SID_OCTETS = 16,
+    STRUNDEVI_SID_OCTETS = 16,        /* of SRv6; one of MPLS is the first 4 of them */
+    STRUNDEVI_MPLS_SID_OCTETS = 4,
     STRUNDEVI_NAI_OCTETS = 40,        /* of the longest NAI, NT 6 */
     STRUNDEVI_STRUCTURE_OCTETS = 4,   /* the four bit lengths */
     STRUNDEVI_ADDRESS_OCTETS = 16,    /* of one of the head end's addresses */
     STRUNDEVI_POSITION_MOST = 13,     /* of A and R among the 16 flags, from 0, the highest */
+    STRUNDEVI_LABEL_MOST = 1048575,
+    STRUNDEVI_TC_MOST = 7,
     STRUNDEVI_OBJECT_MOST = 65532,    /* octets of an object that is written */
     STRUNDEVI_PLACES = 128,           /* of the board */
     STRUNDEVI_PLACE_OCTETS = 384,     /* of the store for a place */
@@ -97,13 +104,13 @@ enum strundevi_size {
 
 #define STRUNDEVI_VERSION_MOST (UINT64_MAX - 1)
 
-enum strundevi_pst { STRUNDEVI_PST_SRV6 = 3 };
+enum strundevi_pst { STRUNDEVI_PST_MPLS = 1, STRUNDEVI_PST_SRV6 = 3 };
 
 enum strundevi_kind { STRUNDEVI_RRO = 0, STRUNDEVI_ERO = 1 };
 
 /* ---- records */
 
-/* number 0, place 0 and two counts; or the refusal's number and place and the counts 0. The place is the octet of the fault for 6 to 12. Of a
+/* number 0, place 0 and two counts; or the refusal's number and place and the counts 0. The place is the octet of the fault for 6 to 12, else 0. Of a
  * route, count is the number of its segments, and stray of those with something set that ought to be 0 (strundevi_picked); elsewhere they are 0. */
 typedef struct strundevi_verdict {
     size_t number;
@@ -118,8 +125,9 @@ typedef struct strundevi_setup {
     uint64_t r;
 } strundevi_setup;
 
-/* What an OPEN object says. Refused: all but the number is 0. Without SRv6, n, a and r are 0 and there are no limit, v and m. limited 0: limit does not
- * count; hasv 0 (H.Encaps' smallest value) and hasm 0 (Segments Left's): likewise. */
+/* What an OPEN object says. Refused: all but the number and the form is 0; the form is the setup type of the one at fault, 1 or 3, and 0 where it is none's.
+ * Without SRv6, n, a and r are 0 and there are no limit, v and m. limited 0: limit does not count; hasv 0 (H.Encaps' smallest value) and hasm 0 (Segments
+ * Left's): likewise. Without MPLS, mplsn is 0 and there is no mplslimit (the depth). */
 typedef struct strundevi_opened {
     size_t number;
     uint8_t srv6;
@@ -132,9 +140,14 @@ typedef struct strundevi_opened {
     uint8_t v;
     uint8_t hasm;
     uint8_t m;
+    uint8_t mpls;
+    uint8_t mplsn;
+    uint8_t mplslimited;
+    uint8_t form;
+    size_t mplslimit;
 } strundevi_opened;
 
-/* SRv6 agreed or not, the PCC's N; A and R agreed or not, the PCC's v, m and limit. */
+/* SRv6 agreed or not, the PCC's N; A and R agreed or not, the PCC's v, m and limit; MPLS agreed or not, the PCC's N and limit for it. */
 typedef struct strundevi_session {
     uint8_t agreed;
     uint8_t n;
@@ -145,21 +158,36 @@ typedef struct strundevi_session {
     uint8_t hasm;
     uint8_t m;
     uint8_t limited;
-    uint32_t limit;
+    uint8_t mpls;
+    uint8_t mplsn;
+    uint8_t mplslimited;
+    uint16_t limit;
+    uint16_t mplslimit;
 } strundevi_session;
 
-/* A segment. Octets of a part that is absent or shorter are 0. */
+/* A segment of either form. Octets of a part that is absent or shorter are 0. One of SRv6 has labelled and complete 0; one of MPLS has no behaviour and
+ * no structure, and its SID is 4 octets: an index, or, where labelled, a label (strundevi_label_of). */
 typedef struct strundevi_segment {
     uint8_t loose;  /* L */
     uint8_t verify; /* V */
-    uint8_t nt;     /* 0, 2, 4, 6: an NAI of 0, 16, 32, 40 octets */
+    uint8_t nt;     /* 0, 2, 4, 6: an NAI of 0, 16, 32, 40 octets; of MPLS also 1, 3, 5: 4, 8, 16 octets */
     uint16_t behaviour;
     uint8_t hassid;
     uint8_t sid[STRUNDEVI_SID_OCTETS];
     uint8_t nai[STRUNDEVI_NAI_OCTETS];
     uint8_t structured;
     uint8_t structure[STRUNDEVI_STRUCTURE_OCTETS];
+    uint8_t labelled; /* M */
+    uint8_t complete; /* C */
 } strundevi_segment;
+
+/* A label stack entry (RFC 3032). TC, bottom (S) and TTL count only where the segment is complete. */
+typedef struct strundevi_label {
+    uint32_t label; /* 20 bits */
+    uint8_t tc;     /* 3 bits */
+    uint8_t bottom; /* S: 0 or 1 */
+    uint8_t ttl;
+} strundevi_label;
 
 /* What a segment names beside its octets. */
 typedef struct strundevi_outline {
@@ -169,6 +197,8 @@ typedef struct strundevi_outline {
     uint16_t behaviour;
     uint8_t hassid;
     uint8_t structured;
+    uint8_t labelled;
+    uint8_t complete;
 } strundevi_outline;
 
 /* The verdict, with the number of segments, and the segment asked for; refused: all zeros behind the verdict. Behind the segment, what is set in its
@@ -176,7 +206,7 @@ typedef struct strundevi_outline {
 typedef struct strundevi_picked {
     strundevi_verdict verdict;
     strundevi_segment segment;
-    uint16_t flags;   /* the 12 flag bits with the assigned ones, V, T, F and S, as 0 */
+    uint16_t flags;   /* the 12 flag bits with the assigned ones (V, T, F, S; of MPLS V, F, S, C, M) as 0 */
     uint8_t sflags;   /* the flag octet of the SID structure; 0 without one */
     uint8_t reserved; /* 1 if a reserved octet is not 0, else 0 */
 } strundevi_picked;
@@ -188,9 +218,11 @@ typedef struct strundevi_stepped {
     size_t next;
 } strundevi_stepped;
 
-/* A route being written: of which kind, and where the next segment goes. All zeros is a fine one to begin with. */
+/* A route being written: of which kind and form (the setup type: 1 is MPLS's, every other SRv6's), and where the next segment goes. All zeros is a fine one
+ * to begin with. */
 typedef struct strundevi_writer {
     uint8_t ero;
+    uint8_t form;
     size_t at;
 } strundevi_writer;
 
@@ -201,8 +233,8 @@ typedef struct strundevi_written {
 } strundevi_written;
 
 /* A board. All zeros is the empty one. A key 0 is an empty place, a length 0 at a key the mark of a removal. The order names the used places from
- * the oldest change to the newest, each by 1 more than the place, with 0 behind them; tops has the largest version of each 8 places. Only the calls may
- * change these.
+ * the oldest change to the newest, each by 1 more than the place, with 0 behind them; tops has the largest version of each 8 places; forms the setup type of
+ * each path, 1 or 3, and 0 where there is none. Only the calls may change these.
  *
  * An old mark may fit a board that was started anew, and its follower would keep paths that are withdrawn: whoever starts a board anew sees to
  * it that every follower empties itself and takes a fresh mark. */
@@ -214,18 +246,20 @@ typedef struct strundevi_board {
     uint64_t floor;
     uint8_t order[STRUNDEVI_PLACES];
     uint64_t tops[STRUNDEVI_PLACES / 8];
+    uint8_t forms[STRUNDEVI_PLACES];
 } strundevi_board;
 
-/* Octets start to start + length of the store; refused: none. */
+/* Octets start to start + length of the store, and the form of the path they are; refused: none. */
 typedef struct strundevi_part {
     size_t number;
     size_t start;
     size_t length;
+    size_t form;
 } strundevi_part;
 
 enum strundevi_change_kind { STRUNDEVI_REFUSED = 0, STRUNDEVI_PATH = 1, STRUNDEVI_REMOVED = 2, STRUNDEVI_LEVEL = 3 };
 
-/* A change (enum strundevi_change_kind) with its key and version, a path with its place and length too; or level, with the board's version. */
+/* A change (enum strundevi_change_kind) with its key and version, a path with its place, length and form too; or level, with the board's version. */
 typedef struct strundevi_change {
     size_t number;
     size_t kind;
@@ -233,6 +267,7 @@ typedef struct strundevi_change {
     uint64_t version;
     size_t place;
     size_t length;
+    size_t form;
 } strundevi_change;
 
 /* Where a follower stands. */
@@ -249,26 +284,27 @@ strundevi_verdict strundevi_raw_judge(const uint8_t *octets, size_t length, uint
                                       const uint8_t *addresses, size_t given);
 strundevi_picked strundevi_raw_segment_at(const uint8_t *octets, size_t length, uint8_t ero, strundevi_session session, uint64_t pst,
                                           const uint8_t *addresses, size_t given, uint64_t i);
-strundevi_stepped strundevi_raw_step(const uint8_t *octets, size_t length, uint8_t ero, size_t at);
-strundevi_written strundevi_raw_begin(uint8_t *buffer, size_t size, strundevi_writer writer, uint8_t ero);
+strundevi_stepped strundevi_raw_step(const uint8_t *octets, size_t length, uint8_t ero, uint64_t pst, size_t at);
+strundevi_written strundevi_raw_begin(uint8_t *buffer, size_t size, strundevi_writer writer, uint8_t ero, uint64_t pst);
 strundevi_written strundevi_raw_add(uint8_t *buffer, size_t size, strundevi_writer writer, strundevi_outline outline, const uint8_t *sid,
                                     const uint8_t *nai, const uint8_t *structure);
 strundevi_written strundevi_raw_finish(uint8_t *buffer, size_t size, strundevi_writer writer);
-void strundevi_raw_empty(uint32_t *keys, uint64_t *versions, uint16_t *lengths, uint64_t *version, uint64_t *floor, uint8_t *order, uint64_t *tops);
+void strundevi_raw_empty(uint32_t *keys, uint64_t *versions, uint16_t *lengths, uint64_t *version, uint64_t *floor, uint8_t *order, uint64_t *tops,
+                         uint8_t *forms);
 strundevi_verdict strundevi_raw_report(uint32_t *keys, uint64_t *versions, uint16_t *lengths, uint64_t *version, uint64_t *floor, uint8_t *order, uint64_t *tops,
-                                       uint8_t *store, size_t size, uint64_t key, const uint8_t *ero, size_t length, strundevi_session session, uint64_t pst,
-                                       const uint8_t *addresses, size_t given);
+                                       uint8_t *forms, uint8_t *store, size_t size, uint64_t key, const uint8_t *ero, size_t length, strundevi_session session,
+                                       uint64_t pst, const uint8_t *addresses, size_t given);
 strundevi_verdict strundevi_raw_remove(const uint32_t *keys, uint64_t *versions, uint16_t *lengths, uint64_t *version, uint64_t floor, uint8_t *order, uint64_t *tops,
-                                       const uint8_t *store, size_t size, uint64_t key);
+                                       uint8_t *forms, const uint8_t *store, size_t size, uint64_t key);
 strundevi_verdict strundevi_raw_compact(uint32_t *keys, uint64_t *versions, const uint16_t *lengths, uint64_t version, uint64_t *floor, uint8_t *order, uint64_t *tops,
-                                        const uint8_t *store, size_t size, uint64_t c);
+                                        const uint8_t *forms, const uint8_t *store, size_t size, uint64_t c);
 strundevi_part strundevi_raw_body(const uint32_t *keys, const uint64_t *versions, const uint16_t *lengths, uint64_t version, uint64_t floor,
-                                  const uint8_t *order, const uint64_t *tops, const uint8_t *store, size_t size, uint64_t key);
+                                  const uint8_t *order, const uint64_t *tops, const uint8_t *forms, const uint8_t *store, size_t size, uint64_t key);
 strundevi_change strundevi_raw_next(const uint32_t *keys, const uint64_t *versions, const uint16_t *lengths, uint64_t version, uint64_t floor,
-                                  const uint8_t *order, const uint64_t *tops, const uint8_t *store, size_t size, uint64_t s, uint64_t w);
+                                  const uint8_t *order, const uint64_t *tops, const uint8_t *forms, const uint8_t *store, size_t size, uint64_t s, uint64_t w);
 strundevi_verdict strundevi_raw_moved(const uint32_t *keys, const uint64_t *versions, const uint16_t *lengths, uint64_t version, uint64_t floor,
-                                      const uint8_t *order, const uint64_t *tops, const uint8_t *store, size_t size, uint64_t from, uint64_t to,
-                                      uint64_t v);
+                                      const uint8_t *order, const uint64_t *tops, const uint8_t *forms, const uint8_t *store, size_t size, uint64_t from,
+                                      uint64_t to, uint64_t v);
 strundevi_mark strundevi_raw_fresh_mark(uint64_t version);
 
 /* ---- the calls */
@@ -293,18 +329,19 @@ static inline strundevi_verdict strundevi_no_board(void) {
     return refused;
 }
 
-/* Reads an OPEN object, with A and R at the positions of set-up: 28, 1, 2, 3. */
+/* Reads an OPEN object, with A and R at the positions of set-up: 28, 1, 2, 3; of each that a form is at fault for, MPLS's goes before SRv6's. */
 STRUNDEVI_LOOK_AT static inline strundevi_opened strundevi_read_open(strundevi_setup setup, const uint8_t *octets, size_t length) {
     return strundevi_raw_read_open(setup, strundevi_from(octets), strundevi_lent(octets, length));
 }
 
-/* The session of the PCC's and the PCE's answers. */
+/* The session of the PCC's and the PCE's answers, with a half for each form. */
 static inline strundevi_session strundevi_agree(strundevi_opened pcc, strundevi_opened pce) {
     return strundevi_raw_agree(pcc, pce);
 }
 
-/* Judges a route: 28; 4, 5, 6, 14, 13; 8, 9, 7, 10, 11 segment by segment; 12. The counts are those of its segments and of the stray ones. The addresses
- * are the head end's, 16 octets each; where A is agreed they say whether an ERO's first segment is one of its adjacencies. NULL and 0 for none. */
+/* Judges a route of the form that pst names: 28; 4, 5, 6, 14, 13; 8, 9, 7, 10, 11, 29, 30 segment by segment; 12. The counts are those of its segments
+ * and of the stray ones. The addresses are the head end's, 16 octets each; where A is agreed they say whether an ERO's first segment is one of its adjacencies.
+ * NULL and 0 for none. */
 STRUNDEVI_LOOK_AT static inline strundevi_verdict strundevi_judge(const uint8_t *octets, size_t length, enum strundevi_kind kind, strundevi_session session,
                                                 uint64_t pst, const uint8_t *addresses, size_t given) {
     return strundevi_raw_judge(strundevi_from(octets), strundevi_lent(octets, length), kind != STRUNDEVI_RRO, session, pst, strundevi_from(addresses),
@@ -318,22 +355,24 @@ STRUNDEVI_LOOK_AT static inline strundevi_picked strundevi_segment_at(const uint
                                     strundevi_from(addresses), strundevi_lent(addresses, given), i);
 }
 
-/* The segment at a place of a route that was judged, and the place behind it, from STRUNDEVI_FIRST_PLACE on: all segments in one pass. 15 at a place
- * under 4, no multiple of 4, or at or past the end; 4, 14, 8, 9, 7, 11 of the one subobject, which is all that is looked at. */
-STRUNDEVI_LOOK_AT static inline strundevi_stepped strundevi_step(const uint8_t *octets, size_t length, enum strundevi_kind kind, size_t at) {
-    return strundevi_raw_step(strundevi_from(octets), strundevi_lent(octets, length), kind != STRUNDEVI_RRO, at);
+/* The segment at a place of a route that was judged under this setup type, and the place behind it, from STRUNDEVI_FIRST_PLACE on: all segments in one pass.
+ * 15 at a place under 4, no multiple of 4, or at or past the end; 4, 14, 8, 9, 7, 11, 29, 30 of the one subobject, which is all that is looked at. */
+STRUNDEVI_LOOK_AT static inline strundevi_stepped strundevi_step(const uint8_t *octets, size_t length, enum strundevi_kind kind, uint64_t pst, size_t at) {
+    return strundevi_raw_step(strundevi_from(octets), strundevi_lent(octets, length), kind != STRUNDEVI_RRO, pst, at);
 }
 
-/* Begins a route in the buffer: 16. */
-STRUNDEVI_LOOK_AT static inline strundevi_written strundevi_begin(uint8_t *buffer, size_t size, strundevi_writer writer, enum strundevi_kind kind) {
+/* Begins a route of the form that pst names in the buffer: 16. */
+STRUNDEVI_LOOK_AT static inline strundevi_written strundevi_begin(uint8_t *buffer, size_t size, strundevi_writer writer, enum strundevi_kind kind,
+                                                                  uint64_t pst) {
     uint8_t none[1];
-    return strundevi_raw_begin(strundevi_into(buffer, none), strundevi_lent(buffer, size), writer, kind != STRUNDEVI_RRO);
+    return strundevi_raw_begin(strundevi_into(buffer, none), strundevi_lent(buffer, size), writer, kind != STRUNDEVI_RRO, pst);
 }
 
-/* Adds a segment: 8, 9, 7, 11, 16. */
+/* Adds a segment: 8, 9, 7, 11, 29, 30, 16. */
 STRUNDEVI_LOOK_AT static inline strundevi_written strundevi_add(uint8_t *buffer, size_t size, strundevi_writer writer, strundevi_segment segment) {
     uint8_t none[1];
-    strundevi_outline outline = {segment.loose, segment.verify, segment.nt, segment.behaviour, segment.hassid, segment.structured};
+    strundevi_outline outline = {segment.loose, segment.verify, segment.nt, segment.behaviour, segment.hassid, segment.structured,
+                                 segment.labelled, segment.complete};
     return strundevi_raw_add(strundevi_into(buffer, none), strundevi_lent(buffer, size), writer, outline, segment.sid, segment.nai,
                              segment.structure);
 }
@@ -347,11 +386,11 @@ STRUNDEVI_LOOK_AT static inline strundevi_written strundevi_finish(uint8_t *buff
 /* Makes the board the empty one. Then every follower of what it was has to empty itself and take a fresh mark. */
 static inline void strundevi_empty(strundevi_board *board) {
     if (board != NULL)
-        strundevi_raw_empty(board->keys, board->versions, board->lengths, &board->version, &board->floor, board->order, board->tops);
+        strundevi_raw_empty(board->keys, board->versions, board->lengths, &board->version, &board->floor, board->order, board->tops, board->forms);
 }
 
-/* Reports a path: 28, 17, 18, the route's numbers, 19, 20, 21. The counts are those of its segments and of the stray ones. The addresses are the head
- * end's, as in judging. */
+/* Reports a path, whose form is that of its setup type: 28, 17, 18, the route's numbers, 19, 20, 21. The counts are those of its segments and of the stray
+ * ones. The addresses are the head end's, as in judging. */
 STRUNDEVI_LOOK_AT static inline strundevi_verdict strundevi_report(strundevi_board *board, uint8_t *store, size_t size, uint64_t key, const uint8_t *ero,
                                                  size_t length, strundevi_session session, uint64_t pst, const uint8_t *addresses, size_t given) {
     uint8_t none[1];
@@ -359,7 +398,7 @@ STRUNDEVI_LOOK_AT static inline strundevi_verdict strundevi_report(strundevi_boa
         strundevi_verdict unusable = {STRUNDEVI_NOT_USABLE, 0, 0, 0};
         return strundevi_lent(addresses, given) % STRUNDEVI_ADDRESS_OCTETS != 0 ? unusable : strundevi_no_board();
     }
-    return strundevi_raw_report(board->keys, board->versions, board->lengths, &board->version, &board->floor, board->order, board->tops,
+    return strundevi_raw_report(board->keys, board->versions, board->lengths, &board->version, &board->floor, board->order, board->tops, board->forms,
                                 strundevi_into(store, none), strundevi_lent(store, size), key, strundevi_from(ero), strundevi_lent(ero, length), session, pst,
                                 strundevi_from(addresses), strundevi_lent(addresses, given));
 }
@@ -368,7 +407,7 @@ STRUNDEVI_LOOK_AT static inline strundevi_verdict strundevi_report(strundevi_boa
 STRUNDEVI_LOOK_AT static inline strundevi_verdict strundevi_remove(strundevi_board *board, const uint8_t *store, size_t size, uint64_t key) {
     if (board == NULL)
         return strundevi_no_board();
-    return strundevi_raw_remove(board->keys, board->versions, board->lengths, &board->version, board->floor, board->order, board->tops,
+    return strundevi_raw_remove(board->keys, board->versions, board->lengths, &board->version, board->floor, board->order, board->tops, board->forms,
                                 strundevi_from(store), strundevi_lent(store, size), key);
 }
 
@@ -376,27 +415,27 @@ STRUNDEVI_LOOK_AT static inline strundevi_verdict strundevi_remove(strundevi_boa
 STRUNDEVI_LOOK_AT static inline strundevi_verdict strundevi_compact(strundevi_board *board, const uint8_t *store, size_t size, uint64_t c) {
     if (board == NULL)
         return strundevi_no_board();
-    return strundevi_raw_compact(board->keys, board->versions, board->lengths, board->version, &board->floor, board->order, board->tops,
+    return strundevi_raw_compact(board->keys, board->versions, board->lengths, board->version, &board->floor, board->order, board->tops, board->forms,
                                  strundevi_from(store), strundevi_lent(store, size), c);
 }
 
-/* Where a key's path lies in the store: 17, 18, 22. */
+/* Where a key's path lies in the store, and its form: 17, 18, 22. */
 STRUNDEVI_LOOK_AT static inline strundevi_part strundevi_body(const strundevi_board *board, const uint8_t *store, size_t size, uint64_t key) {
     if (board == NULL) {
-        strundevi_part refused = {STRUNDEVI_NOT_A_BOARD, 0, 0};
+        strundevi_part refused = {STRUNDEVI_NOT_A_BOARD, 0, 0, 0};
         return refused;
     }
-    return strundevi_raw_body(board->keys, board->versions, board->lengths, board->version, board->floor, board->order, board->tops,
+    return strundevi_raw_body(board->keys, board->versions, board->lengths, board->version, board->floor, board->order, board->tops, board->forms,
                               strundevi_from(store), strundevi_lent(store, size), key);
 }
 
 /* What a follower with this mark is handed: 17, 24, 23. */
 STRUNDEVI_LOOK_AT static inline strundevi_change strundevi_next(const strundevi_board *board, const uint8_t *store, size_t size, strundevi_mark mark) {
     if (board == NULL) {
-        strundevi_change refused = {STRUNDEVI_NOT_A_BOARD, STRUNDEVI_REFUSED, 0, 0, 0, 0};
+        strundevi_change refused = {STRUNDEVI_NOT_A_BOARD, STRUNDEVI_REFUSED, 0, 0, 0, 0, 0};
         return refused;
     }
-    return strundevi_raw_next(board->keys, board->versions, board->lengths, board->version, board->floor, board->order, board->tops,
+    return strundevi_raw_next(board->keys, board->versions, board->lengths, board->version, board->floor, board->order, board->tops, board->forms,
                               strundevi_from(store), strundevi_lent(store, size), mark.s, mark.w);
 }
 
@@ -405,7 +444,7 @@ STRUNDEVI_LOOK_AT static inline strundevi_verdict strundevi_moved(const strundev
                                                                   uint64_t to, uint64_t v) {
     if (board == NULL)
         return strundevi_no_board();
-    return strundevi_raw_moved(board->keys, board->versions, board->lengths, board->version, board->floor, board->order, board->tops,
+    return strundevi_raw_moved(board->keys, board->versions, board->lengths, board->version, board->floor, board->order, board->tops, board->forms,
                                strundevi_from(store), strundevi_lent(store, size), from, to, v);
 }
 
@@ -431,6 +470,67 @@ static inline strundevi_mark strundevi_mark_level(uint64_t version) {
     return mark;
 }
 
+/* ---- MPLS: labels and indices */
+
+/* The 4 octets of an MPLS segment's SID as one number: its index, where it is not labelled. */
+static inline uint32_t strundevi_index_of(const strundevi_segment *segment) {
+    uint32_t octets = 0;
+    size_t i;
+    for (i = 0; i < STRUNDEVI_MPLS_SID_OCTETS; i++)
+        octets = octets << 8 | segment->sid[i];
+    return octets;
+}
+
+/* The label stack entry of an MPLS segment that is labelled. */
+static inline strundevi_label strundevi_label_of(const strundevi_segment *segment) {
+    uint32_t octets = strundevi_index_of(segment);
+    strundevi_label entry;
+    entry.label = octets >> 12;
+    entry.tc = octets >> 9 & 7;
+    entry.bottom = octets >> 8 & 1;
+    entry.ttl = octets & 255;
+    return entry;
+}
+
+/* Makes the segment's SID an index. */
+static inline void strundevi_set_index(strundevi_segment *segment, uint32_t index) {
+    size_t i;
+    for (i = 0; i < STRUNDEVI_SID_OCTETS; i++)
+        segment->sid[i] = 0;
+    for (i = STRUNDEVI_MPLS_SID_OCTETS; i > 0; i--) {
+        segment->sid[i - 1] = index & 255;
+        index >>= 8;
+    }
+    segment->hassid = 1;
+    segment->labelled = 0;
+    segment->complete = 0;
+}
+
+/* Makes the segment's SID a label. With `complete` its TC, bottom and TTL count, and a TTL of 0 is refused in adding (30). 0, and the segment stays, where
+ * the label has more than 20 bits, TC more than 3, or bottom is neither 0 nor 1; else 1. */
+STRUNDEVI_LOOK_AT static inline int strundevi_set_label(strundevi_segment *segment, strundevi_label entry, uint8_t complete) {
+    if (entry.label > STRUNDEVI_LABEL_MOST || entry.tc > STRUNDEVI_TC_MOST || entry.bottom > 1)
+        return 0;
+    uint32_t tc = entry.tc, bottom = entry.bottom;
+    strundevi_set_index(segment, entry.label << 12 | tc << 9 | bottom << 8 | entry.ttl);
+    segment->labelled = 1;
+    segment->complete = complete != 0;
+    return 1;
+}
+
+/* The octets that an NAI of this NT has in the form that a setup type names; 0 also where the form has no such NT. */
+static inline size_t strundevi_nai_octets(uint64_t pst, uint8_t nt) {
+    switch (nt) {
+    case 1: return pst == STRUNDEVI_PST_MPLS ? 4 : 0;
+    case 2: return 16;
+    case 3: return pst == STRUNDEVI_PST_MPLS ? 8 : 0;
+    case 4: return 32;
+    case 5: return pst == STRUNDEVI_PST_MPLS ? 16 : 0;
+    case 6: return STRUNDEVI_NAI_OCTETS;
+    default: return 0;
+    }
+}
+
 /* ---- the numbers in words, and in PCEP */
 
 /* A few words for a number. */
@@ -439,18 +539,18 @@ static inline const char *strundevi_text(size_t number) {
     case STRUNDEVI_ACCEPTED: return "accepted";
     case STRUNDEVI_OPEN_MALFORMED: return "OPEN ill formed";
     case STRUNDEVI_CAPABILITY_MISSING: return "capability missing";
-    case STRUNDEVI_WRONG_MSD: return "wrong MSD type";
+    case STRUNDEVI_WRONG_MSD: return "wrong MSD type, or a depth of 0";
     case STRUNDEVI_FRAME_BROKEN: return "route frame broken";
     case STRUNDEVI_ROUTE_EMPTY: return "route empty";
     case STRUNDEVI_KINDS_MIXED: return "kinds mixed";
-    case STRUNDEVI_LENGTH_WRONG: return "F isn't 1 exactly for NT 0, or Length isn't as expected";
-    case STRUNDEVI_NAI_UNKNOWN: return "NT not 0, 2, 4, 6";
+    case STRUNDEVI_LENGTH_WRONG: return "F isn't 1 exactly for NT 0, or Length or M and C aren't as expected";
+    case STRUNDEVI_NAI_UNKNOWN: return "NT not one of the form's";
     case STRUNDEVI_NOTHING_THERE: return "S and F both 1";
     case STRUNDEVI_SID_NEEDED: return "no SID, and the PCC's N is 0";
     case STRUNDEVI_STRUCTURE_TOO_LONG: return "four bit lengths sum above 128";
     case STRUNDEVI_TOO_MANY_SEGMENTS: return "more segments than the limit";
-    case STRUNDEVI_NOT_AGREED: return "SRv6 not agreed";
-    case STRUNDEVI_NO_SRV6: return "no SRv6 subobject";
+    case STRUNDEVI_NOT_AGREED: return "form not agreed";
+    case STRUNDEVI_NONE_OF_FORM: return "no subobject of the form";
     case STRUNDEVI_NO_SUCH_SEGMENT: return "no such segment";
     case STRUNDEVI_BUFFER_FULL: return "lent buffer full";
     case STRUNDEVI_NOT_A_BOARD: return "not a board";
@@ -462,6 +562,8 @@ static inline const char *strundevi_text(size_t number) {
     case STRUNDEVI_MARK_TOO_OLD: return "mark too old";
     case STRUNDEVI_MARK_AHEAD: return "mark ahead";
     case STRUNDEVI_NOT_USABLE: return "unusable bit positions, or address list not a multiple of 16 octets";
+    case STRUNDEVI_BAD_LABEL_VALUE: return "bad label value";
+    case STRUNDEVI_BAD_LABEL_FORMAT: return "bad label format";
     default: return "no number of this library";
     }
 }
@@ -472,25 +574,29 @@ typedef struct strundevi_pcerr {
     uint8_t value;
 } strundevi_pcerr;
 
-/* The PCErr for the refusal of an OPEN, or of a route of this kind (docs/NUMBERS.md). */
-static inline strundevi_pcerr strundevi_pcerr_of(size_t number, enum strundevi_kind kind) {
-    strundevi_pcerr none = {0, 0}, open_invalid = {1, 1}, capability = {10, 34}, malformed = {10, 11}, mixed_ero = {10, 20}, mixed_rro = {10, 36};
-    strundevi_pcerr nai = {10, 13}, nothing_ero = {10, 6}, nothing_rro = {10, 35}, sid = {4, 4}, structure = {10, 37}, depth = {10, 3};
-    strundevi_pcerr setup = {19, 19};
+/* The PCErr for the refusal of an OPEN with this form at fault, or of a route of this kind and form (docs/NUMBERS.md). A form that is not 1 is SRv6's. */
+static inline strundevi_pcerr strundevi_pcerr_of(size_t number, enum strundevi_kind kind, uint64_t form) {
+    strundevi_pcerr none = {0, 0}, open_invalid = {1, 1}, malformed = {10, 11}, nai = {10, 13}, sid = {4, 4}, depth = {10, 3};
+    strundevi_pcerr capability = {10, 34}, mixed_ero = {10, 20}, mixed_rro = {10, 36}, nothing_rro = {10, 35}, structure = {10, 37}, setup = {19, 19};
+    strundevi_pcerr mpls_capability = {10, 12}, mpls_depth = {10, 21}, mpls_mixed_ero = {10, 5}, mpls_mixed_rro = {10, 10};
+    strundevi_pcerr nothing_ero = {10, 6}, mpls_nothing_rro = {10, 7}, label_value = {10, 2}, label_format = {10, 4};
+    int mpls = form == STRUNDEVI_PST_MPLS, rro = kind == STRUNDEVI_RRO;
     switch (number) {
-    case STRUNDEVI_OPEN_MALFORMED:
-    case STRUNDEVI_WRONG_MSD: return open_invalid;
-    case STRUNDEVI_CAPABILITY_MISSING: return capability;
+    case STRUNDEVI_OPEN_MALFORMED: return open_invalid;
+    case STRUNDEVI_CAPABILITY_MISSING: return mpls ? mpls_capability : capability;
+    case STRUNDEVI_WRONG_MSD: return mpls ? mpls_depth : open_invalid;
     case STRUNDEVI_FRAME_BROKEN:
     case STRUNDEVI_ROUTE_EMPTY:
     case STRUNDEVI_LENGTH_WRONG: return malformed;
-    case STRUNDEVI_KINDS_MIXED: return kind == STRUNDEVI_RRO ? mixed_rro : mixed_ero;
+    case STRUNDEVI_KINDS_MIXED: return mpls ? (rro ? mpls_mixed_rro : mpls_mixed_ero) : rro ? mixed_rro : mixed_ero;
     case STRUNDEVI_NAI_UNKNOWN: return nai;
-    case STRUNDEVI_NOTHING_THERE: return kind == STRUNDEVI_RRO ? nothing_rro : nothing_ero;
-    case STRUNDEVI_SID_NEEDED: return kind == STRUNDEVI_RRO ? none : sid;
-    case STRUNDEVI_STRUCTURE_TOO_LONG: return structure;
-    case STRUNDEVI_TOO_MANY_SEGMENTS: return kind == STRUNDEVI_RRO ? none : depth;
-    case STRUNDEVI_NOT_AGREED: return setup;
+    case STRUNDEVI_NOTHING_THERE: return rro ? (mpls ? mpls_nothing_rro : nothing_rro) : nothing_ero;
+    case STRUNDEVI_SID_NEEDED: return rro ? none : sid;
+    case STRUNDEVI_STRUCTURE_TOO_LONG: return mpls ? none : structure;
+    case STRUNDEVI_TOO_MANY_SEGMENTS: return rro ? none : depth;
+    case STRUNDEVI_NOT_AGREED: return mpls ? malformed : setup;
+    case STRUNDEVI_BAD_LABEL_VALUE: return mpls ? label_value : none;
+    case STRUNDEVI_BAD_LABEL_FORMAT: return mpls ? label_format : none;
     default: return none;
     }
 }

@@ -27,7 +27,7 @@ echo '#include "strundevi.h"
 int main(void) { strundevi_board board; strundevi_empty(&board); return board.version != 0; }' > "$out/probe.c"
 if ! cc -I include "$out/probe.c" "$archive" -o "$out/probe" > /dev/null 2>&1; then
     for standard in c99 c11 c17; do
-        for name in tests/header tests/boundary examples/route examples/follow; do
+        for name in tests/header tests/boundary examples/route examples/mpls examples/follow; do
             quietly cc -std=$standard $warnings -Wstrict-prototypes -fsyntax-only -I include "$name.c"
         done
     done
@@ -49,12 +49,13 @@ if command -v c++ > /dev/null; then
         quietly "$out/header"
     done
 fi
-for name in examples/route tests/boundary; do
+for name in examples/route examples/mpls tests/boundary; do
     quietly cc -std=c99 -pedantic -Wall -Wextra -Werror -O2 -I include "$name.c" "$archive" -o "$out/$(basename "$name")"
 done
 "$out/boundary"
 "$out/route" | diff - examples/route.out
-echo "library: the header, the C example and the border in C are as they should be"
+"$out/mpls" | diff - examples/mpls.out
+echo "library: the header, the C examples and the border in C are as they should be"
 
 echo 'int LLVMFuzzerTestOneInput(const unsigned char *data, unsigned long size) { return data == 0 && size == 1; }' > "$out/fuzzer.c"
 if clang -fsanitize=fuzzer,address "$out/fuzzer.c" -o "$out/fuzzer" > /dev/null 2>&1; then
@@ -70,7 +71,8 @@ fi
 quietly cargo build --release --offline --workspace --examples --bins --manifest-path rust/Cargo.toml
 quietly cargo test --release --offline --package reference --package strundevi --manifest-path rust/Cargo.toml
 rust/target/release/examples/route | diff - rust/strundevi/examples/route.out
-echo "library: the Rust example, the wrapper's documentation and the reference are as they should be"
+rust/target/release/examples/mpls | diff - rust/strundevi/examples/mpls.out
+echo "library: the Rust examples, the wrapper's documentation and the reference are as they should be"
 
 rust/target/release/differ "$seed"
 tests/follow.sh

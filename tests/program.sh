@@ -82,6 +82,38 @@ grep -q 'samples/missing.bin: there is no such file' "$out/err" || fault "a miss
 expect 0 segments samples/all-parts.hex samples/octets-behind.bin
 expect 1 segments samples/wrong-msd.bin
 
+# ---- the samples of MPLS, under setup type 1; under 3 none of their routes is taken
+for sample in samples/mpls/*.bin; do
+    line=$(sed -n "s/^| $(basename "$sample") |.*| \`\([0-9 ]*\)\` |\$/\1/p" samples/README.md)
+    [ -n "$line" ] || fault "samples/README.md has no row for $sample"
+    case $line in "0 "*) expect 0 check --mpls --plain "$sample" ;; *) expect 1 check --plain --mpls "$sample" ;; esac
+    [ "$(cat "$out/out")" = "$line" ] || fault "$sample: $(cat "$out/out"), and samples/README.md says $line"
+    expect 1 check "$sample"
+done
+expect 1 check --mpls samples/accepted.bin samples/mpls/labels-only.bin
+expect 0 segments --mpls samples/mpls/labels-with-nai.bin samples/mpls/whole-entry.bin samples/mpls/names-only.bin
+diff "$out/out" - << 'END' || fault "the segments of the MPLS samples"
+samples/mpls/labels-with-nai.bin: accepted, 3 segments
+  0: label 16001; node 198.51.100.1
+  1: label 24005; adjacency from 192.0.2.1 to 192.0.2.2
+  2: label 24009; adjacency from 198.51.100.2 on interface 7 to 198.51.100.3 on interface 12
+samples/mpls/whole-entry.bin: accepted, 1 segment
+  0: label 16001 with TC 5, S 1, TTL 64 (C)
+samples/mpls/names-only.bin: accepted, 2 segments
+  0: no SID; node 198.51.100.1
+  1: no SID; adjacency from 192.0.2.1 to 192.0.2.2
+END
+expect 1 check --mpls samples/mpls/old-capability.bin
+grep -q 'refused by 2, capability missing (MPLS), .*; PCErr 10/12' "$out/out" || fault "an OPEN with MPLS at fault: $(cat "$out/out")"
+sample=$(digits samples/mpls/labels-with-nai.bin)
+i=0
+while [ "$i" -lt "${#sample}" ]; do
+    octets "$(echo "$sample" | cut -c "1-$i" 2> /dev/null || true)" > "$out/in"
+    expect 1 segments --mpls -
+    i=$((i + 2))
+done
+: > "$out/in"
+
 # ---- every prefix of a sample, as octets and as digits; every octet of it changed
 sample=$(digits samples/bit-lengths-128.bin)
 i=0
@@ -141,6 +173,8 @@ expect 2 explain
 expect 2 check --quick samples/accepted.bin
 expect 2 segments --plain samples/accepted.bin
 expect 2 explain --plain 1
+expect 2 explain --mpls 29
+expect 2 check --mpls
 expect 2 check - -
 expect 2 explain 1000
 expect 2 explain -- -1

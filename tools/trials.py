@@ -62,6 +62,28 @@ def sub(nt=0, s=0, f=None, t=0, v=0, l=0, behaviour=1, kind=40, length=None, bit
     return head + body
 
 
+# A label stack entry; label 16001 with nothing else is LABEL.
+def entry(label, tc=0, bottom=0, ttl=0):
+    return (label << 12 | tc << 9 | bottom << 8 | ttl).to_bytes(4, "big")
+
+
+LABEL = entry(16001)
+MPLS_NAI = {0: 0, 1: 4, 2: 16, 3: 8, 4: 32, 5: 16, 6: 40}
+
+
+# Sub-TLV 26.
+def mpls(flags, depth):
+    return tlv(26, bytes([0, 0, flags, depth]))
+
+
+# An MPLS subobject, as `sub` is; `stray` are its unassigned flags.
+def msub(nt=0, m=1, c=0, s=0, f=None, v=0, l=0, sid=LABEL, nai=None, kind=36, length=None, stray=0):
+    f = (1 if nt == 0 else 0) if f is None else f
+    body = (b"" if s else sid) + (bytes(range(1, MPLS_NAI.get(nt, 0) + 1)) if nai is None else nai)
+    flags = nt << 12 | stray | v * 16 + f * 8 + s * 4 + c * 2 + m
+    return bytes([l * 128 + kind, (4 + len(body) if length is None else length) % 256, flags // 256, flags % 256]) + body
+
+
 def route(subs, kind=7, length=None):
     b = bytes([kind, 0x10, 0, 0]) + b"".join(subs)
     return put16(b, 2, len(b) if length is None else length)
@@ -160,6 +182,48 @@ def trial_open():
         out.append("pce " + hexes(O))
         out.append("ero 3 " + hexes(E))
     out += ["positions 13 12", "pcc " + hexes(flagged(0x000C, [44, 3])), "positions 0 1"]
+    two = srv6(2, [41, 9])
+    both = opened(setup([1, 3], mpls(2, 5) + srv6(0, [44, 4])))
+    out.append("# an OPEN of both forms: every prefix with its length put right, each octet of it made 0, made FF and with its lowest bit turned, each of its lengths")
+    for k in range(0, len(both) + 1, 4):
+        pcc(wire(both, k))
+    for i in range(len(both)):
+        for x in (0, 255, both[i] ^ 1):
+            pcc(both[:i] + bytes([x]) + both[i + 1:])
+    for at, most in ((2, 49), (10, 37), (22, 14), (30, 12)):
+        for n in list(range(0, most)) + [65535]:
+            pcc(put16(both, at, n))
+    odd, wrong, far = tlv(27, b"\0\0\0\0\x2c"), srv6(0, [7, 2]), tlv(9, b"abcde")
+    rows = [
+        ("sub-TLV 26: every length, with type 1, without, beside type 3", [opened(setup(types, tlv(26, bytes([0, 0, 2, 9, 1, 1, 1, 1, 1])[:n]) + more)) for types, more in (([1], b""), ([0], b""), ([3], two), ([1, 3], two)) for n in range(0, 10)]),
+        ("N, X and the depth", [opened(setup([1], mpls(flags, depth))) for flags in (0, 1, 2, 3, 4, 0xFC, 0xFD, 0xFE, 0xFF) for depth in (0, 1, 2, 127, 128, 255)]),
+        ("its reserved octets are ignored", [opened(setup([1], tlv(26, bytes([x, y, 2, 4])))) for x, y in ((1, 0), (0, 1), (255, 255))]),
+        ("type 1 without a sub-TLV 26; 26 without type 1", [opened(setup([1], b"")), opened(setup([1], two)), opened(setup([3, 1], two)), opened(setup([1, 3], b"")), opened(setup([1, 3], mpls(2, 4))), opened(setup([0], mpls(0, 0))),
+            opened(setup([], mpls(0, 0))), opened(setup([3], mpls(0, 0) + two)), opened(setup([3], two + tlv(26, b""))), opened(setup([2, 4], tlv(26, b"abc"))), opened(setup([0], mpls(2, 4), b"\1\1\1"))]),
+        ("the first sub-TLV 26 counts, and of several TLVs 34 the first", [opened(setup([1], mpls(2, 4) + mpls(0, 0))), opened(setup([1], mpls(0, 0) + mpls(2, 4))), opened(setup([1], mpls(2, 4) + tlv(26, b""))), opened(setup([1], tlv(26, b"") + mpls(2, 4))),
+            opened(setup([1], far + mpls(2, 4) + far)), opened(setup([1], mpls(2, 4)), setup([1], mpls(0, 0))), opened(setup([0], b""), setup([1], mpls(2, 4))), opened(setup([1], b""), setup([1], mpls(2, 4))), opened(setup([1], mpls(2, 4)), setup([3], two)), opened(tlv(26, bytes(4)))]),
+        ("either may stand first", [opened(setup([1, 3], two + mpls(0, 4))), opened(setup([1, 3], mpls(0, 4) + two)), opened(setup([3, 1], two + far + mpls(3, 4))), opened(setup([3, 0, 1, 7, 9], mpls(3, 4) + two))]),
+        ("1 of 26, 1 of 27, 2 of 26, 2 of 27, 3 of 26, 3 of 27, whichever stands first", [opened(setup([1, 3], x)) for a in (b"", mpls(0, 0), mpls(2, 4), tlv(26, b"abc"), tlv(26, b"abcde")) for b in (b"", two, odd, wrong, tlv(27, b"ab"))
+            for x in ((a + b, b + a) if a and b else (a + b,))]),
+        ("1 of the frame goes before them, and names no form", [opened(setup([1, 3], tlv(26, b"abc") + b"\0")), opened(setup([1], b""), b"\0\x09\0\x08"), opened(setup([1], mpls(0, 0)), b"\0\x09\0\x08"), opened(setup([1], mpls(0, 0) + bytes(3))), opened(setup([1], tlv(26, b"abcd", 0)[:6])), opened(setup([1], b"\0\x1a\0\x05abcd"))]),
+        ("the last padding", [opened(setup([1], tlv(26, bytes([0, 0, 0, 9, 9]), 0))), opened(setup([1, 3], mpls(0, 9) + srv6(0, [41, 9], 0))), opened(setup([1, 3], srv6(0, [41, 9], 0) + mpls(0, 9))), opened(setup([1, 3], srv6(0, [41, 9]) + mpls(0, 9)))]),
+    ]
+    for name, opens in rows:
+        out.append("# " + name)
+        for b in opens:
+            pcc(b)
+    out.append("# positions of no use go before 26's numbers, and name no form")
+    for b in (both, opened(setup([1], b"")), opened(setup([1], mpls(0, 0)))):
+        out += ["positions 14 0", "pcc " + hexes(b), "positions 0 1", "pcc " + hexes(b)]
+    out.append("# a session of each form: agreed if both carry it; N and the depth are the PCC's")
+    only, open_end = opened(setup([1], mpls(0, 1))), opened(setup([1, 3], mpls(3, 0) + srv6(0, [44, 1])))
+    labels = [route([msub()]), route([msub(nt=1, m=0, s=1)]), route([msub(), msub()]), E, route([sub(), sub()])]
+    for a in (both, only, open_end, O, opened(setup([1], b"")), b""):
+        for b in (both, only, open_end, O, opened(setup([0], b""))):
+            pcc(a)
+            out.append("pce " + hexes(b))
+            for r in labels:
+                out += ["ero 1 " + hexes(r), "ero 3 " + hexes(r)]
     out.append("# a session: SRv6 is agreed if both carry it; N and the limit are the PCC's")
     bare = opened(setup([0], b""))
     able = opened(setup([3], srv6(2, [44, 1])))
@@ -361,23 +425,164 @@ def trial_route():
                     out.append("ero-segment 3 0 " + hexes(route([b])))
                     out.append("rro-segment 3 0 " + hexes(route([b], 8)))
     out += ["ero-segment 1 0 " + hexes(E), "ero-segment 3 9 " + hexes(E[:27]), "ero-segment 3 0 -", "rro-segment 3 0 " + hexes(E)]
+    mpls_routes(out)
     return out
+
+
+# An MPLS session, its N and X in the flags, and SRv6's beside it if `more`.
+def agree_mpls(out, flags=2, depth=0, more=b""):
+    types = [1, 3] if more else [1]
+    out.append("pcc " + hexes(opened(setup(types, mpls(flags, depth) + more))))
+    out.append("pce " + hexes(opened(setup([1, 3], mpls(1, 0) + srv6(1, [])))))
+
+
+def mpls_routes(out):
+    def ero(b, pst=1):
+        out.append("ero %d %s" % (pst, hexes(b)))
+
+    def rro(b, pst=1):
+        out.append("rro %d %s" % (pst, hexes(b)))
+
+    one = route([msub(nt=1)])
+    out.append("# the MPLS form, not agreed: 13, and what goes before it")
+    out += ["pcc " + hexes(O), "pce " + hexes(O)]
+    for b in (one, one[:-1], E, route([msub(nt=9)]), route([]), route([msub(), sub()])):
+        ero(b)
+        ero(b, 3)
+    out.append("# agreed, beside SRv6 and alone: the setup type names the form, SRv6's if it names none")
+    for more in (b"", srv6(2, [])):
+        agree_mpls(out, 3, 0, more)
+        for b in (one, E, route([msub(), sub()]), route([sub(), msub()]), route([msub(l=1), msub()]), route([sub(), sub(), msub(), bytes([1, 4, 0, 0])]), route([bytes([1, 4, 0, 0]), msub()]), route([bytes([1, 4, 0, 0]), sub()]),
+                  route([bytes([1, 4, 0, 0])]), route([bytes([36, 4, 0, 0])]), route([bytes([40, 4, 0, 0])]), route([msub(kind=100)]), route([])):
+            for pst in (0, 1, 2, 3, 4, 257, 259, 2**32 + 1, ALL64):
+                ero(b, pst)
+            rro(b"\x08" + b[1:])
+            rro(b"\x08" + b[1:], 3)
+    out.append("# every prefix of a route of three, as it is and with its length put right; every length of it and of its subobjects")
+    agree_mpls(out, 3)
+    three = route([msub(nt=1), msub(), msub(nt=3, m=0)])
+    for k in range(len(three) + 1):
+        ero(three[:k])
+        ero(wire(three, k))
+    for n in list(range(0, 48)) + [65535]:
+        ero(put16(three, 2, n))
+    for at in (5, 17, 25):
+        for n in list(range(0, 60)) + [255]:
+            ero(three[:at] + bytes([n]) + three[at + 1:])
+    out.append("# every damage of one octet of a route of one label; of an RRO, each bit")
+    for i in range(len(one)):
+        for x in range(256):
+            if x != one[i]:
+                ero(one[:i] + bytes([x]) + one[i + 1:])
+    back = route([msub(nt=1)], 8)
+    for i in range(len(back)):
+        for bit in range(8):
+            rro(back[:i] + bytes([back[i] ^ (1 << bit)]) + back[i + 1:])
+    out.append("# every NT with every flag, at the length of its parts and 4 octets longer and shorter: N 0, N 1, and an RRO")
+    for side, kind, flags in (("ero", 7, 1), ("ero", 7, 3), ("rro", 8, 1)):
+        agree_mpls(out, flags)
+        for nt in range(16):
+            for bits in range(32):
+                v, f, s, c, m = bits >> 4, bits >> 3 & 1, bits >> 2 & 1, bits >> 1 & 1, bits & 1
+                a = msub(nt=nt, m=m, c=c, s=s, f=f, v=v, sid=entry(16001, 1, 0, 64))
+                for b in (a, a[:1] + bytes([len(a) + 4]) + a[2:] + bytes(4), a[:1] + bytes([len(a) - 4]) + a[2:-4]) if v == 0 else (a,):
+                    if len(b) >= 4:
+                        out.append("%s 1 %s" % (side, hexes(route([b], kind))))
+    out.append("# labels: of those to 15 only 7 is good; where M is 0 the SID is an index and may be anything")
+    agree_mpls(out, 3)
+    for label in list(range(0, 18)) + [255, 4095, 4096, 65536, 983040, 1048575]:
+        for m, c in ((0, 0), (1, 0), (1, 1)):
+            for ttl in (0, 1, 255):
+                ero(route([msub(m=m, c=c, sid=entry(label, 0, 0, ttl))]))
+        rro(route([msub(sid=entry(label))], 8))
+        rro(route([msub(c=1, sid=entry(label))], 8))
+    out.append("# the format: TTL 0 where M and C are 1; TC and S may be anything, and the TTL too where C is 0")
+    for tc in range(8):
+        for bottom in (0, 1):
+            for ttl in (0, 1, 64, 128, 255):
+                for c in (0, 1):
+                    ero(route([msub(c=c, sid=entry(16001, tc, bottom, ttl))]))
+    out.append("# the order: the first broken rule in the route; 29 before 30 in a subobject, both before what a later one breaks and before 12; their place is 0")
+    good, bad, shape, thin = msub(), msub(sid=entry(3)), msub(c=1), msub(nt=9)
+    for subs in ([good, bad], [bad, good], [shape, bad], [bad, shape], [msub(c=1, sid=entry(3))], [good, thin, bad], [good, bad, thin], [good, good, shape, thin], [msub(c=1, sid=entry(3), nt=1, nai=b"")], [msub(nt=9, c=1, sid=entry(3))],
+                 [msub(s=1, m=1)], [msub(nt=1, s=1, m=1)], [msub(nt=1, s=1, m=0, c=1)], [msub(m=0, c=1)], [msub(m=0, c=1, sid=entry(3))], [msub(s=1, f=1, m=1, c=1)], [msub(nt=2, f=1)], [msub(f=0)]):
+        ero(route(subs))
+        rro(route(subs, 8))
+        agree_mpls(out, 0, 1)
+        ero(route(subs))
+        ero(route([good] * 2 + subs))
+        agree_mpls(out, 3)
+    out.append("# the depth: 1, 2, 3, 255; none with X; SRv6's limit is not MPLS's, nor A and R")
+    for flags, depth, more in ((0, 1, b""), (0, 2, b""), (0, 3, b""), (1, 2, b""), (0, 255, b""), (0, 2, srv6(0, [44, 1])), (0, 1, srv6(0, [44, 2])), (1, 0, srv6(0, [44, 1]))):
+        agree_mpls(out, flags, depth, more)
+        for n in (1, 2, 3, 4) + ((254, 255, 256) if depth == 255 else ()):
+            ero(route([msub()] * n))
+        rro(route([msub()] * 4, 8))
+        if more:
+            for n in (1, 2, 3):
+                ero(route([sub()] * n), 3)
+    here = bytes([5] * 16)
+    out += ["pcc " + hexes(opened(setup([1, 3], mpls(2, 2) + tlv(27, bytes([0, 0, 0xC0, 2, 44, 2]))))), "pce " + hexes(opened(setup([1, 3], mpls(2, 2) + tlv(27, bytes([0, 0, 0xC0, 0])))))]
+    for addresses in (b"", here):
+        out.append("addresses " + hexes(addresses))
+        for n in (2, 3):
+            ero(route([msub(nt=4, nai=here + bytes(16))] + [msub()] * (n - 1)))
+            ero(route([sub(nt=4, nai=here + bytes(16))] + [sub()] * (n - 1)), 3)
+    out += ["addresses 00", "ero 1 " + hexes(one), "rro 1 -", "ero-segment 1 0 " + hexes(one), "report 7 1 " + hexes(one), "addresses -"]
+    out.append("# N of the one form is not the other's")
+    for a, b in ((0, 2), (2, 0)):
+        agree_mpls(out, a + 1, 0, srv6(b, []))
+        ero(route([msub(nt=1, m=0, s=1)]))
+        ero(route([sub(nt=2, s=1)]), 3)
+    out.append("# what is set and ought to be 0: each of the 12 flags alone; a label's TC, S and TTL are none")
+    agree_mpls(out, 3)
+    for b in (msub(), msub(nt=1, m=0), msub(nt=5, m=0, s=1), msub(c=1, sid=entry(16001, 7, 1, 255))):
+        for bit in range(12):
+            at = 3 - bit // 8
+            x = b[:at] + bytes([b[at] ^ (1 << bit % 8)]) + b[at + 1:]
+            for side, kind in (("ero", 7), ("rro", 8)):
+                out.append("%s 1 %s" % (side, hexes(route([x], kind))))
+                out.append("%s-segment 1 0 %s" % (side, hexes(route([x], kind))))
+    odd = msub(stray=0xFE0)
+    for n in range(1, 4):
+        ero(route([odd] * n + [msub()] * (3 - n)))
+        ero(route([msub()] * (3 - n) + [odd] * n))
+    out.append("# segments: each NT with a label, an index and no SID, L and V; then 15")
+    for nt in range(7):
+        for m, c, s in ((1, 0, 0), (1, 1, 0), (0, 0, 0), (0, 0, 1)):
+            for l, v in ((0, 0), (1, 1)):
+                if nt or not s:
+                    b = msub(nt=nt, m=m, c=c, s=s, l=l, v=v, sid=entry(100000 + nt, 5, 1, 64))
+                    out.append("ero-segment 1 0 " + hexes(route([b])))
+                    out.append("rro-segment 1 0 " + hexes(route([b], 8)))
+    for i in (0, 1, 2, 3, 2**32, ALL64):
+        out.append("ero-segment 1 %d %s" % (i, hexes(three)))
+        out.append("rro-segment 1 %d %s" % (i, hexes(b"\x08" + three[1:])))
+    for pst in (0, 2, 3, 257):
+        out.append("ero-segment %d 0 %s" % (pst, hexes(three)))
+    out += ["ero-segment 1 0 " + hexes(E), "ero-segment 1 9 " + hexes(three[:-1]), "ero-segment 1 0 -"]
 
 
 # -- writing ------------------------------------------------------------------------------------------------------
 
 
-def added(nt, sid, structure, l=0, v=0, behaviour=1, nai=None):
+def added(nt, sid, structure, l=0, v=0, behaviour=1, nai=None, m=0, c=0):
     long = {2: 16, 4: 32, 6: 40}.get(nt, 0)
     nai = bytes(range(1, long + 1)) if nai is None else nai
-    return "add %d %d %d %d %s %s %s" % (l, v, nt, behaviour, hexes(sid), hexes(nai), structure)
+    return "add %d %d %d %d %s %s %s %d %d" % (l, v, nt, behaviour, hexes(sid), hexes(nai), structure, m, c)
+
+
+# An MPLS segment.
+def labelled(nt=0, sid=LABEL, l=0, v=0, m=1, c=0, nai=None, behaviour=0, structure="-"):
+    nai = bytes(range(1, MPLS_NAI.get(nt, 0) + 1)) if nai is None else nai
+    return added(nt, sid, structure, l, v, behaviour, nai, m, c)
 
 
 def trial_writer():
     out = ["# before a begin: no buffer, place 0", "lent", "finish", added(0, SID, "-"), "# begin"]
     for n in (0, 1, 2, 3, 4, 5, 8):
         for side in ("ero", "rro"):
-            out += ["begin %s %d" % (side, n), "lent", "finish", added(0, SID, "-"), "lent"]
+            out += ["begin %s 3 %d" % (side, n), "lent", "finish", added(0, SID, "-"), "lent"]
     out.append("# every NT, with and without SID and structure, to the edge of the buffer and one octet short; read back and written again")
     agree(out, 2, ())
     for side, kind in (("ero", 7), ("rro", 8)):
@@ -388,11 +593,11 @@ def trial_writer():
                         good = nt in (0, 2, 4, 6)
                         b = sub(nt=nt if good else 0, s=0 if sid else 1, t=0 if structure == "-" else 1, l=l, v=v)
                         for n in (4 + len(b), 4 + len(b) - 1):
-                            out += ["begin %s %d" % (side, n), added(nt, sid, structure, l, v), "finish", "lent"]
+                            out += ["begin %s 3 %d" % (side, n), added(nt, sid, structure, l, v), "finish", "lent"]
                         if good:
                             out.append("%s-segment 3 0 %s" % (side, hexes(route([b], kind))))
     out.append("# octets kept for a part that is absent or shorter")
-    out.append("begin ero 400")
+    out.append("begin ero 3 400")
     for nt, nai in ((0, b"\1"), (0, bytes(40)), (0, bytes(39) + b"\1"), (2, bytes(16)), (2, bytes(16) + b"\1"), (2, bytes(range(16)) + bytes(24)), (4, bytes(33)), (4, bytes(39) + b"\1"), (6, bytes(39) + b"\1"), (6, b"\1"), (2, b"")):
         out.append(added(nt, SID, "-", nai=nai))
         out.append(added(nt, b"", "-", nai=nai))
@@ -406,13 +611,13 @@ def trial_writer():
     for behaviour in (0, 1, 255, 256, 65535):
         out.append(added(4, SID, "1,2,3,4", 1, 1, behaviour))
     out += [added(9, b"", "200,0,0,0", nai=b"\1"), added(0, b"", "200,0,0,0", nai=b"\1"), added(2, b"", "200,0,0,0"), added(2, SID, "200,0,0,0")]
-    out += ["finish", "lent", "# more is added and the route finished again", added(6, SID, "1,2,3,4"), "finish", "finish", "# a refused begin keeps buffer, kind and place", "begin rro 3", "begin rro 0", added(0, SID, "-", 1), "finish", "lent"]
+    out += ["finish", "lent", "# more is added and the route finished again", added(6, SID, "1,2,3,4"), "finish", "finish", "# a refused begin keeps buffer, kind and place", "begin rro 3 3", "begin rro 3 0", added(0, SID, "-", 1), "finish", "lent"]
     out.append("# octets behind a segment stay")
-    out += ["begin rro 40", added(0, SID, "-"), "lent", added(2, b"", "-"), "lent", "finish", "lent"]
+    out += ["begin rro 3 40", added(0, SID, "-"), "lent", added(2, b"", "-"), "lent", "finish", "lent"]
     out.append("# read, written again: the same octets")
     for subs in ([sub()], [sub(nt=6, t=1, v=1, l=1), sub(nt=2), sub(nt=4, s=1), sub(t=1, bits=(1, 2, 3, 4))]):
         b = route(subs)
-        out.append("begin ero %d" % len(b))
+        out.append("begin ero 3 %d" % len(b))
         for x in subs:
             nt, flags = x[2] // 16, x[3]
             s, t, v = flags & 1, flags >> 2 & 1, flags >> 3
@@ -423,11 +628,77 @@ def trial_writer():
             out.append(added(nt, sid, bits, x[0] // 128, v, x[6] * 256 + x[7], x[at:at + long]))
         out += ["finish", "ero 3 " + hexes(b)]
     out.append("# the most octets of an object are 65,532")
-    out.append("begin ero 65536")
+    out.append("begin ero 3 65536")
     for i in range(1023):
-        out.append("add 0 0 4 1 %s %s 1,2,3,4" % ("0" * 32, "0" * 64))
-    out += [added(6, b"", "-"), added(0, SID, "-"), added(0, SID, "-"), added(2, b"", "-"), "begin ero 4", "finish"]
+        out.append("add 0 0 4 1 %s %s 1,2,3,4 0 0" % ("0" * 32, "0" * 64))
+    out += [added(6, b"", "-"), added(0, SID, "-"), added(0, SID, "-"), added(2, b"", "-"), "begin ero 3 4", "finish"]
+    mpls_writing(out)
     return out
+
+
+def mpls_writing(out):
+    out.append("# the MPLS form: begun by its setup type; every other one is SRv6's")
+    for pst in (0, 1, 2, 3, 4, 257, 2**32 + 1, ALL64):
+        for side in ("ero", "rro"):
+            out += ["begin %s %d 40" % (side, pst), labelled(), labelled(nt=1, m=0), added(0, SID, "-"), added(0, SID, "-", m=1), "finish", "lent"]
+    for n in (0, 3, 4, 11, 12):
+        out += ["begin ero 1 %d" % n, "lent", "finish", labelled(), "finish", "lent"]
+    out.append("# a refused begin keeps the form too")
+    out += ["begin ero 1 100", "begin ero 3 3", labelled(), "begin rro 3 100", "begin ero 1 3", labelled(), added(0, SID, "-"), "finish"]
+    out.append("# every NT, as a label, whole or not, an index and without a SID, to the edge of the buffer and one octet short; read back and written again")
+    agree_mpls(out, 3)
+    for side, kind in (("ero", 7), ("rro", 8)):
+        for nt in list(range(0, 9)) + [16, 255]:
+            for sid, m, c in ((LABEL, 1, 0), (entry(16001, 5, 1, 64), 1, 1), (entry(5), 0, 0), (b"", 0, 0)):
+                for l, v in ((0, 0), (1, 0), (0, 1), (1, 1)) if nt in (0, 3) else ((0, 0),):
+                    b = msub(nt=nt if nt < 7 else 0, m=m, c=c, s=0 if sid else 1, l=l, v=v, sid=sid)
+                    for n in (4 + len(b), 4 + len(b) - 1):
+                        out += ["begin %s 1 %d" % (side, n), labelled(nt, sid, l, v, m, c), "finish", "lent"]
+                    if nt < 7:
+                        out.append("%s-segment 1 0 %s" % (side, hexes(route([b], kind))))
+    out.append("# what MPLS has not: a behaviour, a structure, octets of a SID behind the fourth; octets for a part that is absent or shorter")
+    out.append("begin ero 1 400")
+    for more in ({"behaviour": 1}, {"behaviour": 65535}, {"structure": "0,0,0,0"}, {"structure": "1,0,0,0"}, {"structure": "200,0,0,0"}, {"sid": LABEL + b"\0"}, {"sid": LABEL + b"\1"}, {"sid": LABEL + bytes(12)}, {"sid": LABEL + bytes(11) + b"\1"}, {"sid": LABEL[:3]}, {"sid": b"\x03"}, {"sid": b"\0", "m": 0}, {"sid": b"\0"},
+                 {"sid": b"", "m": 0, "nt": 1, "behaviour": 1}, {"nai": b"\1"}, {"nai": bytes(40)}, {"nai": bytes(39) + b"\1"}, {"nt": 1, "nai": bytes(4)}, {"nt": 1, "nai": bytes(4) + b"\1"}, {"nt": 1, "nai": b""}, {"nt": 3, "nai": bytes(8) + b"\1"}, {"nt": 3, "nai": bytes(40)}, {"nt": 5, "nai": bytes(16) + b"\1"}, {"nt": 5, "nai": bytes(15) + b"\1"}, {"nt": 6, "nai": bytes(39) + b"\1"}):
+        out.append(labelled(**more))
+    out += ["finish", "lent"]
+    out.append("# M and C: without a SID, C without M; of SRv6 neither")
+    out.append("begin ero 1 400")
+    for nt, sid in ((0, LABEL), (1, LABEL), (0, b""), (1, b""), (1, entry(3, 0, 0, 9)), (1, entry(16, 0, 0, 9))):
+        for m in (0, 1):
+            for c in (0, 1):
+                out.append(labelled(nt, sid, m=m, c=c))
+    out.append("finish")
+    out.append("begin ero 3 400")
+    for m in (0, 1):
+        for c in (0, 1):
+            out += [added(0, SID, "-", m=m, c=c), added(2, b"", "-", m=m, c=c), added(2, SID, "200,0,0,0", m=m, c=c), added(9, SID, "-", m=m, c=c), added(0, b"", "-", m=m, c=c)]
+    out += [added(0, SID[:n], "-") for n in (1, 4, 15, 16)] + ["finish"]
+    out.append("# labels and formats, in an ERO and an RRO")
+    for side in ("ero", "rro"):
+        out.append("begin %s 1 2000" % side)
+        for label in list(range(0, 18)) + [1048575]:
+            for m, c in ((0, 0), (1, 0), (1, 1)):
+                for ttl in (0, 1):
+                    out.append(labelled(sid=entry(label, 0, 0, ttl), m=m, c=c))
+        out.append("finish")
+    out.append("# the order of the numbers: 8, 9, 7, 29, 30, 16")
+    out.append("begin rro 1 12")
+    worst = {"sid": entry(3), "m": 1, "c": 1, "behaviour": 1}
+    out += [labelled(nt=7, **worst), labelled(sid=b"", m=1, c=1, behaviour=1), labelled(**worst), labelled(nt=1, sid=entry(3), c=1, l=1), labelled(nt=1, sid=entry(3), c=1), labelled(nt=1, sid=entry(7), c=1), labelled(nt=1), labelled(), labelled(), "finish"]
+    out.append("# read, written again: the same octets")
+    subs = [msub(nt=1, l=1, v=1), msub(nt=3, m=0), msub(nt=5, m=0, s=1), msub(c=1, sid=entry(16001, 3, 1, 1)), msub(nt=2), msub(nt=4), msub(nt=6, s=1, m=0)]
+    b = route(subs)
+    out.append("begin ero 1 %d" % len(b))
+    for x in subs:
+        nt, flags = x[2] // 16, x[3]
+        at = 4 if flags & 4 else 8
+        out.append(labelled(nt, x[4:at], x[0] // 128, flags >> 4, flags & 1, flags >> 1 & 1, x[at:]))
+    out += ["finish", "ero 1 " + hexes(b)]
+    out.append("# the most octets of an object are 65,532")
+    out.append("begin ero 1 65536")
+    out += ["add 0 0 6 0 %s %s - 0 0" % ("0" * 8, "0" * 80)] * 1365
+    out += [labelled(nt=1, sid=b"", m=0), labelled(), "finish 1"]
 
 
 # -- the board ----------------------------------------------------------------------------------------------------
@@ -485,7 +756,42 @@ def trial_board():
         else:
             s = r.randrange(max(0, version - 200), version + 3)
             out.append("next %d %d" % (s, max(0, s + r.randrange(-60, 60))))
-    return out
+    return out + forms_on_board()
+
+
+# All keys of the history before are removed first; BEFORE is the version that the board has then.
+BEFORE = 412
+
+
+def forms_on_board():
+    out = ["board", "# both forms: an entry's is its setup type, and comes with its octets"] + ["remove %d" % k for k in list(range(1, 150)) + list(range(300, 308))] + ["board"]
+    agree_mpls(out, 3, 0, srv6(2, []))
+    one, node, two, long, over = route([msub()]), route([msub(nt=1, m=0, s=1)]), route([msub(nt=3), msub(nt=5, m=0)]), route([msub()] * 48), route([msub()] * 49)
+    version = BEFORE
+    for key, pst, b in ((2001, 1, one), (2002, 3, E), (2003, 1, node), (2001, 3, one), (2001, 1, E), (2001, 2, E), (2001, 257, one), (2001, 3, E), (2002, 1, two), (2003, 1, route([msub(sid=entry(3))])), (2003, 1, route([msub(c=1)])), (2004, 1, long), (2004, 1, over), (2004, 3, route([sub()] * 16))):
+        out += ["report %d %d %s" % (key, pst, hexes(b)), "body %d" % key, "board"]
+    out += ["remove 2001", "body 2001", "report 2001 1 " + hexes(one), "body 2001", "remove 2001", "board"]
+    follow(out, version, version, 1)
+    out += ["next %d %d" % (version + 10, version + n) for n in range(0, 12)] + ["next %d %d" % (version + n, version + n) for n in range(0, 12)]
+    out += ["compact %d" % (version + 4), "chain", "board", "# a mixed history"]
+    r = random.Random(11)
+    shapes = [(1, [msub()]), (1, [msub(nt=1, m=0, s=1)]), (1, [msub(nt=3, m=0), msub(stray=0x800)]), (1, [msub(nt=6)] * 8), (3, [sub()]), (3, [sub(nt=2, t=1)]), (1, [sub()]), (3, [msub()]), (1, [msub(sid=entry(3))])]
+    version += 10
+    for step in range(300):
+        roll, key = r.random(), r.randrange(2000, 2040)
+        if roll < 0.5:
+            pst, subs = r.choice(shapes)
+            out.append("report %d %d %s" % (key, pst, hexes(route(subs))))
+            version += 0.66
+        elif roll < 0.7:
+            out.append("remove %d" % key)
+            version += 0.5
+        elif roll < 0.82:
+            out.append("body %d" % key)
+        else:
+            s = int(version) - r.randrange(0, 60)
+            out.append("next %d %d" % (s, s + r.randrange(-30, 30)))
+    return out + ["board", "chain"]
 
 
 # -- the console's own edges --------------------------------------------------------------------------------------
@@ -505,11 +811,18 @@ def console():
     out += ["# the positions and the addresses", "positions", "positions 0", "positions 0 1 2", "positions 0 x", "positions  0 1", "positions -", "positions 18446744073709551615 0", "pcc " + hexes(O), "positions 18446744073709551616 0",
             "positions 000 0001", "pcc " + hexes(O), "addresses", "addresses ", "addresses 0", "addresses 00 00", "addresses 0g", "addresses -", "addresses 0a", "ero 3 " + hexes(E), "addresses " + "aB" * 16, "ero 3 " + hexes(E), "addresses --", "ero 3 " + hexes(E), "addresses " + "00" * 16 + " -", "Addresses -", "addresses -"]
     sid = hexes(SID)
-    out += ["# the writer's words", "begin", "begin ero", "begin ero 65537", "begin ero 65536 ", "begin Ero 4", "begin pro 4", "begin 4 ero", "begin ero -", "begin ero 0", "begin ero 00028", "lent", "begin ero 18446744073709551644",
-            "add 0 0 0 1 " + sid + " - -", "finish", "add 2 0 0 1 " + sid + " - -", "add 0 2 0 1 " + sid + " - -", "add 0 0 256 1 " + sid + " - -", "add 0 0 0 65536 " + sid + " - -", "add 0 0 0 1 " + sid[:-2] + " - -", "add 0 0 0 1 " + sid + "00 - -", "add 0 0 0 1 " + sid + " " + "00" * 41 + " -",
-            "add 0 0 0 1 " + sid + " " + "00" * 40 + " -", "add 0 0 0 1 " + sid + " - 1,2,3", "add 0 0 0 1 " + sid + " - 1,2,3,4,5", "add 0 0 0 1 " + sid + " - 1,2,3,256", "add 0 0 0 1 " + sid + " - 1,2,3,", "add 0 0 0 1 " + sid + " - ,1,2,3", "add 0 0 0 1 " + sid + " - 1,2,,3",
-            "add 0 0 0 1 " + sid + " - 1, 2,3,4", "add 0 0 0 1 " + sid + " - 1;2;3;4", "add 0 0 0 1 " + sid + " - --", "add 0 0 0 1 " + sid + " - 0001,2,3,4", "add 0 0 0 1 " + sid + " -", "add 0 0 0 1 " + sid + " - - -", "add 0 0 0 1 - - -", "add 1 1 2 65535 - " + "ab" * 16 + " -", "add 00 01 002 0001 " + sid + " " + "Cd" * 16 + " -", "finish", "lent",
-            "finish ", "finish 1", "lent ", "lent 0", "begin rro 4", "lent"]
+    out += ["# the writer's words", "begin", "begin ero", "begin ero 3 65537", "begin ero 3 65536 ", "begin Ero 3 4", "begin pro 3 4", "begin 4 3 ero", "begin ero 3 -", "begin ero 28", "begin ero 3", "begin ero - 28", "begin ero x 28", "begin ero 3 28 0", "begin ero 18446744073709551616 28", "begin ero 3 0", "begin ero 003 00028", "lent", "begin ero 3 18446744073709551644",
+            "add 0 0 0 1 " + sid + " - - 0 0", "finish", "add 2 0 0 1 " + sid + " - - 0 0", "add 0 2 0 1 " + sid + " - - 0 0", "add 0 0 256 1 " + sid + " - - 0 0", "add 0 0 0 65536 " + sid + " - - 0 0", "add 0 0 0 1 " + sid[:-2] + " - - 0 0", "add 0 0 0 1 " + sid + "00 - - 0 0", "add 0 0 0 1 " + sid + " " + "00" * 41 + " - 0 0",
+            "add 0 0 0 1 " + sid + " " + "00" * 40 + " - 0 0", "add 0 0 0 1 " + sid + " - 1,2,3 0 0", "add 0 0 0 1 " + sid + " - 1,2,3,4,5 0 0", "add 0 0 0 1 " + sid + " - 1,2,3,256 0 0", "add 0 0 0 1 " + sid + " - 1,2,3, 0 0", "add 0 0 0 1 " + sid + " - ,1,2,3 0 0", "add 0 0 0 1 " + sid + " - 1,2,,3 0 0",
+            "add 0 0 0 1 " + sid + " - 1, 2,3,4 0 0", "add 0 0 0 1 " + sid + " - 1;2;3;4 0 0", "add 0 0 0 1 " + sid + " - -- 0 0", "add 0 0 0 1 " + sid + " - 0001,2,3,4 0 0", "add 0 0 0 1 " + sid + " - 0 0", "add 0 0 0 1 " + sid + " - - - 0 0", "add 0 0 0 1 - - - 0 0", "add 1 1 2 65535 - " + "ab" * 16 + " - 0 0", "add 00 01 002 0001 " + sid + " " + "Cd" * 16 + " - 0 0", "finish", "lent",
+            "finish ", "finish 1", "lent ", "lent 0", "begin rro 3 4", "lent"]
+    label, whole = hexes(LABEL), hexes(entry(16001, 0, 0, 64))
+    out += ["# the MPLS form's words: a SID of 1 to 16 octets, M and C", "begin ero 1 60", "add 0 0 0 0 " + label + " - - 1", "add 0 0 0 0 " + label + " - - 1 0 0", "add 0 0 0 0 " + label + " - - 2 0", "add 0 0 0 0 " + label + " - - 1 2", "add 0 0 0 0 " + label + " - - - -",
+            "add 0 0 0 0 " + label + " - - 1 ", "add 0 0 0 0 " + label + " - - x 0", "add 0 0 0 0 " + label[:-1] + " - - 1 0", "add 0 0 0 0  - - 1 0", "add 0 0 0 0 " + "00" * 17 + " - - 0 0", "add 0 0 0 0 " + label + " - - 1 0", "add 0 0 0 0 " + whole + " - - 01 0001", "add 0 0 1 0 " + label[:2] + " C0000201 - 1 0", "add 0 0 0 0 " + label + "00" * 12 + " - - 0 0",
+            "finish", "lent"]
+    both = opened(setup([1, 3], mpls(2, 9) + srv6(0, [44, 4])))
+    out += ["# a refusal of an OPEN names the form at fault", "pcc " + hexes(both), "pcc " + hexes(opened(setup([1], b""))), "pcc " + hexes(opened(setup([3], b""))), "pcc 00", "pce " + hexes(opened(setup([1, 3], mpls(0, 0)))), "pce " + hexes(opened(setup([1, 3], mpls(0, 0) + srv6(0, [7, 7])))), "ero 1 " + hexes(route([msub()])),
+            "pcc " + hexes(both), "pce " + hexes(both), "ero 1 " + hexes(route([msub()])), "ero 0000001 " + hexes(route([msub()])), "ero-segment 1 0 " + hexes(route([msub(nt=1)])), "rro-segment 1 0 " + hexes(route([msub(nt=5, m=0, s=1)], 8)), "report 98 1 " + hexes(route([msub(nt=1)])), "body 98", "next 2 2", "next 3 2", "remove 98", "body 98", "compact 4"]
     out += ["# form goes before meaning", "report 0 3 0", "report 0 x " + hexes(E), "report 0 3 " + hexes(E), "ero-segment 1 x " + hexes(E), "ero-segment 1 0 " + hexes(E)]
     out += ["# the board's words", "report", "report 1", "report 1 3", "report 1 3 " + hexes(E) + " 1", "remove", "remove ", "remove 1 1", "remove x", "compact", "compact -", "body", "body 1", "next", "next 0", "next 0 0 0", "next 0 0", "mark 0", "mark", "chain 0", "chain -", "chains", "Chain", "moved", "moved 1", "moved 1 2", "moved 1 2 3 4", "moved 1 2 x", "moved - 2 0", "moved  1 2 0", "Moved 1 2 0", "moved 1 2 18446744073709551616", "moved 0 0 0", "moved 0001 18446744073709551615 000", "board 0",
             "report 1 3 " + hexes(E), "body 1", "next 0 0", "remove 0001", "next 1 1", "mark"]
@@ -546,6 +859,10 @@ def trial_checker():
             out.append(flagged(flags, [44, 2]) + flagged(flags, [44, 2]) + r)
         out.append(flagged(flags, [44, 2]) + O + route([sub()] * 3))
     out.append(flagged(0x4000, [44, 2]) + flagged(0x4000, []) + route([sub()] * 4))
+    both = opened(setup([1, 3], mpls(2, 1) + srv6(0, [44, 2])))
+    # the program reads 65,536 octets of its input, so there is no room for all of them in every order
+    for a in (both, opened(setup([1], mpls(2, 9))), opened(setup([1, 3], mpls(0, 0) + srv6(0, [7, 2]))), opened(setup([1, 3], tlv(26, b"abc") + srv6(0, [44, 2]))), opened(setup([1, 3], srv6(0, [44, 2])))):
+        out += [a + both + r for r in (E, route([sub()] * 3), route([msub()]), route([sub(), msub()]))] + [O + a + E]
     return [x.hex().upper() for x in out]
 
 

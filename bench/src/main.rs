@@ -17,10 +17,19 @@ const E: [u8; 28] = [
     0x07, 0x10, 0x00, 0x1C, 0x28, 0x18, 0x00, 0x02, 0x00, 0x00, 0x00, 0x01, 0x20, 0x01, 0x0D, 0xB8, 0x00, 0x00, 0x00, 0x01, 0x00, 0x00, 0x00, 0x00, 0x00, 0x00,
     0x00, 0x01,
 ];
-const PST: u64 = 3;
+/// O with MPLS beside SRv6: setup types 1 and 3, sub-TLV 26 with a depth of 9.
+const BOTH: [u8; 40] = [
+    0x01, 0x10, 0x00, 0x28, 0x20, 0x1E, 0x78, 0x07, 0x00, 0x22, 0x00, 0x1A, 0x00, 0x00, 0x00, 0x02, 0x01, 0x03, 0x00, 0x00, 0x00, 0x1A, 0x00, 0x04, 0x00, 0x00,
+    0x00, 0x09, 0x00, 0x1B, 0x00, 0x06, 0x00, 0x00, 0x00, 0x00, 0x2C, 0x04, 0x00, 0x00,
+];
+/// Label 16001 and nothing else, as routers send it.
+const LABEL: [u8; 8] = [0x24, 0x08, 0x00, 0x09, 0x03, 0xE8, 0x10, 0x00];
+const SRV6: u64 = 3;
+const MPLS: u64 = 1;
 const PLACES: usize = 128;
 const ERO: u8 = 1;
-const FREE: raw::Session = raw::Session { agreed: 1, n: 1, limited: 0, limit: 0, a: 0, r: 0, hasv: 0, v: 0, hasm: 0, m: 0 };
+const FREE: raw::Session =
+    raw::Session { agreed: 1, n: 1, a: 0, r: 0, hasv: 0, v: 0, hasm: 0, m: 0, limited: 0, mpls: 1, mplsn: 1, mplslimited: 0, limit: 0, mplslimit: 0 };
 const AT: raw::Setup = raw::Setup { a: 0, r: 1 };
 
 /// O with other pairs of MSD type and value, an even number of them.
@@ -41,7 +50,37 @@ fn plain_route(n: usize) -> Vec<u8> {
     seal(octets)
 }
 
-/// A route of `n` segments of every form in turn, none of them stray, or those with a structure.
+/// The reference's session, as free as FREE.
+fn free() -> reference::Session {
+    reference::Session { agreed: true, n: true, mpls: Some(reference::Mpls { n: true, limit: None }), ..Default::default() }
+}
+
+/// An MPLS route of `n` labels.
+fn label_route(n: usize) -> Vec<u8> {
+    let mut octets = E[..4].to_vec();
+    for _ in 0..n {
+        octets.extend_from_slice(&LABEL);
+    }
+    seal(octets)
+}
+
+/// An MPLS route of `n` segments of every shape in turn: labels, whole and not, indices, names without a SID, with every NAI.
+fn mixed_labels(n: usize) -> Vec<u8> {
+    let mut octets = E[..4].to_vec();
+    for i in 0..n {
+        let (nt, flags, nai) = [(0, 9, 0), (1, 1, 4), (3, 0, 8), (5, 4, 16), (0, 11, 0), (2, 1, 16), (4, 1, 32), (6, 4, 40)][i % 8];
+        let mut sub = vec![36, 4 + nai as u8, nt << 4, flags];
+        if flags & 4 == 0 {
+            sub[1] += 4;
+            sub.extend_from_slice(&[0x03, 0xE8, 0x10, 64]);
+        }
+        sub.resize(sub.len() + nai, 20);
+        octets.extend_from_slice(&sub);
+    }
+    seal(octets)
+}
+
+/// A route of `n` segments with every part in turn, none of them stray, or those with a structure.
 fn mixed_route(n: usize, stray: bool) -> Vec<u8> {
     let mut octets = E[..4].to_vec();
     for i in 0..n {
@@ -78,7 +117,7 @@ fn random_keys() -> Vec<u64> {
 
 /// The record of a board, which keeps its places in order and the largest version of each 8.
 fn record(b: &reference::Board) -> raw::Record {
-    raw::Record { keys: b.keys, versions: b.versions, lengths: b.lengths, version: b.version, floor: b.floor, order: b.order(), tops: b.tops() }
+    raw::Record { keys: b.keys, versions: b.versions, lengths: b.lengths, version: b.version, floor: b.floor, order: b.order(), tops: b.tops(), forms: b.forms }
 }
 
 struct Bench {
@@ -119,55 +158,55 @@ impl Bench {
         println!("{text:<36} {:>10} {:>10} {:>8}", "library ns", "Rust ns", "ratio");
     }
 
-    fn judge(&mut self, duty: &str, route: &[u8]) {
-        let theirs = reference::Session { agreed: true, n: true, ..Default::default() };
-        let counts = reference::judge(route, reference::Kind::Ero, &theirs, PST, &[]).unwrap();
-        let ours = raw::judge(route, ERO, FREE, PST, &[]);
+    fn judge(&mut self, duty: &str, route: &[u8], pst: u64) {
+        let theirs = free();
+        let counts = reference::judge(route, reference::Kind::Ero, &theirs, pst, &[]).unwrap();
+        let ours = raw::judge(route, ERO, FREE, pst, &[]);
         assert_eq!((ours.count, ours.stray), (counts.segments, counts.stray));
         self.time(
             duty,
             |_| {
-                black_box(raw::judge(black_box(route), ERO, black_box(FREE), PST, &[]));
+                black_box(raw::judge(black_box(route), ERO, black_box(FREE), pst, &[]));
             },
             |_| {
-                black_box(reference::judge(black_box(route), reference::Kind::Ero, black_box(&theirs), PST, &[])).ok();
+                black_box(reference::judge(black_box(route), reference::Kind::Ero, black_box(&theirs), pst, &[])).ok();
             },
         );
     }
 
-    fn segment(&mut self, duty: &str, route: &[u8], i: u64) {
-        let theirs = reference::Session { agreed: true, n: true, ..Default::default() };
-        let sid = reference::segment(route, reference::Kind::Ero, &theirs, PST, &[], i).unwrap().0.sid;
-        assert_eq!(raw::segment(route, ERO, FREE, PST, &[], i).segment.sid, sid);
+    fn segment(&mut self, duty: &str, route: &[u8], pst: u64, i: u64) {
+        let theirs = free();
+        let sid = reference::segment(route, reference::Kind::Ero, &theirs, pst, &[], i).unwrap().0.sid;
+        assert_eq!(raw::segment(route, ERO, FREE, pst, &[], i).segment.sid, sid);
         self.time(
             duty,
             |_| {
-                black_box(raw::segment(black_box(route), ERO, black_box(FREE), PST, &[], black_box(i)));
+                black_box(raw::segment(black_box(route), ERO, black_box(FREE), pst, &[], black_box(i)));
             },
             |_| {
-                black_box(reference::segment(black_box(route), reference::Kind::Ero, black_box(&theirs), PST, &[], black_box(i))).ok();
+                black_box(reference::segment(black_box(route), reference::Kind::Ero, black_box(&theirs), pst, &[], black_box(i))).ok();
             },
         );
     }
 
     /// All segments of a route, one after the other: judged once, then stepped through.
-    fn steps(&mut self, duty: &str, route: &[u8]) {
-        let theirs = reference::Session { agreed: true, n: true, ..Default::default() };
+    fn steps(&mut self, duty: &str, route: &[u8], pst: u64) {
+        let theirs = free();
         let library = |route: &[u8]| {
-            let count = raw::judge(route, ERO, black_box(FREE), PST, &[]).count;
+            let count = raw::judge(route, ERO, black_box(FREE), pst, &[]).count;
             let mut at = strundevi::FIRST_PLACE;
             for _ in 0..count {
-                let stepped = raw::step(route, ERO, at);
+                let stepped = raw::step(route, ERO, pst, at);
                 black_box(&stepped.segment);
                 at = stepped.next;
             }
             at
         };
         let reference = |route: &[u8]| {
-            let count = reference::judge(route, reference::Kind::Ero, black_box(&theirs), PST, &[]).map_or(0, |counts| counts.segments);
+            let count = reference::judge(route, reference::Kind::Ero, black_box(&theirs), pst, &[]).map_or(0, |counts| counts.segments);
             let mut at = strundevi::FIRST_PLACE;
             for _ in 0..count {
-                let Ok((segment, next)) = reference::step(route, reference::Kind::Ero, at) else { break };
+                let Ok((segment, next)) = reference::step(route, reference::Kind::Ero, pst, at) else { break };
                 black_box(&segment);
                 at = next;
             }
@@ -187,18 +226,45 @@ impl Bench {
 
     /// Writing `n` segments that are a SID and nothing else, or have every part.
     fn write(&mut self, duty: &str, n: usize, whole: bool) {
-        let mut ours = vec![0u8; 8192];
-        let mut theirs = vec![0u8; 8192];
         let mut sid = [0; 16];
         sid.copy_from_slice(&E[12..]);
-        let mut segment = raw::Segment { behaviour: 1, hassid: 1, sid, ..raw::Segment::ZERO };
-        let mut other = reference::Segment { behaviour: 1, has_sid: true, sid, ..reference::Segment::default() };
+        let mut segment = reference::Segment { behaviour: 1, has_sid: true, sid, ..reference::Segment::default() };
         if whole {
-            segment = raw::Segment { nt: 6, nai: [7; 40], structured: 1, structure: [40, 24, 16, 48], ..segment };
-            other = reference::Segment { nt: 6, nai: [7; 40], structured: true, structure: [40, 24, 16, 48], ..other };
+            segment = reference::Segment { nt: 6, nai: [7; 40], structured: true, structure: [40, 24, 16, 48], ..segment };
         }
+        self.write_segments(duty, n, &segment, SRV6);
+    }
+
+    /// Writing `n` labels and nothing else, or labels with TC, S, TTL and the longest NAI.
+    fn write_labels(&mut self, duty: &str, n: usize, whole: bool) {
+        let mut sid = [0; 16];
+        sid[..4].copy_from_slice(&LABEL[4..]);
+        let mut segment = reference::Segment { has_sid: true, labelled: true, sid, ..reference::Segment::default() };
+        if whole {
+            segment = reference::Segment { nt: 6, nai: [7; 40], complete: true, ..segment };
+            segment.sid[3] = 64;
+        }
+        self.write_segments(duty, n, &segment, MPLS);
+    }
+
+    fn write_segments(&mut self, duty: &str, n: usize, other: &reference::Segment, pst: u64) {
+        let mut ours = vec![0u8; 8192];
+        let mut theirs = vec![0u8; 8192];
+        let segment = raw::Segment {
+            loose: 0,
+            verify: 0,
+            nt: other.nt,
+            behaviour: other.behaviour,
+            hassid: other.has_sid as u8,
+            sid: other.sid,
+            nai: other.nai,
+            structured: other.structured as u8,
+            structure: other.structure,
+            labelled: other.labelled as u8,
+            complete: other.complete as u8,
+        };
         let library = |buffer: &mut [u8]| {
-            let mut writer = raw::begin(buffer, raw::Writer { ero: ERO, at: 0 }, ERO).writer;
+            let mut writer = raw::begin(buffer, raw::Writer { ero: ERO, form: 0, at: 0 }, ERO, pst).writer;
             for _ in 0..n {
                 let written = raw::add(buffer, writer, black_box(&segment));
                 assert_eq!(written.verdict.number, 0);
@@ -207,9 +273,9 @@ impl Bench {
             raw::finish(buffer, writer).writer.at
         };
         let reference = |buffer: &mut [u8]| {
-            let mut writer = reference::Writer::begin(buffer, reference::Kind::Ero).unwrap();
+            let mut writer = reference::Writer::begin(buffer, reference::Kind::Ero, pst).unwrap();
             for _ in 0..n {
-                writer = writer.add(buffer, black_box(&other)).unwrap();
+                writer = writer.add(buffer, black_box(other)).unwrap();
             }
             writer.finish(buffer).unwrap().at
         };
@@ -226,16 +292,37 @@ impl Bench {
         );
     }
 
+    /// Reports of MPLS paths on a full board of them.
+    fn report_labels(&mut self) {
+        let (other, ero, keys) = (free(), label_route(4), random_keys());
+        let mut bs = vec![0; reference::STORE_OCTETS];
+        let mut b = reference::Board::default();
+        for &key in &keys {
+            b.report(&mut bs, key, &ero, &other, MPLS, &[]).unwrap();
+        }
+        let (mut r, mut rs) = (record(&b), bs.clone());
+        let key = |turn: usize| keys[turn * 37 % PLACES];
+        self.time(
+            "report of MPLS, full board",
+            |turn| {
+                assert_eq!(raw::report(black_box(&mut r), &mut rs, key(turn), black_box(&ero), FREE, MPLS, &[]).number, 0);
+            },
+            |turn| {
+                assert!(black_box(&mut b).report(&mut bs, key(turn), black_box(&ero), &other, MPLS, &[]).is_ok());
+            },
+        );
+    }
+
     /// Board calls with `used` places in use, all of them paths; keys and marks change from turn to turn. Keys one after another spread evenly
     /// over any hash, keys at random do not.
     fn board(&mut self, used: usize, name: &str, keys: &[u64]) {
-        let other = reference::Session { agreed: true, n: true, ..Default::default() };
+        let other = free();
         let ero = plain_route(4);
         let key = |turn: usize| keys[turn * 37 % used];
         let mut store = vec![0; reference::STORE_OCTETS];
         let mut board = reference::Board::default();
         for &key in &keys[..used] {
-            board.report(&mut store, key, &ero, &other, PST, &[]).unwrap();
+            board.report(&mut store, key, &ero, &other, SRV6, &[]).unwrap();
         }
         let start = (record(&board), store.clone(), board, store);
 
@@ -243,10 +330,10 @@ impl Bench {
         self.time(
             &format!("report, {name}"),
             |turn| {
-                assert_eq!(raw::report(black_box(&mut r), &mut rs, key(turn), black_box(&ero), FREE, PST, &[]).number, 0);
+                assert_eq!(raw::report(black_box(&mut r), &mut rs, key(turn), black_box(&ero), FREE, SRV6, &[]).number, 0);
             },
             |turn| {
-                assert!(black_box(&mut b).report(&mut bs, key(turn), black_box(&ero), &other, PST, &[]).is_ok());
+                assert!(black_box(&mut b).report(&mut bs, key(turn), black_box(&ero), &other, SRV6, &[]).is_ok());
             },
         );
 
@@ -258,10 +345,12 @@ impl Bench {
             |turn| {
                 assert_eq!(raw::remove(black_box(&mut r), &rs, key(turn)).number, 0);
                 r.lengths[turn * 37 % used] = length;
+                r.forms[turn * 37 % used] = SRV6 as u8;
             },
             |turn| {
                 assert!(black_box(&mut b).remove(&bs, key(turn)).is_ok());
                 b.lengths[turn * 37 % used] = length;
+                b.forms[turn * 37 % used] = SRV6 as u8;
             },
         );
 
@@ -300,13 +389,13 @@ impl Bench {
 
     /// Whether keys of a range moved, on a full board: none since the last change, one key, every key; and a range that no key is in.
     fn moved(&mut self) {
-        let other = reference::Session { agreed: true, n: true, ..Default::default() };
+        let other = free();
         let ero = plain_route(4);
         let keys = random_keys();
         let mut store = vec![0; reference::STORE_OCTETS];
         let mut b = reference::Board::default();
         for &key in &keys {
-            b.report(&mut store, key, &ero, &other, PST, &[]).unwrap();
+            b.report(&mut store, key, &ero, &other, SRV6, &[]).unwrap();
         }
         let r = record(&b);
         let (all, top) = ((0, u64::MAX), PLACES as u64);
@@ -332,13 +421,13 @@ impl Bench {
     /// A follower's next calls on a full board: one whose mark lies so many changes behind, one that is handed the first path behind so many
     /// removals that it does not want, and all from fresh to level.
     fn follow(&mut self) {
-        let other = reference::Session { agreed: true, n: true, ..Default::default() };
+        let other = free();
         let ero = plain_route(4);
         let keys = random_keys();
         let mut store = vec![0; reference::STORE_OCTETS];
         let mut full = reference::Board::default();
         for &key in &keys {
-            full.report(&mut store, key, &ero, &other, PST, &[]).unwrap();
+            full.report(&mut store, key, &ero, &other, SRV6, &[]).unwrap();
         }
         let mut next = |duty: &str, b: &reference::Board, s: u64, w: u64| {
             let r = record(b);
@@ -361,7 +450,7 @@ impl Bench {
             for &key in &keys[..removals] {
                 b.remove(&store, key).unwrap();
             }
-            b.report(&mut store.clone(), keys[127], &ero, &other, PST, &[]).unwrap();
+            b.report(&mut store.clone(), keys[127], &ero, &other, SRV6, &[]).unwrap();
             next(&format!("next, unwanted removals: {removals}"), &b, b.version, PLACES as u64);
         }
         let r = record(&full);
@@ -415,25 +504,45 @@ fn main() {
             black_box(reference::read_open(reference::Setup { a: 0, r: 1 }, black_box(&eight))).ok();
         },
     );
+    assert_eq!(raw::read_open(AT, &BOTH).mplslimit, 9);
+    bench.time(
+        "OPEN of both forms",
+        |_| {
+            black_box(raw::read_open(AT, black_box(&BOTH)));
+        },
+        |_| {
+            black_box(reference::read_open(reference::Setup { a: 0, r: 1 }, black_box(&BOTH))).ok();
+        },
+    );
     for n in [1, 4, 16, 2729] {
-        bench.judge(&format!("ERO, segments: {n}"), &plain_route(n));
+        bench.judge(&format!("ERO, segments: {n}"), &plain_route(n), SRV6);
+        bench.judge(&format!("ERO of MPLS, segments: {n}"), &label_route(n), MPLS);
     }
-    bench.judge("ERO, segments of all forms: 16", &mixed_route(16, false));
-    bench.judge("the same, 6 of them stray", &mixed_route(16, true));
-    bench.segment("segment 0 of 1", &plain_route(1), 0);
-    bench.segment("segment 15 of 16", &plain_route(16), 15);
-    bench.segment("segment 4 of 16, with an NAI", &mixed_route(16, false), 4);
+    bench.judge("ERO, segments with all parts: 16", &mixed_route(16, false), SRV6);
+    bench.judge("the same, 6 of them stray", &mixed_route(16, true), SRV6);
+    bench.judge("ERO of MPLS, all shapes: 16", &mixed_labels(16), MPLS);
+    bench.segment("segment 0 of 1", &plain_route(1), SRV6, 0);
+    bench.segment("segment 15 of 16", &plain_route(16), SRV6, 15);
+    bench.segment("segment 4 of 16, with an NAI", &mixed_route(16, false), SRV6, 4);
+    bench.segment("segment 0 of 1, MPLS", &label_route(1), MPLS, 0);
+    bench.segment("segment 15 of 16, MPLS", &label_route(16), MPLS, 15);
+    bench.segment("segment 5 of 16, MPLS, with an NAI", &mixed_labels(16), MPLS, 5);
     for n in [16, 2729] {
-        bench.steps(&format!("all segments in one pass: {n}"), &plain_route(n));
+        bench.steps(&format!("all segments in one pass: {n}"), &plain_route(n), SRV6);
+        bench.steps(&format!("all of MPLS in one pass: {n}"), &label_route(n), MPLS);
     }
     bench.write("begin, 16 adds, finish", 16, false);
     bench.write("begin, 16 adds of all parts, finish", 16, true);
+    bench.write_labels("begin, 16 labels, finish", 16, false);
+    bench.write_labels("begin, 16 labels, all parts, finish", 16, true);
+    bench.report_labels();
     bench.board(PLACES, "full board", &random_keys());
     println!("worst ratio {:.2}\n", bench.worst);
 
     bench.title("growth");
     for n in [2, 8, 64, 256, 1024] {
-        bench.judge(&format!("ERO, segments: {n}"), &plain_route(n));
+        bench.judge(&format!("ERO, segments: {n}"), &plain_route(n), SRV6);
+        bench.judge(&format!("ERO of MPLS, segments: {n}"), &label_route(n), MPLS);
     }
     for n in [1, 64] {
         bench.write(&format!("begin, adds, finish: {n}"), n, false);

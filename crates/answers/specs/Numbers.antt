@@ -100,3 +100,11 @@ markAhead = 24
 -- unusable bit positions, or address list not a multiple of 16 octets
 abbrev pub notUsable : ℕ
 notUsable = 28
+
+-- bad label value
+abbrev pub labelValue : ℕ
+labelValue = 29
+
+-- bad label format
+abbrev pub labelFormat : ℕ
+labelFormat = 30

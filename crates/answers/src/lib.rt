@@ -10,6 +10,8 @@ pub use number::CAPABILITY_MISSING;
 pub use number::FRAME_BROKEN;
 pub use number::KEY_OUT_OF_RANGE;
 pub use number::KINDS_MIXED;
+pub use number::LABEL_FORMAT;
+pub use number::LABEL_VALUE;
 pub use number::LENGTH_WRONG;
 pub use number::MARK_AHEAD;
 pub use number::MARK_TOO_OLD;

@@ -74,3 +74,9 @@ pub const MARK_AHEAD: usize = 24;
 
 // unusable bit positions, or address list not a multiple of 16 octets
 pub const NOT_USABLE: usize = 28;
+
+// bad label value
+pub const LABEL_VALUE: usize = 29;
+
+// bad label format
+pub const LABEL_FORMAT: usize = 30;

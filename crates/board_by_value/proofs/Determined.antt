@@ -3,20 +3,20 @@ use Prim.Native.Nat.{ℕ}
 use mathlib.Core.Path.{_≡_, sym, _∙_}
 use mathlib.Core.List.{List}
 use Rattle.answers.specs.declared.verdict.Verdict.{Verdict}
-use Rattle.session.specs.declared.Session.{Session}
+use Rattle.session.specs.declared.Sessions.{Sessions}
 use Rattle.board_record.specs.declared.record.Board.{Board}
 use Rattle.board_rules.specs.declared.answer.Handed.{Handed}
 use Rattle.board_rules.specs.declared.answer.Mark.{Mark}
 use Rattle.board_by_value.specs.declared.answer.Answer.{Answer}
-use Rattle.board_by_value.specs.ByValue.{reportOn, reportStoreOn, removeOn, compactOn, bodyNumberOn, bodyOn, nextOn, movedOn, freshMarkOn}
+use Rattle.board_by_value.specs.ByValue.{reportOn, reportStoreOn, removeOn, compactOn, bodyNumberOn, bodyOn, bodyFormOn, nextOn, movedOn, freshMarkOn}
 
-pub report-determined : (b : Board) (store : List ℕ) (k : ℕ) (ero : List ℕ) (session : Session) (pst : ℕ) (addresses : List ℕ) (v w : Answer) (x y : List ℕ)
-    → v ≡ reportOn b store k ero session pst addresses
-    → w ≡ reportOn b store k ero session pst addresses
-    → x ≡ reportStoreOn b store k ero session pst addresses
-    → y ≡ reportStoreOn b store k ero session pst addresses
+pub report-determined : (b : Board) (store : List ℕ) (k : ℕ) (ero : List ℕ) (both : Sessions) (pst : ℕ) (addresses : List ℕ) (v w : Answer) (x y : List ℕ)
+    → v ≡ reportOn b store k ero both pst addresses
+    → w ≡ reportOn b store k ero both pst addresses
+    → x ≡ reportStoreOn b store k ero both pst addresses
+    → y ≡ reportStoreOn b store k ero both pst addresses
     → (v ≡ w) × (x ≡ y)
-report-determined b store k ero session pst addresses v w x y p q r t = (p ∙ sym q, r ∙ sym t)
+report-determined b store k ero both pst addresses v w x y p q r t = (p ∙ sym q, r ∙ sym t)
 
 pub remove-determined : (b : Board) (store : List ℕ) (k : ℕ) (v w : Answer) → v ≡ removeOn b store k → w ≡ removeOn b store k → v ≡ w
 remove-determined b store k v w p q = p ∙ sym q
@@ -29,6 +29,9 @@ number-determined b store k v w p q = p ∙ sym q
 
 pub body-determined : (b : Board) (store : List ℕ) (k : ℕ) (x y : List ℕ) → x ≡ bodyOn b store k → y ≡ bodyOn b store k → x ≡ y
 body-determined b store k x y p q = p ∙ sym q
+
+pub form-determined : (b : Board) (store : List ℕ) (k x y : ℕ) → x ≡ bodyFormOn b store k → y ≡ bodyFormOn b store k → x ≡ y
+form-determined b store k x y p q = p ∙ sym q
 
 pub next-determined : (b : Board) (store : List ℕ) (s w : ℕ) (x y : Handed) → x ≡ nextOn b store s w → y ≡ nextOn b store s w → x ≡ y
 next-determined b store s w x y p q = p ∙ sym q

@@ -2,7 +2,7 @@
 use Prim.Native.Nat.{ℕ}
 use mathlib.Core.List.{List}
 use Rattle.answers.specs.declared.verdict.Verdict.{Verdict}
-use Rattle.session.specs.declared.Session.{Session}
+use Rattle.session.specs.declared.Sessions.{Sessions}
 use Rattle.board_record.specs.declared.record.Board.{Board}
 use Rattle.board_record.specs.Record.{tableIn}
 use Rattle.board_rules.specs.declared.answer.Handed.{Handed}
@@ -16,11 +16,11 @@ use Rattle.board_by_value.specs.declared.answer.Answer.{Answer}
 abbrev pub answerOf : lent.Result → Answer
 answerOf o = record { verdict = o .verdict; board = o .board }
 
-unfoldable pub reportOn : Board → List ℕ → ℕ → List ℕ → Session → ℕ → List ℕ → Answer
-reportOn b store k ero session pst addresses = answerOf (called.reportForOn b store k ero session pst addresses)
+unfoldable pub reportOn : Board → List ℕ → ℕ → List ℕ → Sessions → ℕ → List ℕ → Answer
+reportOn b store k ero both pst addresses = answerOf (called.reportForOn b store k ero both pst addresses)
 
-abbrev pub reportStoreOn : Board → List ℕ → ℕ → List ℕ → Session → ℕ → List ℕ → List ℕ
-reportStoreOn b store k ero session pst addresses = called.reportStoreForOn b store k ero session pst addresses
+abbrev pub reportStoreOn : Board → List ℕ → ℕ → List ℕ → Sessions → ℕ → List ℕ → List ℕ
+reportStoreOn b store k ero both pst addresses = called.reportStoreForOn b store k ero both pst addresses
 
 unfoldable pub removeOn : Board → List ℕ → ℕ → Answer
 removeOn b store k = answerOf (lent.removeOn b store k)
@@ -33,6 +33,9 @@ bodyNumberOn b store k = lent.bodyNumberOn b store k
 
 abbrev pub bodyOn : Board → List ℕ → ℕ → List ℕ
 bodyOn b store k = lent.bodyOn b store k
+
+abbrev pub bodyFormOn : Board → List ℕ → ℕ → ℕ
+bodyFormOn b store k = lent.bodyFormOn b store k
 
 abbrev pub nextOn : Board → List ℕ → ℕ → ℕ → Handed
 nextOn b store s w = lent.nextOn b store s w

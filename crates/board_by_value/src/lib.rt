@@ -1,29 +1,29 @@
 // The board's calls with the record by value (document 01, "The board"): report, remove and compact hand it back, changed
-// or after a refusal as it was; body hands back a part of the lent store; next hands out a change, moved says if a key of a range changed. Each lends the record's
+// or after a refusal as it was; body hands back a part of the lent store, and its form by a call of its own; next hands out a change, moved says if a key of a range changed. Each lends the record's
 // arrays to the call of report_call, board_remove or board_look.
 mod answer;
 
 ghost use mathlib.Core.Path.{_≡_};
-ghost use Rattle.board_by_value.specs.ByValue.{reportOn, reportStoreOn, removeOn, compactOn, bodyNumberOn, bodyOn, nextOn, movedOn, freshMarkOn};
+ghost use Rattle.board_by_value.specs.ByValue.{reportOn, reportStoreOn, removeOn, compactOn, bodyNumberOn, bodyOn, bodyFormOn, nextOn, movedOn, freshMarkOn};
 pub use answer::Answer;
 use answers::Verdict;
 use board_record::Board;
 use board_rules::Handed;
 use board_rules::Mark;
-use session::Session;
+use session::Sessions;
 
-// Report (key, ERO, session, PST, addresses).
+// Report (key, ERO, the two sessions, PST, addresses).
 pub fn report(
     b: Board,
     store: &mut [u8],
     key: u64,
     ero: &[u8],
-    session: Session,
+    both: Sessions,
     pst: u64,
     addresses: &[u8],
 ) -> Answer
-    ensures answer { λ r. ⌜ r ≡ reportOn b (now (store .entry)) key (now (ero .entry)) session pst (now (addresses .entry)) ⌝ }
-    ensures octets { λ r. ⌜ now (store .exit) ≡ reportStoreOn b (now (store .entry)) key (now (ero .entry)) session pst (now (addresses .entry)) ⌝ }
+    ensures answer { λ r. ⌜ r ≡ reportOn b (now (store .entry)) key (now (ero .entry)) both pst (now (addresses .entry)) ⌝ }
+    ensures octets { λ r. ⌜ now (store .exit) ≡ reportStoreOn b (now (store .entry)) key (now (ero .entry)) both pst (now (addresses .entry)) ⌝ }
 {
     let mut keys = b.keys;
     let mut versions = b.versions;
@@ -32,6 +32,7 @@ pub fn report(
     let mut floor = b.floor;
     let mut order = b.order;
     let mut tops = b.tops;
+    let mut forms = b.forms;
     let verdict = report_call::report(
         &mut keys,
         &mut versions,
@@ -40,10 +41,11 @@ pub fn report(
         &mut floor,
         &mut order,
         &mut tops,
+        &mut forms,
         store,
         key,
         ero,
-        session,
+        both,
         pst,
         addresses,
     );
@@ -55,6 +57,7 @@ pub fn report(
         floor: floor,
         order: order,
         tops: tops,
+        forms: forms,
     };
     Answer {
         verdict: verdict,
@@ -72,6 +75,7 @@ pub fn remove(b: Board, store: &[u8], key: u64) -> Answer
     let mut version = b.version;
     let mut order = b.order;
     let mut tops = b.tops;
+    let mut forms = b.forms;
     let verdict = board_remove::remove(
         &keys,
         &mut versions,
@@ -80,6 +84,7 @@ pub fn remove(b: Board, store: &[u8], key: u64) -> Answer
         b.floor,
         &mut order,
         &mut tops,
+        &mut forms,
         store,
         key,
     );
@@ -91,6 +96,7 @@ pub fn remove(b: Board, store: &[u8], key: u64) -> Answer
         floor: b.floor,
         order: order,
         tops: tops,
+        forms: forms,
     };
     Answer {
         verdict: verdict,
@@ -108,6 +114,7 @@ pub fn compact(b: Board, store: &[u8], c: u64) -> Answer
     let mut floor = b.floor;
     let mut order = b.order;
     let mut tops = b.tops;
+    let forms = b.forms;
     let verdict = board_remove::compact(
         &mut keys,
         &mut versions,
@@ -116,6 +123,7 @@ pub fn compact(b: Board, store: &[u8], c: u64) -> Answer
         &mut floor,
         &mut order,
         &mut tops,
+        &forms,
         store,
         c,
     );
@@ -127,6 +135,7 @@ pub fn compact(b: Board, store: &[u8], c: u64) -> Answer
         floor: floor,
         order: order,
         tops: tops,
+        forms: forms,
     };
     Answer {
         verdict: verdict,
@@ -146,6 +155,7 @@ pub fn body_number(b: Board, store: &[u8], key: u64) -> Verdict
         b.floor,
         &b.order,
         &b.tops,
+        &b.forms,
         store,
         key,
     )
@@ -163,6 +173,25 @@ pub fn body<'a>(b: Board, store: &'a [u8], key: u64) -> &'a [u8]
         b.floor,
         &b.order,
         &b.tops,
+        &b.forms,
+        store,
+        key,
+    )
+}
+
+// The form of the path of Body (key), by its setup type; 0 on refusal.
+pub fn body_form(b: Board, store: &[u8], key: u64) -> usize
+    ensures form { λ r. ⌜ r ≡ bodyFormOn b (now (store .entry)) key ⌝ }
+{
+    board_look::body_form(
+        &b.keys,
+        &b.versions,
+        &b.lengths,
+        b.version,
+        b.floor,
+        &b.order,
+        &b.tops,
+        &b.forms,
         store,
         key,
     )
@@ -180,6 +209,7 @@ pub fn next(b: Board, store: &[u8], s: u64, w: u64) -> Handed
         b.floor,
         &b.order,
         &b.tops,
+        &b.forms,
         store,
         s,
         w,
@@ -198,6 +228,7 @@ pub fn moved(b: Board, store: &[u8], from: u64, to: u64, v: u64) -> Verdict
         b.floor,
         &b.order,
         &b.tops,
+        &b.forms,
         store,
         from,
         to,

@@ -15,7 +15,7 @@ use Rattle.octets.specs.Octets.{part}
 use Rattle.board_record.specs.Sizes.{places, room, storeSize}
 use Rattle.board_record.specs.declared.record.Board.{Board}
 use Rattle.board_record.specs.Record.{tableIn, tidy}
-use Rattle.board_record.specs.Table.{Table, keyAt, versionAt, lengthAt}
+use Rattle.board_record.specs.Table.{Table, keyAt, versionAt, lengthAt, formAt}
 use Rattle.board_record.specs.Search.{placeOf, nextOf}
 use Rattle.board_record.specs.Proper.{properB}
 use Rattle.octets.proofs.Said.{both-true}
@@ -24,10 +24,10 @@ use Rattle.board_rules.specs.declared.answer.Change.{Change}
 use Rattle.board_rules.specs.declared.answer.Octets.{Octets}
 use Rattle.board_rules.specs.declared.answer.Handed.{Handed}
 use Rattle.board_rules.specs.declared.answer.Handed.the-variants.{Refused, Path, Removed, Level}
-use Rattle.board_rules.specs.Rules.{isBoard, inRange, lengthIn, hasPath}
-use Rattle.board_rules.specs.Body.{bodyRules, bodyNumber, octetsAt, bodyOf}
+use Rattle.board_rules.specs.Rules.{isBoard, inRange, lengthIn, formIn, hasPath}
+use Rattle.board_rules.specs.Body.{bodyRules, bodyNumber, octetsAt, bodyOf, bodyForm}
 use Rattle.board_rules.specs.Next.{nextRules, nextVerdict, changeAt, handedAt, nextAnswer}
-use Rattle.board_rules.specs.OnRecord.{bodyNumberOn, bodyOn, nextOn}
+use Rattle.board_rules.specs.OnRecord.{bodyNumberOn, bodyOn, bodyFormOn, nextOn}
 use Rattle.board_rules.proofs.OnRecord.{number-order}
 use Rattle.board_rules.proofs.Shared.{path-test}
 use Rattle.board_rules.proofs.Verdicts.{kept-old, kept-new, rule-passed}
@@ -86,6 +86,16 @@ module _ (b : Table) (store : List ℕ) (k : ℕ) where
       let d : from + n - from ≡ n = omega arith in
       rw (d, ← e, kept-new (v .number) [] (octetsAt b store (placeOf b k)) z, octetsAt, ← p, g, q)
 
+  pub form-is : (v : Verdict) (at f : ℕ) → v ≡ bodyNumber b store k → v .number ≡ 0 → at ≡ placeOf b k → f ≡ formIn (b .forms) at → f ≡ bodyForm b store k
+  unfolding bodyForm formIn
+  form-is v at f e z p g =
+      let l : at < 128 = omega (arith, body-here v e z, p) in
+      rw (← e, kept-new (v .number) 0 (formAt b (placeOf b k)) z, ← p) (g ∙ rw (lt-ltb at 128 l))
+
+  pub form-none : (v : Verdict) → v ≡ bodyNumber b store k → (v .number ≡ 0 → ⊥) → 0 ≡ bodyForm b store k
+  unfolding bodyForm
+  form-none v e d = rw (← e, kept-old (v .number) 0 (formAt b (placeOf b k)) d)
+
 -- ---- next
 module _ (b : Table) (store : List ℕ) (s w : ℕ) where
   pub next-not-board : (r : Bool) (v : Verdict) → r ≡ isBoard b (length store) → not r ≡ true → v ≡ refusedBy notABoard 0 → Refused v ≡ nextAnswer b store s w
@@ -109,10 +119,19 @@ module _ (b : Table) (store : List ℕ) (s w : ℕ) where
   unfolding nextAnswer handedAt changeAt
   next-removed v at key n e z p l q f y = rw (← e, eq-eqb (v .number) 0 z, handedAt, ← p, lt-ltb at 128 l, changeAt, ← f, eq-eqb n 0 y, q)
 
-  pub next-path : (v : Verdict) (at key n : ℕ) → v ≡ nextVerdict b store s w → v .number ≡ 0 → at ≡ nextOf b s w → at < places → key ≡ keyAt b at → n ≡ lengthAt b at → (n ≡ 0 → ⊥)
-      → Path (record { key = key; version = versionAt b at }) (record { place = at; length = n }) ≡ nextAnswer b store s w
+  pub next-path : (v : Verdict) (at key n form : ℕ)
+      → v ≡ nextVerdict b store s w
+      → v .number ≡ 0
+      → at ≡ nextOf b s w
+      → at < places
+      → key ≡ keyAt b at
+      → n ≡ lengthAt b at
+      → (n ≡ 0 → ⊥)
+      → form ≡ formAt b at
+      → Path (record { key = key; version = versionAt b at }) (record { place = at; length = n; form = form })
+      ≡ nextAnswer b store s w
   unfolding nextAnswer handedAt changeAt
-  next-path v at key n e z p l q f y = rw (← e, eq-eqb (v .number) 0 z, handedAt, ← p, lt-ltb at 128 l, changeAt, ← f, ne-eqb n 0 y, q)
+  next-path v at key n form e z p l q f y g = rw (← e, eq-eqb (v .number) 0 z, handedAt, ← p, lt-ltb at 128 l, changeAt, ← f, ne-eqb n 0 y, q, g)
 
 -- ---- on a record: what the calls know of its table
 module _ (b : Board) (store : List ℕ) (k : ℕ) where
@@ -133,3 +152,15 @@ module _ (b : Board) (store : List ℕ) (k : ℕ) where
   pub body-on : (octets : List ℕ) → tidy b ≡ true → octets ≡ bodyOf (tableIn b) store k → octets ≡ bodyOn b store k
   unfolding bodyOn
   body-on octets h e = rw h e
+
+  pub form-none-on : (v : Verdict) → v ≡ bodyNumberOn b store k → (v .number ≡ 0 → ⊥) → 0 ≡ bodyFormOn b store k
+  unfolding bodyNumberOn bodyFormOn
+  form-none-on v e d = go (tidy b) e
+    where
+      go : (x : Bool) → v ≡ cond x (bodyNumber (tableIn b) store k) (refusedBy notABoard 0) → 0 ≡ cond x (bodyForm (tableIn b) store k) 0
+      go true q = form-none (tableIn b) store k v q d
+      go false q = refl
+
+  pub form-on : (form : ℕ) → tidy b ≡ true → form ≡ bodyForm (tableIn b) store k → form ≡ bodyFormOn b store k
+  unfolding bodyFormOn
+  form-on form h e = rw h e

@@ -2,6 +2,7 @@
 mod looking;
 
 pub use looking::body;
+pub use looking::body_form;
 pub use looking::body_number;
 pub use looking::moved;
 pub use looking::next;

@@ -17,11 +17,12 @@ pub fn drop_empty<'a>(
     top: u64,
     floor: u64,
     order: &mut [u8],
+    forms: &'a [u8; 128],
     dropped: bool,
 )
-    requires { let b = tableOf (now keys) (now versions) (now lengths) top floor in
+    requires { let b = tableOf (now keys) (now versions) (now lengths) top floor (now forms) in
         ⌜ (length (now order) ≡ places) × Loose b (now order) × (dropped ≡ false → inOrder b (now order) ≡ true) ⌝ }
-    ensures order { λ _. ⌜ now (order .exit) ≡ orderOf (tableOf (now (keys .entry)) (now (versions .entry)) (now (lengths .entry)) top floor) ⌝ }
+    ensures order { λ _. ⌜ now (order .exit) ≡ orderOf (tableOf (now (keys .entry)) (now (versions .entry)) (now (lengths .entry)) top floor (now (forms .entry))) ⌝ }
 {
     if !dropped {
         return;

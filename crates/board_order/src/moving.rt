@@ -33,12 +33,13 @@ pub fn move_last<'a>(
     top: u64,
     floor: u64,
     order: &mut [u8],
+    forms: &'a [u8; 128],
     at: usize,
 )
-    requires { let b = tableOf (now keys) (now versions) (now lengths) top floor in
+    requires { let b = tableOf (now keys) (now versions) (now lengths) top floor (now forms) in
         ⌜ (length (now keys) ≡ places) × (length (now versions) ≡ places) × (length (now order) ≡ places) × (properB b ≡ true) × (inOrder b (now order) ≡ true) × (at < places) ⌝ }
     ensures order { λ _.
-        let b = tableOf (now (keys .entry)) (now (versions .entry)) (now (lengths .entry)) top floor in
+        let b = tableOf (now (keys .entry)) (now (versions .entry)) (now (lengths .entry)) top floor (now (forms .entry)) in
         ⌜ ((e : Entry) (f : ℕ) → (e .key ≡ 0 → ⊥) → top < e .version → now (order .exit) ≡ orderOf (changed b at e f)) ⌝ }
 {
     let used = used_in(order);

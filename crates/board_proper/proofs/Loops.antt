@@ -21,17 +21,17 @@ pub count-none : (t : ℕ → Bool) → 0 ≡ countBelow t 0
 unfolding countBelow
 count-none t = refl
 
-pub count-more : (ks vs ls : List ℕ) (i n x : ℕ) → n ≡ countBelow (emptyB ks vs ls) i → x ≡ cond (eqb (getD ks i 0) 0 && eqb (getD vs i 0) 0 && eqb (getD ls i 0) 0) 1 0
-    → n + x ≡ countBelow (emptyB ks vs ls) (i + 1)
+pub count-more : (ks vs ls fs : List ℕ) (i n x : ℕ) → n ≡ countBelow (emptyB ks vs ls fs) i → x ≡ cond (eqb (getD ks i 0) 0 && eqb (getD vs i 0) 0 && eqb (getD ls i 0) 0 && eqb (getD fs i 0) 0) 1 0
+    → n + x ≡ countBelow (emptyB ks vs ls fs) (i + 1)
 unfolding countBelow emptyB
-count-more ks vs ls i n x e f = rw (add-one i, countBelow, emptyB, f) (go (eqb (getD ks i 0) 0 && eqb (getD vs i 0) 0 && eqb (getD ls i 0) 0))
+count-more ks vs ls fs i n x e f = rw (add-one i, countBelow, emptyB, f) (go (eqb (getD ks i 0) 0 && eqb (getD vs i 0) 0 && eqb (getD ls i 0) 0 && eqb (getD fs i 0) 0))
   where
-    go : (t : Bool) → n + cond t 1 0 ≡ cond t (suc (countBelow (emptyB ks vs ls) i)) (countBelow (emptyB ks vs ls) i)
+    go : (t : Bool) → n + cond t 1 0 ≡ cond t (suc (countBelow (emptyB ks vs ls fs) i)) (countBelow (emptyB ks vs ls fs) i)
     go true = omega (arith, e)
     go false = omega (arith, e)
 
-pub one-most : (ks vs ls : List ℕ) (i x : ℕ) → x ≡ cond (eqb (getD ks i 0) 0 && eqb (getD vs i 0) 0 && eqb (getD ls i 0) 0) 1 0 → x ≤ 1
-one-most ks vs ls i x e = go (eqb (getD ks i 0) 0 && eqb (getD vs i 0) 0 && eqb (getD ls i 0) 0) e
+pub one-most : (ks vs ls fs : List ℕ) (i x : ℕ) → x ≡ cond (eqb (getD ks i 0) 0 && eqb (getD vs i 0) 0 && eqb (getD ls i 0) 0 && eqb (getD fs i 0) 0) 1 0 → x ≤ 1
+one-most ks vs ls fs i x e = go (eqb (getD ks i 0) 0 && eqb (getD vs i 0) 0 && eqb (getD ls i 0) 0 && eqb (getD fs i 0) 0) e
   where
     go : (t : Bool) → x ≡ cond t 1 0 → x ≤ 1
     go true f = omega (arith, f)

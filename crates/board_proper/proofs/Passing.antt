@@ -13,15 +13,15 @@ use borrow.Author.Tests.{eq-eqb, ne-eqb, eqb-true, eqb-false, lt-ltb, le-ltb, lt
 use Rattle.objects.specs.Objects.{unit}
 use Rattle.board_record.specs.Sizes.{places, room, keyMost, versionMost, bodyLeast}
 use Rattle.board_record.specs.Lists.{row, countBelow}
-use Rattle.board_record.specs.Table.{Table, Entry, keyAt, versionAt, lengthAt, entryAt, Used, usedB}
-use Rattle.board_record.specs.Proper.{Proper, allBelow, freshB, newB, properB}
+use Rattle.board_record.specs.Table.{Table, Entry, keyAt, versionAt, lengthAt, formAt, entryAt, Used, usedB}
+use Rattle.board_record.specs.Proper.{Proper, IsForm, allBelow, pathOk, freshB, newB, properB}
 use Rattle.board_record.specs.Order.{named, placeOn, OnRow, Chained, inOrder}
 use Rattle.octets.proofs.Said.{both-true}
 use Rattle.board_record.proofs.Logic.{true≢false, same?, from?}
 use Rattle.board_record.proofs.Lists.{count-same, count-full, count-most, count-less, count-equal, count-not, Hit, hits, hits-where, count-hits}
 use Rattle.board_record.proofs.All.{all-at, all-of, all-fails}
 use Rattle.board_record.proofs.Search.{used-is, is-used}
-use Rattle.board_record.proofs.Proper.{Sound, proper-sound, sound-proper, proper-is, is-proper}
+use Rattle.board_record.proofs.Proper.{Sound, body-is, is-body, proper-sound, sound-proper, proper-is, is-proper}
 use Rattle.board_order.proofs.Names.{named-none}
 use Rattle.board_order.proofs.Chains.{proper-apart, once, chain-apart, chained-in, in-chained, chained-count, count-chained}
 use Rattle.board_proper.specs.Chain.{along}
@@ -34,53 +34,62 @@ pub record Fit (e : Entry) (floor : ℕ) : Type 0 where
   pub used : e .key ≡ 0 → ⊥
   pub key : e .key ≤ keyMost
   pub mark : e .length ≡ 0 → floor < e .version
-  pub least : (e .length ≡ 0 → ⊥) → bodyLeast ≤ e .length
+  pub least : (e .length ≡ 0 → ⊥) → bodyLeast (e .form) ≤ e .length
   pub most : e .length ≤ room
   pub four : e .length % unit ≡ 0
+  pub form : (e .length ≡ 0 → ⊥) → IsForm (e .form)
+  pub bare : e .length ≡ 0 → e .form ≡ 0
 
 pub fit : (e : Entry) (floor : ℕ) → usedOk e floor ≡ true → Fit e floor
 unfolding usedOk
 fit e floor t = go (eqb (e .length) 0) refl (p .1)
   where
     p : (not (eqb (e .key) 0) && leb (e .key) keyMost ≡ true)
-        × (cond (eqb (e .length) 0) (ltb floor (e .version)) (eqb (e .length % unit) 0 && leb bodyLeast (e .length) && leb (e .length) room) ≡ true)
+        × (cond (eqb (e .length) 0) (eqb (e .form) 0 && ltb floor (e .version)) (pathOk (e .length) (e .form)) ≡ true)
     p = both-true (not (eqb (e .key) 0) && leb (e .key) keyMost) _ t
 
     q : (not (eqb (e .key) 0) ≡ true) × (leb (e .key) keyMost ≡ true)
     q = both-true (not (eqb (e .key) 0)) (leb (e .key) keyMost) (p .0)
 
     go : (x : Bool) → eqb (e .length) 0 ≡ x
-        → cond x (ltb floor (e .version)) (eqb (e .length % unit) 0 && leb bodyLeast (e .length) && leb (e .length) room) ≡ true → Fit e floor
+        → cond x (eqb (e .form) 0 && ltb floor (e .version)) (pathOk (e .length) (e .form)) ≡ true → Fit e floor
     go true z h =
         let n = eqb-true (e .length) 0 z in
+        let s = both-true _ _ h in
         record {
           used = eqb-false (e .key) 0 (not-true (eqb (e .key) 0) (q .0));
           key = leb-true (e .key) keyMost (q .1);
-          mark = λ y. ltb-true floor (e .version) h;
+          mark = λ y. ltb-true floor (e .version) (s .1);
           least = λ y. absurd (y n);
           most = omega arith;
           four = omega arith;
+          form = λ y. absurd (y n);
+          bare = λ y. eqb-true (e .form) 0 (s .0);
         }
     go false z h =
-        let s = both-true _ _ h in
-        let r = both-true _ _ (s .0) in
+        let s = body-is (e .length) (e .form) h in
         record {
           used = eqb-false (e .key) 0 (not-true (eqb (e .key) 0) (q .0));
           key = leb-true (e .key) keyMost (q .1);
           mark = λ y. absurd (eqb-false (e .length) 0 z y);
-          least = λ y. leb-true bodyLeast (e .length) (r .1);
-          most = leb-true (e .length) room (s .1);
-          four = eqb-true (e .length % unit) 0 (r .0);
+          least = λ y. s .least;
+          most = s .most;
+          four = s .four;
+          form = λ y. s .form;
+          bare = λ y. absurd (eqb-false (e .length) 0 z y);
         }
 
 is-fit : (e : Entry) (top floor : ℕ) → Sound e top floor → (e .key ≡ 0 → ⊥) → usedOk e floor ≡ true
 unfolding usedOk
 is-fit e top floor s u = rw (ne-eqb (e .key) 0 u, le-leb (e .key) keyMost (s .key)) (go (eqb (e .length) 0) refl)
   where
-    go : (x : Bool) → eqb (e .length) 0 ≡ x → cond x (ltb floor (e .version)) (eqb (e .length % unit) 0 && leb bodyLeast (e .length) && leb (e .length) room) ≡ true
-    go true z = lt-ltb floor (e .version) (s .mark u (eqb-true (e .length) 0 z))
+    go : (x : Bool) → eqb (e .length) 0 ≡ x → cond x (eqb (e .form) 0 && ltb floor (e .version)) (pathOk (e .length) (e .form)) ≡ true
+    go true z =
+        let n = eqb-true (e .length) 0 z in
+        rw (eq-eqb (e .form) 0 (s .bare n), lt-ltb floor (e .version) (s .mark u n))
     go false z =
-        rw (eq-eqb (e .length % unit) 0 (s .four), le-leb bodyLeast (e .length) (s .least (eqb-false (e .length) 0 z)), le-leb (e .length) room (s .most))
+        let n = eqb-false (e .length) 0 z in
+        is-body (e .length) (e .form) (record { four = s .four; form = s .form n; least = s .least n; most = s .most })
 
 fit-sound : (e : Entry) (top floor : ℕ) → Fit e floor → 1 ≤ e .version → e .version ≤ top → Sound e top floor
 fit-sound e top floor f l h =
@@ -93,6 +102,8 @@ fit-sound e top floor f l h =
       least = f .least;
       most = f .most;
       four = f .four;
+      form = f .form;
+      bare = f .bare;
     }
 
 -- ---- the pass along the order of a record
@@ -176,14 +187,15 @@ module _ (b : Table) (order : List ℕ) where
 
   -- ---- where the order ends before number i of the row
   abbrev none? : ℕ → Bool
-  none? p = emptyB (b .keys) (b .versions) (b .lengths) p
+  none? p = emptyB (b .keys) (b .versions) (b .lengths) (b .forms) p
 
-  none-is : (p : ℕ) → none? p ≡ true → (keyAt b p ≡ 0) × (versionAt b p ≡ 0) × (lengthAt b p ≡ 0)
+  none-is : (p : ℕ) → none? p ≡ true → (keyAt b p ≡ 0) × (versionAt b p ≡ 0) × (lengthAt b p ≡ 0) × (formAt b p ≡ 0)
   unfolding emptyB
   none-is p e =
-      let t = both-true (eqb (keyAt b p) 0 && eqb (versionAt b p) 0) (eqb (lengthAt b p) 0) e in
+      let s = both-true (eqb (keyAt b p) 0 && eqb (versionAt b p) 0 && eqb (lengthAt b p) 0) (eqb (formAt b p) 0) e in
+      let t = both-true (eqb (keyAt b p) 0 && eqb (versionAt b p) 0) (eqb (lengthAt b p) 0) (s .0) in
       let u = both-true (eqb (keyAt b p) 0) (eqb (versionAt b p) 0) (t .0) in
-      (eqb-true (keyAt b p) 0 (u .0), eqb-true (versionAt b p) 0 (u .1), eqb-true (lengthAt b p) 0 (t .1))
+      (eqb-true (keyAt b p) 0 (u .0), eqb-true (versionAt b p) 0 (u .1), eqb-true (lengthAt b p) 0 (t .1), eqb-true (formAt b p) 0 (s .1))
 
   module _ (i last : ℕ) (l : i ≤ places) (a : Along i last) where
     hit-used : (p : ℕ) → hits (λ j. true) (placeOn order) i p ≡ true → Used b p
@@ -210,7 +222,7 @@ module _ (b : Table) (order : List ℕ) where
       where
         same : Proper b → (q : ℕ) → q < 128 → none? q ≡ not (not (eqb (keyAt b q) 0))
         same p q k = ⊎-elim
-            (λ y. rw (eq-eqb (keyAt b q) 0 y, eq-eqb (versionAt b q) 0 (p .empty-version q k y), eq-eqb (lengthAt b q) 0 (p .empty-length q k y)))
+            (λ y. rw (eq-eqb (keyAt b q) 0 y, eq-eqb (versionAt b q) 0 (p .empty-version q k y), eq-eqb (lengthAt b q) 0 (p .empty-length q k y), eq-eqb (formAt b q) 0 (p .empty-form q k y)))
             (λ y. rw (ne-eqb (keyAt b q) 0 y)) (same? (keyAt b q) 0)
 
     pub clear-at : clearB order i ≡ true → (j : ℕ) → i ≤ j → j < places → getD order j 0 ≡ 0
@@ -234,7 +246,7 @@ module _ (b : Table) (order : List ℕ) where
     -- ---- and where it ends well
     data Seen (p : ℕ) : Type 0 where
       on : (j : ℕ) → j < i → placeOn order j ≡ p → Seen p
-      off : keyAt b p ≡ 0 → versionAt b p ≡ 0 → lengthAt b p ≡ 0 → Seen p
+      off : keyAt b p ≡ 0 → versionAt b p ≡ 0 → lengthAt b p ≡ 0 → formAt b p ≡ 0 → Seen p
 
     module _ (seen : (p : ℕ) → p < places → Seen p) (rest : (j : ℕ) → i ≤ j → j < places → getD order j 0 ≡ 0)
         (new : allBelow (newB (along (b .keys) order)) i ≡ true) (low : b .floor ≤ b .version) (high : b .version ≤ versionMost) (top : last ≤ b .version) where
@@ -245,7 +257,7 @@ module _ (b : Table) (order : List ℕ) where
           go (on j m e) =
               subst (λ (q : ℕ). Sound (entryAt b q) (b .version) (b .floor)) e
               (fit-sound (entryAt b (placeOn order j)) (b .version) (b .floor) (a .fits j m) (a .risen .above j m) (omega (arith, a .risen .most j m)))
-          go (off x y z) =
+          go (off x y z f) =
               record {
                 none = λ u. (y, z);
                 key = omega arith;
@@ -255,6 +267,8 @@ module _ (b : Table) (order : List ℕ) where
                 least = λ u. absurd (u z);
                 most = omega arith;
                 four = omega arith;
+                form = λ u. absurd (u z);
+                bare = λ u. f;
               }
 
       -- a used place is named
@@ -263,7 +277,7 @@ module _ (b : Table) (order : List ℕ) where
         where
           go : Seen p → Hit (λ j. true) (placeOn order) i p
           go (on j m e) = record { at = j; here = m; passes = refl; is = e }
-          go (off x y z) = absurd (u x)
+          go (off x y z f) = absurd (u x)
 
       -- keys along the order are distinct
       keys-apart : (j k : ℕ) → j < k → k < i → keyAt b (placeOn order j) ≡ keyAt b (placeOn order k) → ⊥
@@ -336,7 +350,7 @@ module _ (b : Table) (order : List ℕ) where
                 not-none false w = refl
 
             pick : (y : Bool) → none? p ≡ y → Seen p
-            pick true w = let t = none-is p w in off (t .0) (t .1) (t .2)
+            pick true w = let t = none-is p w in off (t .0) (t .1) (t .2) (t .3)
             pick false w =
                 let y = hits-where (λ j. true) (placeOn order) i p
                 (count-equal (hits (λ j. true) (placeOn order) i) (λ x. not (none? x)) 128 hit-shown shown p k (rw w)) in

@@ -27,9 +27,10 @@ pub fn is_proper<'a>(
     floor: u64,
     order: &'a [u8; 128],
     tops: &'a [u64; 16],
+    forms: &'a [u8; 128],
 ) -> bool
     ensures proper { λ r.
-        let b = tableOf (now (keys .entry)) (now (versions .entry)) (now (lengths .entry)) top floor in
+        let b = tableOf (now (keys .entry)) (now (versions .entry)) (now (lengths .entry)) top floor (now (forms .entry)) in
         ⌜ r ≡ (properB b && inOrder b (now (order .entry)) && inTops (now (versions .entry)) (now (tops .entry))) ⌝ }
 {
     if top < floor {
@@ -49,7 +50,7 @@ pub fn is_proper<'a>(
             if top < last {
                 return false;
             }
-            if empties(keys, versions, lengths) != PLACES - i {
+            if empties(keys, versions, lengths, forms) != PLACES - i {
                 return false;
             }
             if !clear(order, i) {
@@ -66,7 +67,7 @@ pub fn is_proper<'a>(
             return false;
         }
         let k = keys[x];
-        if !used_ok(k, v, lengths[x], floor) {
+        if !used_ok(k, v, lengths[x], forms[x], floor) {
             return false;
         }
         let h = slot(wide32(k));

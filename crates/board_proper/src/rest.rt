@@ -9,8 +9,8 @@ ghost use Rattle.board_proper.specs.Places.{emptyB, clearB};
 use board_record::PLACES;
 
 // 1 for an empty place with all numbers 0, else 0.
-fn empty_one(k: u32, v: u64, l: u16) -> usize
-    ensures one { λ r. ⌜ r ≡ cond (eqb k 0 && eqb v 0 && eqb l 0) 1 0 ⌝ }
+fn empty_one(k: u32, v: u64, l: u16, form: u8) -> usize
+    ensures one { λ r. ⌜ r ≡ cond (eqb k 0 && eqb v 0 && eqb l 0 && eqb form 0) 1 0 ⌝ }
 {
     if k != 0 {
         return 0;
@@ -21,17 +21,25 @@ fn empty_one(k: u32, v: u64, l: u16) -> usize
     if l != 0 {
         return 0;
     }
+    if form != 0 {
+        return 0;
+    }
     1
 }
 
 // How many places are empty, with all their numbers 0.
-pub fn empties<'a>(keys: &'a [u32; 128], versions: &'a [u64; 128], lengths: &'a [u16; 128]) -> usize
-    ensures count { λ r. ⌜ r ≡ countBelow (emptyB (now (keys .entry)) (now (versions .entry)) (now (lengths .entry))) places ⌝ }
+pub fn empties<'a>(
+    keys: &'a [u32; 128],
+    versions: &'a [u64; 128],
+    lengths: &'a [u16; 128],
+    forms: &'a [u8; 128],
+) -> usize
+    ensures count { λ r. ⌜ r ≡ countBelow (emptyB (now (keys .entry)) (now (versions .entry)) (now (lengths .entry)) (now (forms .entry))) places ⌝ }
 {
     let mut none: usize = 0;
     let mut i: usize = 0;
     while i < PLACES {
-        none += empty_one(keys[i], versions[i], lengths[i]);
+        none += empty_one(keys[i], versions[i], lengths[i], forms[i]);
         i += 1;
     }
     none

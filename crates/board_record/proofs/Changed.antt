@@ -9,8 +9,8 @@ use lib.ListN.{getD, set, length, length-set}
 use lib.Seq.{getD-set-same, getD-set-other}
 use Rattle.objects.specs.Objects.{unit}
 use Rattle.board_record.specs.Sizes.{places, room, keyLeast, keyMost, versionMost, bodyLeast}
-use Rattle.board_record.specs.Table.{Table, Sized, keyAt, versionAt, lengthAt, entryAt, Entry, Used, RemovalAt, changed}
-use Rattle.board_record.specs.Proper.{Proper}
+use Rattle.board_record.specs.Table.{Table, Sized, keyAt, versionAt, lengthAt, formAt, entryAt, Entry, Used, RemovalAt, changed}
+use Rattle.board_record.specs.Proper.{Proper, IsForm}
 use Rattle.board_record.proofs.Logic.{same?}
 use Rattle.board_record.proofs.Proper.{Sound, proper-sound, sound-proper}
 
@@ -20,20 +20,23 @@ changed-sized b i e f s =
       keys = length-set (b .keys) i (e .key) ∙ s .keys;
       versions = length-set (b .versions) i (e .version) ∙ s .versions;
       lengths = length-set (b .lengths) i (e .length) ∙ s .lengths;
+      forms = length-set (b .forms) i (e .form) ∙ s .forms;
     }
 
--- what a change may store: a body's length, or 0 for a removal
-pub record Storable (n : ℕ) : Type 0 where
+-- what a change may store: a body's length and form, or 0 and 0 for a removal
+pub record Storable (n f : ℕ) : Type 0 where
   pub most : n ≤ room
   pub four : n % unit ≡ 0
-  pub least : (n ≡ 0 → ⊥) → bodyLeast ≤ n
+  pub least : (n ≡ 0 → ⊥) → bodyLeast f ≤ n
+  pub form : (n ≡ 0 → ⊥) → IsForm f
+  pub bare : n ≡ 0 → f ≡ 0
 
 -- when a change of place i to the entry e, with the floor f after it, keeps a table proper
 pub record Fitting (b : Table) (i : ℕ) (e : Entry) (f : ℕ) : Type 0 where
   pub here : i < places
   pub low : keyLeast ≤ e .key
   pub high : e .key ≤ keyMost
-  pub size : Storable (e .length)
+  pub size : Storable (e .length) (e .form)
   pub newer : b .version < e .version
   pub top : e .version ≤ versionMost
   pub floor : f ≤ b .version
@@ -63,6 +66,12 @@ module _ (b : Table) (i : ℕ) (e : Entry) (f : ℕ) (s : Sized b) where
   pub length-other : (j : ℕ) → (j ≡ i → ⊥) → lengthAt (changed b i e f) j ≡ lengthAt b j
   length-other j d = getD-set-other (b .lengths) i j (e .length) 0 d
 
+  pub form-same : (j : ℕ) → i < places → j ≡ i → formAt (changed b i e f) j ≡ e .form
+  form-same j l q = ap (λ (x : ℕ). getD (set (b .forms) i (e .form)) x 0) q ∙ getD-set-same (b .forms) i (e .form) 0 (omega (arith, s .forms))
+
+  pub form-other : (j : ℕ) → (j ≡ i → ⊥) → formAt (changed b i e f) j ≡ formAt b j
+  form-other j d = getD-set-other (b .forms) i j (e .form) 0 d
+
   pub changed-proper : Proper b → Fitting b i e f → Proper (changed b i e f)
   changed-proper p g = sound-proper b′ (omega (arith, g .floor, g .newer)) (g .top) at keys versions
     where
@@ -78,6 +87,8 @@ module _ (b : Table) (i : ℕ) (e : Entry) (f : ℕ) (s : Sized b) where
             least = g .size .least;
             most = g .size .most;
             four = g .size .four;
+            form = g .size .form;
+            bare = g .size .bare;
           }
 
       -- and every other
@@ -93,12 +104,14 @@ module _ (b : Table) (i : ℕ) (e : Entry) (f : ℕ) (s : Sized b) where
             least = o .least;
             most = o .most;
             four = o .four;
+            form = o .form;
+            bare = o .bare;
           }
 
       at : (j : ℕ) → j < places → Sound (entryAt b′ j) (e .version) f
       at j l =
-          ⊎-elim (λ q. rw (key-same j (g .here) q, version-same j (g .here) q, length-same j (g .here) q) mine)
-          (λ d. rw (key-other j d, version-other j d, length-other j d) (theirs j l d)) (same? j i)
+          ⊎-elim (λ q. rw (key-same j (g .here) q, version-same j (g .here) q, length-same j (g .here) q, form-same j (g .here) q) mine)
+          (λ d. rw (key-other j d, version-other j d, length-other j d, form-other j d) (theirs j l d)) (same? j i)
 
       keys : (x y : ℕ) → x < places → y < places → Used b′ x → keyAt b′ x ≡ keyAt b′ y → x ≡ y
       keys x y l m u q =

@@ -9,13 +9,44 @@ use mathlib.Core.Logic.{_⊎_, inl, inr, ⊎-elim}
 use lib.ListN.{getD, replicate, length-replicate, getD-replicate}
 use lib.Dec.{eqb, ltb, leb}
 use borrow.Author.Tests.{eqb-true, eqb-false, leb-true, leb-false, ltb-true, ltb-false, eq-eqb, ne-eqb, lt-ltb, le-leb, not-true, not-false}
-use Rattle.objects.specs.Objects.{unit}
+use Rattle.objects.specs.Objects.{unit, srv6Setup, mplsSetup}
 use Rattle.board_record.specs.Sizes.{places, room, keyLeast, keyMost, versionMost, bodyLeast}
-use Rattle.board_record.specs.Table.{Table, emptyTable, Sized, Entry, keyAt, versionAt, lengthAt, entryAt, Empty, Used, RemovalAt, PathAt}
-use Rattle.board_record.specs.Proper.{Proper, allBelow, placeOk, soundB, distinctB, properB}
+use Rattle.board_record.specs.Table.{Table, emptyTable, Sized, Entry, keyAt, versionAt, lengthAt, formAt, entryAt, Empty, Used, RemovalAt, PathAt}
+use Rattle.board_record.specs.Proper.{Proper, IsForm, allBelow, pathOk, placeOk, soundB, distinctB, properB}
 use Rattle.octets.proofs.Said.{both-true}
-use Rattle.board_record.proofs.Logic.{same?, test-is}
+use Rattle.board_record.proofs.Logic.{or-true, same?, test-is}
 use Rattle.board_record.proofs.All.{all-at, all-of, distinct-one, one-distinct}
+
+-- ---- a form, as a test
+form-is : (f : ℕ) → eqb f srv6Setup || eqb f mplsSetup ≡ true → IsForm f
+form-is f e = go (eqb f srv6Setup) refl e
+  where
+    go : (x : Bool) → eqb f srv6Setup ≡ x → x || eqb f mplsSetup ≡ true → IsForm f
+    go true q h = inl (eqb-true f srv6Setup q)
+    go false q h = inr (eqb-true f mplsSetup h)
+
+is-form : (f : ℕ) → IsForm f → eqb f srv6Setup || eqb f mplsSetup ≡ true
+is-form f (inl e) = rw (eq-eqb f srv6Setup e)
+is-form f (inr e) = rw (eq-eqb f mplsSetup e) (or-true (eqb f srv6Setup))
+
+-- ---- a path's length and form
+pub record Body (n f : ℕ) : Type 0 where
+  pub four : n % unit ≡ 0
+  pub form : IsForm f
+  pub least : bodyLeast f ≤ n
+  pub most : n ≤ room
+
+pub body-is : (length form : ℕ) → pathOk length form ≡ true → Body length form
+unfolding pathOk
+body-is length form e =
+    let p = both-true _ _ e in
+    let r = both-true _ _ (p .0) in
+    let s = both-true _ _ (r .0) in
+    record { four = eqb-true (length % unit) 0 (s .0); form = form-is form (s .1); least = leb-true (bodyLeast form) length (r .1); most = leb-true length room (p .1) }
+
+pub is-body : (length form : ℕ) → Body length form → pathOk length form ≡ true
+unfolding pathOk
+is-body length form b = rw (eq-eqb (length % unit) 0 (b .four), is-form form (b .form), le-leb (bodyLeast form) length (b .least), le-leb length room (b .most))
 
 -- ---- one place
 pub record Sound (e : Entry) (top floor : ℕ) : Type 0 where
@@ -24,19 +55,21 @@ pub record Sound (e : Entry) (top floor : ℕ) : Type 0 where
   pub low : (e .key ≡ 0 → ⊥) → 1 ≤ e .version
   pub high : e .version ≤ top
   pub mark : (e .key ≡ 0 → ⊥) → e .length ≡ 0 → floor < e .version
-  pub least : (e .length ≡ 0 → ⊥) → bodyLeast ≤ e .length
+  pub least : (e .length ≡ 0 → ⊥) → bodyLeast (e .form) ≤ e .length
   pub most : e .length ≤ room
   pub four : e .length % unit ≡ 0
+  pub form : (e .length ≡ 0 → ⊥) → IsForm (e .form)
+  pub bare : e .length ≡ 0 → e .form ≡ 0
 
 module _ (e : Entry) (top floor : ℕ) where
   -- what the test asks of a used place, by whether it is a removal
   abbrev size? : Bool → Bool
-  size? bare = cond bare (ltb floor (e .version)) (eqb (e .length % unit) 0 && leb bodyLeast (e .length) && leb (e .length) room)
+  size? bare = cond bare (eqb (e .form) 0 && ltb floor (e .version)) (pathOk (e .length) (e .form))
 
   -- and of a place, by whether it is empty
   abbrev place? : Bool → Bool
   place? empty =
-      cond empty (eqb (e .length) 0 && eqb (e .version) 0)
+      cond empty (eqb (e .length) 0 && eqb (e .version) 0 && eqb (e .form) 0)
       (leb (e .key) keyMost && leb 1 (e .version) && leb (e .version) top && size? (eqb (e .length) 0))
 
   pub sound : placeOk e top floor ≡ true → Sound e top floor
@@ -46,7 +79,9 @@ module _ (e : Entry) (top floor : ℕ) where
       size : (x : Bool) → eqb (e .length) 0 ≡ x → (e .key ≡ 0 → ⊥) → e .key ≤ keyMost → 1 ≤ e .version → e .version ≤ top → size? x ≡ true → Sound e top floor
       size true q n a b c h =
           let z = eqb-true (e .length) 0 q in
-          let f = ltb-true floor (e .version) h in
+          let p = both-true _ _ h in
+          let g = eqb-true (e .form) 0 (p .0) in
+          let f = ltb-true floor (e .version) (p .1) in
           record {
             none = λ y. absurd (n y);
             key = a;
@@ -56,10 +91,11 @@ module _ (e : Entry) (top floor : ℕ) where
             least = λ y. absurd (y z);
             most = omega arith;
             four = omega arith;
+            form = λ y. absurd (y z);
+            bare = λ y. g;
           }
       size false q n a b c h =
-          let p = both-true _ _ h in
-          let r = both-true _ _ (p .0) in
+          let p = body-is (e .length) (e .form) h in
           let z = eqb-false (e .length) 0 q in
           record {
             none = λ y. absurd (n y);
@@ -67,17 +103,21 @@ module _ (e : Entry) (top floor : ℕ) where
             low = λ y. b;
             high = c;
             mark = λ y w. absurd (z w);
-            least = λ y. leb-true bodyLeast (e .length) (r .1);
-            most = leb-true (e .length) room (p .1);
-            four = eqb-true (e .length % unit) 0 (r .0);
+            least = λ y. p .least;
+            most = p .most;
+            four = p .four;
+            form = λ y. p .form;
+            bare = λ y. absurd (z y);
           }
 
       go : (x : Bool) → eqb (e .key) 0 ≡ x → place? x ≡ true → Sound e top floor
       go true q h =
           let p = both-true _ _ h in
           let z = eqb-true (e .key) 0 q in
-          let a = eqb-true (e .version) 0 (p .1) in
-          let b = eqb-true (e .length) 0 (p .0) in
+          let r = both-true _ _ (p .0) in
+          let a = eqb-true (e .version) 0 (r .1) in
+          let b = eqb-true (e .length) 0 (r .0) in
+          let g = eqb-true (e .form) 0 (p .1) in
           record {
             none = λ y. (a, b);
             key = omega arith;
@@ -87,6 +127,8 @@ module _ (e : Entry) (top floor : ℕ) where
             least = λ y. absurd (y b);
             most = omega arith;
             four = omega arith;
+            form = λ y. absurd (y b);
+            bare = λ y. g;
           }
       go false q h =
           let p = both-true _ _ h in
@@ -99,12 +141,15 @@ module _ (e : Entry) (top floor : ℕ) where
   is-sound r = go (eqb (e .key) 0) refl
     where
       size : (x : Bool) → eqb (e .length) 0 ≡ x → (e .key ≡ 0 → ⊥) → size? x ≡ true
-      size true q n = lt-ltb _ _ (r .mark n (eqb-true (e .length) 0 q))
+      size true q n =
+          let z = eqb-true (e .length) 0 q in
+          rw (eq-eqb (e .form) 0 (r .bare z), lt-ltb floor (e .version) (r .mark n z))
       size false q n =
-          rw (eq-eqb (e .length % unit) 0 (r .four), le-leb bodyLeast (e .length) (r .least (eqb-false (e .length) 0 q)), le-leb (e .length) room (r .most))
+          let z = eqb-false (e .length) 0 q in
+          is-body (e .length) (e .form) (record { four = r .four; form = r .form z; least = r .least z; most = r .most })
 
       go : (x : Bool) → eqb (e .key) 0 ≡ x → place? x ≡ true
-      go true q = let z = r .none (eqb-true (e .key) 0 q) in rw (eq-eqb (e .version) 0 (z .0), eq-eqb (e .length) 0 (z .1))
+      go true q = let z = r .none (eqb-true (e .key) 0 q) in rw (eq-eqb (e .version) 0 (z .0), eq-eqb (e .length) 0 (z .1), eq-eqb (e .form) 0 (r .bare (z .1)))
       go false q =
           let n = eqb-false (e .key) 0 q in
           rw (le-leb (e .key) keyMost (r .key), le-leb 1 (e .version) (r .low n), le-leb (e .version) top (r .high)) (size (eqb (e .length) 0) refl n)
@@ -130,6 +175,9 @@ sound-proper b f t at ks vs =
       length-most = λ i l y. at i l .most;
       empty-version = λ i l y. at i l .none y .0;
       empty-length = λ i l y. at i l .none y .1;
+      path-form = λ i l y. at i l .form (y .body);
+      removal-form = λ i l y. at i l .bare (y .bare);
+      empty-form = λ i l y. at i l .bare (at i l .none y .1);
     }
 
 -- ---- from the test to the record
@@ -161,7 +209,18 @@ proper-sound b p i l = ⊎-elim none used (same? (keyAt b i) 0)
     none e =
         let v = p .empty-version i l e in
         let n = p .empty-length i l e in
-        record { none = λ y. (v, n); key = omega arith; low = λ y. absurd (y e); high = omega arith; mark = λ y w. absurd (y e); least = λ y. absurd (y n); most = omega arith; four = omega arith }
+        record {
+          none = λ y. (v, n);
+          key = omega arith;
+          low = λ y. absurd (y e);
+          high = omega arith;
+          mark = λ y w. absurd (y e);
+          least = λ y. absurd (y n);
+          most = omega arith;
+          four = omega arith;
+          form = λ y. absurd (y n);
+          bare = λ y. p .empty-form i l e;
+        }
 
     used : Used b i → Sound (entryAt b i) (b .version) (b .floor)
     used u = ⊎-elim bare body (same? (lengthAt b i) 0)
@@ -177,6 +236,8 @@ proper-sound b p i l = ⊎-elim none used (same? (keyAt b i) 0)
               least = λ y. absurd (y n);
               most = omega arith;
               four = omega arith;
+              form = λ y. absurd (y n);
+              bare = λ y. p .removal-form i l (record { used = u; bare = n });
             }
 
         body : (lengthAt b i ≡ 0 → ⊥) → Sound (entryAt b i) (b .version) (b .floor)
@@ -191,6 +252,8 @@ proper-sound b p i l = ⊎-elim none used (same? (keyAt b i) 0)
               least = λ z. p .length-least i l y;
               most = p .length-most i l y;
               four = p .length-unit i l y;
+              form = λ z. p .path-form i l y;
+              bare = λ z. absurd (n z);
             }
 
 pub is-proper : (b : Table) → Proper b → properB b ≡ true
@@ -206,7 +269,7 @@ zeros : (i : ℕ) → i < places → getD {A = ℕ} (replicate 128 0) i 0 ≡ 0
 zeros i l = getD-replicate 128 i 0 0 l
 
 pub empty-sized : Sized emptyTable
-empty-sized = record { keys = length-replicate {A = ℕ} 128 0; versions = length-replicate {A = ℕ} 128 0; lengths = length-replicate {A = ℕ} 128 0 }
+empty-sized = record { keys = length-replicate {A = ℕ} 128 0; versions = length-replicate {A = ℕ} 128 0; lengths = length-replicate {A = ℕ} 128 0; forms = length-replicate {A = ℕ} 128 0 }
 
 pub empty-proper : Proper emptyTable
 empty-proper =
@@ -225,4 +288,7 @@ empty-proper =
       length-most = λ i l y. absurd (y .used (zeros i l));
       empty-version = λ i l y. zeros i l;
       empty-length = λ i l y. zeros i l;
+      path-form = λ i l y. absurd (y .used (zeros i l));
+      removal-form = λ i l y. absurd (y .used (zeros i l));
+      empty-form = λ i l y. zeros i l;
     }

@@ -10,12 +10,12 @@ use Rattle.board_record.specs.Order.{orderOf, inOrder}
 use Rattle.board_record.specs.Tops.{topsOf, inTops}
 
 abbrev pub tableIn : Board → Table
-tableIn b = tableOf (b .keys) (b .versions) (b .lengths) (b .version) (b .floor)
+tableIn b = tableOf (b .keys) (b .versions) (b .lengths) (b .version) (b .floor) (b .forms)
 
 -- the record of a table and its rows
 abbrev pub withRows : Table → List ℕ → List ℕ → Board
 withRows t order tops =
-    record { keys = t .keys; versions = t .versions; lengths = t .lengths; version = t .version; floor = t .floor; order = order; tops = tops }
+    record { keys = t .keys; versions = t .versions; lengths = t .lengths; version = t .version; floor = t .floor; order = order; tops = tops; forms = t .forms }
 
 -- the record of a table, with the rows that it gives
 abbrev pub recordOf : Table → Board

@@ -1,5 +1,8 @@
 -- The sizes and bounds of the table (document 01, "The board"), by the names that the code uses.
 use Prim.Native.Nat.{ℕ}
+use mathlib.Core.Bool.{cond}
+use lib.Dec.{eqb}
+use Rattle.objects.specs.Objects.{srv6Setup}
 
 -- "The table has 128 places"
 abbrev pub places : ℕ
@@ -32,5 +35,13 @@ abbrev pub versionMost : ℕ
 versionMost = 18446744073709551614
 
 -- "path lengths multiples of 4 from 24 to 384" (the 4 is Objects.unit)
-abbrev pub bodyLeast : ℕ
-bodyLeast = 24
+abbrev pub bodyLeastSrv6 : ℕ
+bodyLeastSrv6 = 24
+
+-- "MPLS bodies are proper from 8 octets" (document 02)
+abbrev pub bodyLeastMpls : ℕ
+bodyLeastMpls = 8
+
+-- by the form, SRv6's or MPLS's
+unfoldable pub bodyLeast : ℕ → ℕ
+bodyLeast form = cond (eqb form srv6Setup) bodyLeastSrv6 bodyLeastMpls

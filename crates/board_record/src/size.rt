@@ -22,5 +22,7 @@ pub const KEY_MOST: u64 = 1048574;
 // the version is at most 2^64-2
 pub const VERSION_MOST: u64 = 18446744073709551614;
 
-// path lengths are multiples of 4 (objects::UNIT) from 24 to ROOM
-pub const BODY_LEAST: usize = 24;
+// path lengths are multiples of 4 (objects::UNIT) to ROOM, from 24 in SRv6's form and from 8 in MPLS's
+pub const BODY_LEAST_SRV6: usize = 24;
+
+pub const BODY_LEAST_MPLS: usize = 8;

@@ -51,12 +51,17 @@ module _ (b : Table) (store : List ℕ) (k : ℕ) where
       let q : getD (b .keys) at 0 ≡ k = rw (← e) at (key-place-is b k (omega arith) .key) in
       ap (λ (x : ℕ). set (b .keys) at x) (sym q) ∙ set-getD (b .keys) at 0
 
-  removed-is : (at : ℕ) → at ≡ placeOf b k → at < places → tableOf (b .keys) (set (b .versions) at (b .version + 1)) (set (b .lengths) at 0) (b .version + 1) (b .floor) ≡ removed b k
+  removed-is : (at : ℕ)
+      → at ≡ placeOf b k
+      → at < places
+      → tableOf (b .keys) (set (b .versions) at (b .version + 1)) (set (b .lengths) at 0) (b .version + 1) (b .floor)
+      (set (b .forms) at 0)
+      ≡ removed b k
   unfolding removed
   removed-is at e l = rw (← e, same-keys at e l)
 
   pub remove-accepted : (at : ℕ) (v : Verdict) → v ≡ removeVerdict b store k → v .number ≡ 0 → at ≡ placeOf b k → at < places
-      → outcomeOf v (tableOf (b .keys) (set (b .versions) at (b .version + 1)) (set (b .lengths) at 0) (b .version + 1) (b .floor)) ≡ removeAnswer b store k
+      → outcomeOf v (tableOf (b .keys) (set (b .versions) at (b .version + 1)) (set (b .lengths) at 0) (b .version + 1) (b .floor) (set (b .forms) at 0)) ≡ removeAnswer b store k
   unfolding removeAnswer
   remove-accepted at v e z p l = rw (← e, kept-new (v .number) b (removed b k) z, removed-is at p l)
 
@@ -95,10 +100,10 @@ remove-key k path top v e z q =
 
 pub remove-order : (b : Table) (k at : ℕ) (order : List ℕ) → at ≡ placeOf b k → at < places → (k ≡ 0 → ⊥)
     → ((e : Entry) (f : ℕ) → (e .key ≡ 0 → ⊥) → b .version < e .version → order ≡ orderOf (changed b at e f))
-    → order ≡ orderOf (tableOf (b .keys) (set (b .versions) at (b .version + 1)) (set (b .lengths) at 0) (b .version + 1) (b .floor))
+    → order ≡ orderOf (tableOf (b .keys) (set (b .versions) at (b .version + 1)) (set (b .lengths) at 0) (b .version + 1) (b .floor) (set (b .forms) at 0))
 remove-order b k at order p l u f =
-    f (bearing b k 0) (b .floor) u (omega arith)
-    ∙ ap (λ (x : List ℕ). orderOf (tableOf x (set (b .versions) at (b .version + 1)) (set (b .lengths) at 0) (b .version + 1) (b .floor))) (same-keys b [] k at p l)
+    f (bearing b k 0 0) (b .floor) u (omega arith)
+    ∙ ap (λ (x : List ℕ). orderOf (tableOf x (set (b .versions) at (b .version + 1)) (set (b .lengths) at 0) (b .version + 1) (b .floor) (set (b .forms) at 0))) (same-keys b [] k at p l)
 
 module _ (b : Table) (m : ℕ) where
   -- a place that a compaction leaves used is as it was
@@ -122,7 +127,7 @@ module _ (b : Table) (m : ℕ) where
 
 -- where nothing was dropped, the order is that of the table still
 pub compact-still : (b : Table) (order xs ys : List ℕ) (f : ℕ) → properB b ≡ true → inOrder b order ≡ true → xs ≡ b .keys → ys ≡ b .versions
-    → inOrder (tableOf xs ys (b .lengths) (b .version) f) order ≡ true
+    → inOrder (tableOf xs ys (b .lengths) (b .version) f (b .forms)) order ≡ true
 compact-still b order xs ys f p o e g =
     let x = in-chained b order (proper-apart b (proper-is b p)) o in
-    rw (e, g) (chained-in (tableOf (b .keys) (b .versions) (b .lengths) (b .version) f) order (record { used = x .used; all = x .all; rises = x .rises; rest = x .rest }))
+    rw (e, g) (chained-in (tableOf (b .keys) (b .versions) (b .lengths) (b .version) f (b .forms)) order (record { used = x .used; all = x .all; rises = x .rises; rest = x .rest }))

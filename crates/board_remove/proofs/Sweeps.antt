@@ -50,10 +50,10 @@ and-swap false false = refl
 
 -- ---- keys and versions together
 abbrev keyLeft : List ℕ → List ℕ → List ℕ → ℕ → ℕ → ℕ
-keyLeft ks vs ls m i = cond (dropped (tableOf ks vs ls 0 0) m i) 0 (getD ks i 0)
+keyLeft ks vs ls m i = cond (dropped (tableOf ks vs ls 0 0 []) m i) 0 (getD ks i 0)
 
 abbrev versionLeft : List ℕ → List ℕ → List ℕ → ℕ → ℕ → ℕ
-versionLeft ks vs ls m i = cond (dropped (tableOf ks vs ls 0 0) m i) 0 (getD vs i 0)
+versionLeft ks vs ls m i = cond (dropped (tableOf ks vs ls 0 0 []) m i) 0 (getD vs i 0)
 
 pub record Sweeping (ks vs ls : List ℕ) (m i : ℕ) (xs ys : List ℕ) : Type 0 where
   pub keys-long : length xs ≡ 128
@@ -74,7 +74,7 @@ module _ (ks vs ls : List ℕ) (m : ℕ) (k : length ks ≡ 128) (v : length vs 
   sweep-more i xs ys gone x y r l g p q =
       let a : getD xs i 0 ≡ getD ks i 0 = ap (λ (z : List ℕ). getD z i 0) (r .keys) ∙ swept-here (keyLeft ks vs ls m) ks i (omega arith) in
       let b : getD ys i 0 ≡ getD vs i 0 = ap (λ (z : List ℕ). getD z i 0) (r .versions) ∙ swept-here (versionLeft ks vs ls m) vs i (omega arith) in
-      let h : gone ≡ dropped (tableOf ks vs ls 0 0) m i = rw (a, b) at g ∙ rw (and-swap (eqb (getD ls i 0) 0) (not (eqb (getD ks i 0) 0))) in
+      let h : gone ≡ dropped (tableOf ks vs ls 0 0 []) m i = rw (a, b) at g ∙ rw (and-swap (eqb (getD ls i 0) 0) (not (eqb (getD ks i 0) 0))) in
       record {
         keys-long = length-set xs i x ∙ r .keys-long;
         versions-long = length-set ys i y ∙ r .versions-long;
@@ -105,7 +105,7 @@ module _ (ks vs ls : List ℕ) (m : ℕ) (k : length ks ≡ 128) (v : length vs 
   sweep-versions i xs ys r h l = r .versions ∙ swept-done (versionLeft ks vs ls m) vs i v h l
 
 -- ---- the board that a compaction leaves
-pub compacted-is : (ks vs ls : List ℕ) (top floor m f : ℕ) (xs ys : List ℕ) → xs ≡ keysKept ks vs ls m 128 → ys ≡ versionsKept ks vs ls m 128 → f ≡ max floor m
-    → tableOf xs ys ls top f ≡ compacted (tableOf ks vs ls top floor) m
+pub compacted-is : (ks vs ls : List ℕ) (top floor : ℕ) (fs : List ℕ) (m f : ℕ) (xs ys : List ℕ) → xs ≡ keysKept ks vs ls m 128 → ys ≡ versionsKept ks vs ls m 128 → f ≡ max floor m
+    → tableOf xs ys ls top f fs ≡ compacted (tableOf ks vs ls top floor fs) m
 unfolding compacted keysKept versionsKept dropped removalB
-compacted-is ks vs ls top floor m f xs ys p q r = rw (p, q, r)
+compacted-is ks vs ls top floor fs m f xs ys p q r = rw (p, q, r)

@@ -1,5 +1,6 @@
 // Compact (c): 17, 24 if c is above the version. Drops the marks with version at most c; the floor becomes c if that is
-// higher, what was dropped is off the order, and the largest version of its group may be lower.
+// higher, what was dropped is off the order, and the largest version of its group may be lower. A mark has neither length nor
+// form, so these stay.
 ghost use mathlib.Core.Path.{_≡_};
 ghost use mathlib.Core.Bool.{false, not, _&&_};
 ghost use lib.ListN.{length};
@@ -54,20 +55,21 @@ fn sweep(keys: &mut [u32], versions: &mut [u64], lengths: &[u16; 128], c: u64) -
     dropped
 }
 
-pub fn compact(
+pub fn compact<'a>(
     keys: &mut [u32; 128],
     versions: &mut [u64; 128],
-    lengths: &[u16; 128],
+    lengths: &'a [u16; 128],
     version: u64,
     floor: &mut u64,
     order: &mut [u8; 128],
     tops: &mut [u64; 16],
+    forms: &'a [u8; 128],
     store: &[u8],
     c: u64,
 ) -> Verdict
     ensures answer { λ r.
-        let before = tableOf (now (keys .entry)) (now (versions .entry)) (now (lengths .entry)) version (now (floor .entry)) in
-        let after = tableOf (now (keys .exit)) (now (versions .exit)) (now (lengths .entry)) version (now (floor .exit)) in
+        let before = tableOf (now (keys .entry)) (now (versions .entry)) (now (lengths .entry)) version (now (floor .entry)) (now (forms .entry)) in
+        let after = tableOf (now (keys .exit)) (now (versions .exit)) (now (lengths .entry)) version (now (floor .exit)) (now (forms .entry)) in
         ⌜ resultOf r (withRows after (now (order .exit)) (now (tops .exit))) ≡ compactOn (withRows before (now (order .entry)) (now (tops .entry))) (now (store .entry)) c ⌝ }
 {
     if !is_board(
@@ -79,6 +81,7 @@ pub fn compact(
         *floor,
         order,
         tops,
+        forms,
     ) {
         return refused(NOT_A_BOARD, 0);
     }
@@ -88,7 +91,16 @@ pub fn compact(
     }
     let dropped = sweep(keys, versions, lengths, c);
     *floor = larger(*floor, c);
-    drop_empty(keys, versions, lengths, version, *floor, order, dropped);
+    drop_empty(
+        keys,
+        versions,
+        lengths,
+        version,
+        *floor,
+        order,
+        forms,
+        dropped,
+    );
     work_out(versions, tops, dropped);
     verdict
 }

@@ -1,4 +1,4 @@
-// Remove (key): 17, 18, 22, 20. The removal stays as a mark: the key keeps its place, with length 0 and the version that
+// Remove (key): 17, 18, 22, 20. The removal stays as a mark: the key keeps its place, with length and form 0 and the version that
 // the removal bears, goes to the end of the order, and that version is the largest of its group.
 ghost use mathlib.Core.Path.{_≡_};
 ghost use Rattle.board_record.specs.Table.{tableOf};
@@ -22,12 +22,13 @@ pub fn remove(
     floor: u64,
     order: &mut [u8; 128],
     tops: &mut [u64; 16],
+    forms: &mut [u8; 128],
     store: &[u8],
     key: u64,
 ) -> Verdict
     ensures answer { λ r.
-        let before = tableOf (now (keys .entry)) (now (versions .entry)) (now (lengths .entry)) (now (version .entry)) floor in
-        let after = tableOf (now (keys .entry)) (now (versions .exit)) (now (lengths .exit)) (now (version .exit)) floor in
+        let before = tableOf (now (keys .entry)) (now (versions .entry)) (now (lengths .entry)) (now (version .entry)) floor (now (forms .entry)) in
+        let after = tableOf (now (keys .entry)) (now (versions .exit)) (now (lengths .exit)) (now (version .exit)) floor (now (forms .exit)) in
         ⌜ resultOf r (withRows after (now (order .exit)) (now (tops .exit))) ≡ removeOn (withRows before (now (order .entry)) (now (tops .entry))) (now (store .entry)) key ⌝ }
 {
     if !is_board(
@@ -39,6 +40,7 @@ pub fn remove(
         floor,
         order,
         tops,
+        forms,
     ) {
         return refused(NOT_A_BOARD, 0);
     }
@@ -48,10 +50,11 @@ pub fn remove(
         return verdict;
     }
     let next = *version + 1;
-    move_last(keys, versions, lengths, *version, floor, order, at);
+    move_last(keys, versions, lengths, *version, floor, order, forms, at);
     raise(versions, tops, at, next);
     versions[at] = next;
     lengths[at] = 0;
+    forms[at] = 0;
     *version = next;
     verdict
 }

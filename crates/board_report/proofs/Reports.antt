@@ -5,6 +5,7 @@ use native.Mathlib.Omega.{arith}
 use mathlib.Core.Path.{_≡_, refl, sym, ap, _∙_}
 use mathlib.Core.Bool.{Bool, true, false, not, cond, _&&_}
 use mathlib.Core.List.{List, []}
+use mathlib.Core.Logic.{_⊎_, ⊎-elim}
 use lib.ListN.{length, getD, set, take, drop, length-drop}
 use lib.Dec.{eqb, ltb, leb}
 use borrow.Author.Tests.{eqb-true, eqb-false, ltb-false, leb-false}
@@ -15,14 +16,14 @@ use Rattle.octets.specs.Octets.{placed}
 use Rattle.octets.proofs.Laws.{rest-lent}
 use Rattle.session.specs.declared.Session.{Session}
 use Rattle.route.specs.Routes.{judgeOf}
-use Rattle.route.proofs.Answer.{accepted-body}
-use Rattle.objects.specs.Objects.{header}
+use Rattle.objects.specs.Objects.{header, srv6Setup, mplsSetup}
 use Rattle.board_record.specs.Sizes.{places, room, storeSize, keyLeast, keyMost, versionMost}
 use Rattle.board_record.specs.Table.{Table, tableOf}
 use Rattle.board_record.specs.Search.{targetOf, floorAfter}
 use Rattle.board_record.specs.Proper.{properB}
 use Rattle.board_rules.specs.Rules.{isBoard, inRange, outcomeOf}
 use Rattle.board_rules.specs.Report.{bodyIn, reportRules, reportVerdict, reported, reportWith, storeWith, reportAnswer, reportStore}
+use Rattle.board_rules.proofs.Keeps.{BodyFits, body-fits, least-some}
 use Rattle.board_rules.proofs.Verdicts.{kept-old, kept-new, rule-passed, route-passed, range-passed}
 use Rattle.board_rules.proofs.Told.{board-not, board-is, board-room, version-room}
 
@@ -52,12 +53,18 @@ passed k route n top target v e z =
       place = leb-false places target (f .0);
     }
 
--- an accepted ERO has a header and a body
-pub body-there : (ero : List ℕ) (session : Session) (pst : ℕ) (route : Verdict) → route ≡ judgeOf ero true session pst → route .number ≡ 0 → 28 ≤ length ero
-body-there ero session pst route e z =
-    let h = accepted-body ero true session pst (ap (λ (y : Verdict). y .number) (sym e) ∙ z) in
-    let q : length (drop 4 ero) ≡ length ero - 4 = length-drop 4 ero in
-    omega arith
+-- an accepted ERO has a header and a body, and its PST is a form's
+module _ (ero : List ℕ) (session : Session) (pst : ℕ) (route : Verdict) (e : route ≡ judgeOf ero true session pst) (z : route .number ≡ 0) where
+  fits : BodyFits ero pst
+  fits = body-fits ero session pst (ap (λ (y : Verdict). y .number) (sym e) ∙ z)
+
+  pub body-there : 12 ≤ length ero
+  body-there =
+      let q : length (drop 4 ero) ≡ length ero - 4 = length-drop 4 ero in
+      omega (arith, least-some pst, fits .least)
+
+  pub form-small : pst < 256
+  form-small = ⊎-elim (λ (y : pst ≡ srv6Setup). omega arith) (λ (y : pst ≡ mplsSetup). omega arith) (fits .form)
 
 module _ (b : Table) (store : List ℕ) (k : ℕ) (ero : List ℕ) (session : Session) (pst : ℕ) where
   -- ---- 17
@@ -78,7 +85,7 @@ module _ (b : Table) (store : List ℕ) (k : ℕ) (ero : List ℕ) (session : Se
 
   pub report-refused : (v : Verdict) → v ≡ reportVerdict b store k ero (judgeOf ero true session pst) → (v .number ≡ 0 → ⊥) → outcomeOf v b ≡ reportAnswer b store k ero session pst
   unfolding reportAnswer reportWith
-  report-refused v e d = rw (← e, kept-old (v .number) b (reported b k ero) d)
+  report-refused v e d = rw (← e, kept-old (v .number) b (reported b k ero pst) d)
 
   pub store-refused : (v : Verdict) → v ≡ reportVerdict b store k ero (judgeOf ero true session pst) → (v .number ≡ 0 → ⊥) → store ≡ reportStore b store k ero session pst
   unfolding reportStore storeWith
@@ -86,14 +93,14 @@ module _ (b : Table) (store : List ℕ) (k : ℕ) (ero : List ℕ) (session : Se
 
   -- ---- accepted
   reported-is : (at n f : ℕ) → at ≡ targetOf b k → n ≡ length ero - 4 → f ≡ floorAfter b k at
-      → tableOf (set (b .keys) at k) (set (b .versions) at (b .version + 1)) (set (b .lengths) at n) (b .version + 1) f ≡ reported b k ero
+      → tableOf (set (b .keys) at k) (set (b .versions) at (b .version + 1)) (set (b .lengths) at n) (b .version + 1) f (set (b .forms) at pst) ≡ reported b k ero pst
   unfolding reported
   reported-is at n f p q r = rw (← p, length-drop 4 ero, q, r)
 
   pub report-accepted : (at n f : ℕ) (v : Verdict) → v ≡ reportVerdict b store k ero (judgeOf ero true session pst) → v .number ≡ 0 → at ≡ targetOf b k → n ≡ length ero - 4 → f ≡ floorAfter b k at
-      → outcomeOf v (tableOf (set (b .keys) at k) (set (b .versions) at (b .version + 1)) (set (b .lengths) at n) (b .version + 1) f) ≡ reportAnswer b store k ero session pst
+      → outcomeOf v (tableOf (set (b .keys) at k) (set (b .versions) at (b .version + 1)) (set (b .lengths) at n) (b .version + 1) f (set (b .forms) at pst)) ≡ reportAnswer b store k ero session pst
   unfolding reportAnswer reportWith
-  report-accepted at n f v e z p q r = rw (← e, kept-new (v .number) b (reported b k ero) z, reported-is at n f p q r)
+  report-accepted at n f v e z p q r = rw (← e, kept-new (v .number) b (reported b k ero pst) z, reported-is at n f p q r)
 
   pub store-accepted : (at from : ℕ) (v : Verdict) (after : List ℕ) → v ≡ reportVerdict b store k ero (judgeOf ero true session pst) → v .number ≡ 0 → at ≡ targetOf b k → from ≡ room * at
       → after ≡ placed store from (take (length ero - 4) (drop 4 ero))

@@ -1,7 +1,8 @@
 // Report (key, ERO, session, PST): 17, 18, the route checks, 19, 20, 21. A key on the table, path or removal, keeps its
 // place; a new key takes the lowest empty place; with none, that of the oldest removal, and the floor rises to that
 // removal's version. The body, which is the ERO after its header, is written at the place's start, and
-// the place goes to the end of the order; the new version is the largest of its group.
+// the place goes to the end of the order; the new version is the largest of its group. The path's form is the PST: of an accepted
+// route it is one of two.
 ghost use mathlib.Core.Path.{_≡_};
 ghost use Prim.Native.Nat.{_-_};
 ghost use Rattle.objects.specs.Objects.{header};
@@ -38,6 +39,7 @@ pub fn report(
     floor: &mut u64,
     order: &mut [u8; 128],
     tops: &mut [u64; 16],
+    forms: &mut [u8; 128],
     store: &mut [u8],
     key: u64,
     ero: &[u8],
@@ -45,11 +47,11 @@ pub fn report(
     pst: u64,
 ) -> Verdict
     ensures answer { λ r.
-        let before = tableOf (now (keys .entry)) (now (versions .entry)) (now (lengths .entry)) (now (version .entry)) (now (floor .entry)) in
-        let after = tableOf (now (keys .exit)) (now (versions .exit)) (now (lengths .exit)) (now (version .exit)) (now (floor .exit)) in
+        let before = tableOf (now (keys .entry)) (now (versions .entry)) (now (lengths .entry)) (now (version .entry)) (now (floor .entry)) (now (forms .entry)) in
+        let after = tableOf (now (keys .exit)) (now (versions .exit)) (now (lengths .exit)) (now (version .exit)) (now (floor .exit)) (now (forms .exit)) in
         ⌜ resultOf r (withRows after (now (order .exit)) (now (tops .exit))) ≡ reportOn (withRows before (now (order .entry)) (now (tops .entry))) (now (store .entry)) key (now (ero .entry)) session pst ⌝ }
     ensures octets { λ r.
-        let before = tableOf (now (keys .entry)) (now (versions .entry)) (now (lengths .entry)) (now (version .entry)) (now (floor .entry)) in
+        let before = tableOf (now (keys .entry)) (now (versions .entry)) (now (lengths .entry)) (now (version .entry)) (now (floor .entry)) (now (forms .entry)) in
         ⌜ now (store .exit) ≡ reportStoreOn (withRows before (now (order .entry)) (now (tops .entry))) (now (store .entry)) key (now (ero .entry)) session pst ⌝ }
 {
     if !is_board(
@@ -61,10 +63,11 @@ pub fn report(
         *floor,
         order,
         tops,
+        forms,
     ) {
         return refused(NOT_A_BOARD, 0);
     }
-    let at = target(keys, versions, lengths, *version, *floor, key);
+    let at = target(keys, versions, lengths, *version, *floor, forms, key);
     let n = body_size(ero.len());
     let verdict = report_rules(key, judge(ero, true, session, pst), n, *version, at);
     if verdict.number != 0 {
@@ -72,12 +75,13 @@ pub fn report(
     }
     let raised = floor_after(keys, versions, *floor, key, at);
     let next = *version + 1;
-    move_last(keys, versions, lengths, *version, *floor, order, at);
+    move_last(keys, versions, lengths, *version, *floor, order, forms, at);
     raise(versions, tops, at, next);
     lay(store, start_of(at), &ero[HEADER..]);
     keys[at] = key as u32;
     versions[at] = next;
     lengths[at] = n as u16;
+    forms[at] = pst as u8;
     *version = next;
     *floor = raised;
     verdict

@@ -5,6 +5,7 @@ use native.Mathlib.Omega.{arith}
 use mathlib.Core.Path.{_≡_, refl, sym, ap, _∙_}
 use mathlib.Core.Bool.{Bool, true, false, not, cond, _&&_}
 use mathlib.Core.List.{List, [], _∷_, _++_}
+use mathlib.Core.Logic.{_⊎_, inl, inr}
 use lib.ListN.{length}
 use lib.Dec.{eqb, ltb, leb}
 use Rattle.answers.specs.declared.verdict.Verdict.{Verdict}
@@ -12,7 +13,8 @@ use Rattle.answers.specs.Numbers.{notABoard}
 use Rattle.answers.specs.Verdicts.{refusedBy, acceptedWith}
 use Rattle.session.specs.declared.Session.{Session}
 use Rattle.route.specs.Routes.{judgeOf}
-use Rattle.route.proofs.Numbers.{judge-low}
+use Rattle.route.proofs.Numbers.{Apart}
+use Rattle.route.proofs.Setups.{judge-low}
 use Rattle.board_record.specs.Sizes.{places, room, versionMost}
 use Rattle.board_record.specs.Table.{Table}
 use Rattle.board_record.specs.Search.{targetOf}
@@ -52,7 +54,7 @@ module _ (b : Table) (store : List ℕ) (k : ℕ) (ero : List ℕ) (session : Se
   unfolding reportAnswer reportWith reportVerdict reportRules
   report-17-only e w = rest (judgeOf ero true session pst) (judge-low ero true session pst) (rw (whole-board b (length store) w) at e)
     where
-      rest : (route : Verdict) → route .number < 15
+      rest : (route : Verdict) → Apart (route .number)
           → cond (not (inRange k)) (refusedBy 18 0)
           (cond (not (eqb (route .number) 0)) route
           (cond (ltb room (length (bodyIn ero))) (refusedBy 19 0)
@@ -63,16 +65,20 @@ module _ (b : Table) (store : List ℕ) (k : ℕ) (ero : List ℕ) (session : Se
           other (not (inRange k)) 18 _ (λ z. omega arith)
           (λ z. check (not (eqb (route .number) 0)) z)
         where
+          not-17 : Apart (route .number) → route .number ≡ notABoard → ⊥
+          not-17 (inl y) z = omega arith
+          not-17 (inr y) z = omega arith
+
           check : (t : Bool)
               → cond t route
               (cond (ltb room (length (bodyIn ero))) (refusedBy 19 0)
               (cond (eqb (b .version) versionMost) (refusedBy 20 0) (cond (leb places (targetOf b k)) (refusedBy 21 0) route)))
               .number ≡ notABoard
               → ⊥
-          check true z = omega arith
+          check true z = not-17 l z
           check false z =
               other (ltb room (length (bodyIn ero))) 19 _ (λ y. omega arith)
-              (other (eqb (b .version) versionMost) 20 _ (λ y. omega arith) (other (leb places (targetOf b k)) 21 route (λ y. omega arith) (λ y. omega arith))) z
+              (other (eqb (b .version) versionMost) 20 _ (λ y. omega arith) (other (leb places (targetOf b k)) 21 route (λ y. omega arith) (not-17 l))) z
 
 -- ---- remove
 module _ (b : Table) (store : List ℕ) (k : ℕ) where

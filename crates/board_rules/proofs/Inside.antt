@@ -11,7 +11,7 @@ use Rattle.answers.specs.declared.verdict.Verdict.{Verdict}
 use Rattle.answers.specs.Verdicts.{kept}
 use Rattle.octets.specs.Octets.{part}
 use Rattle.board_record.specs.Sizes.{places, room}
-use Rattle.board_record.specs.Table.{Table, lengthAt}
+use Rattle.board_record.specs.Table.{Table, lengthAt, formAt}
 use Rattle.board_record.specs.Search.{placeOf, nextOf}
 use Rattle.board_record.proofs.Proper.{proper-sound}
 use Rattle.board_rules.specs.declared.answer.Change.{Change}
@@ -43,7 +43,7 @@ body-inside b store k =
 -- octets are those of a place
 record Placed (b : Table) (i : ℕ) (path : Octets) : Type 0 where
   pub here : i < places
-  pub same : path ≡ record { place = i; length = lengthAt b i }
+  pub same : path ≡ record { place = i; length = lengthAt b i; form = formAt b i }
 
 module _ {change : Change} {path : Octets} where
   no-refusal : (v : Verdict) → Refused v ≡ Path change path → ⊥

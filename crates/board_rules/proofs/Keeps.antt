@@ -15,12 +15,12 @@ use Rattle.answers.specs.declared.verdict.Verdict.{Verdict}
 use Rattle.answers.specs.Verdicts.{kept}
 use Rattle.session.specs.declared.Session.{Session}
 use Rattle.route.specs.Routes.{judgeOf}
-use Rattle.route.proofs.Answer.{accepted-body}
-use Rattle.objects.specs.Objects.{unit}
+use Rattle.route.proofs.Setups.{accepted-one, body-mpls, body-srv6}
+use Rattle.objects.specs.Objects.{unit, srv6Setup, mplsSetup}
 use Rattle.board_record.specs.Sizes.{places, room, bodyLeast, versionMost}
-use Rattle.board_record.specs.Table.{Table, tableOf, Sized, keyAt, versionAt, lengthAt, Empty, Used, RemovalAt, bearing, entryAt, changed, removalB}
+use Rattle.board_record.specs.Table.{Table, tableOf, Sized, keyAt, versionAt, lengthAt, formAt, Empty, Used, RemovalAt, bearing, entryAt, changed, removalB}
 use Rattle.board_record.specs.Search.{KeyPlace, placeOf, LowestEmpty, OldestRemoval, ReportPlace, keeps, takes, drops, targetOf, floorAfter}
-use Rattle.board_record.specs.Proper.{Proper}
+use Rattle.board_record.specs.Proper.{Proper, IsForm}
 use Rattle.octets.proofs.Said.{both-true}
 use Rattle.board_record.proofs.Logic.{true≢false, same?}
 use Rattle.board_record.proofs.Lists.{row-at}
@@ -33,13 +33,41 @@ use Rattle.board_rules.specs.Compact.{compactVerdict, dropped, compacted
 use Rattle.board_rules.proofs.Verdicts.{kept-old, kept-new, ReportPassed, report-passed, RemovePassed, remove-passed, CompactPassed, compact-passed}
 
 -- ---- report
-pub record BodyFits (ero : List ℕ) : Type 0 where
-  pub least : bodyLeast ≤ length (bodyIn ero)
+pub least-some : (form : ℕ) → 8 ≤ bodyLeast form
+unfolding bodyLeast
+least-some form = go (eqb form srv6Setup)
+  where
+    go : (x : Bool) → 8 ≤ cond x 24 8
+    go true = omega arith
+    go false = omega arith
+
+pub record BodyFits (ero : List ℕ) (pst : ℕ) : Type 0 where
+  pub form : IsForm pst
+  pub least : bodyLeast pst ≤ length (bodyIn ero)
   pub four : length (bodyIn ero) % unit ≡ 0
 
+pub body-fits : (ero : List ℕ) (session : Session) (pst : ℕ) → judgeOf ero true session pst .number ≡ 0 → BodyFits ero pst
+unfolding bodyLeast
+body-fits ero session pst z = ⊎-elim mpls srv6 (accepted-one ero true session pst z)
+  where
+    mpls : pst ≡ mplsSetup → BodyFits ero pst
+    mpls e = let h = body-mpls ero true session pst z e in record { form = inr e; least = rw e (h .0); four = h .1 }
+
+    srv6 : pst ≡ srv6Setup → BodyFits ero pst
+    srv6 e = let h = body-srv6 ero true session pst z (λ q. omega arith) in record { form = inl e; least = rw e (h .0); four = h .1 }
+
 -- where a report goes, and the floor after it, fit the board
-report-fits : (b : Table) → Proper b → (k n i : ℕ) → 1 ≤ k → k ≤ 1048574 → Storable n → (b .version ≡ versionMost → ⊥) → i < places → ReportPlace b k i → Fitting b i (bearing b k n) (floorAfter b k i)
-report-fits b p k n i low high size left here (keeps x) =
+report-fits : (b : Table)
+    → Proper b
+    → (k n pst i : ℕ)
+    → 1 ≤ k
+    → k ≤ 1048574
+    → Storable n pst
+    → (b .version ≡ versionMost → ⊥)
+    → i < places
+    → ReportPlace b k i
+    → Fitting b i (bearing b k n pst) (floorAfter b k i)
+report-fits b p k n pst i low high size left here (keeps x) =
     let e = floor-keeps b k i (x .key) in
     record {
       here = here;
@@ -52,7 +80,7 @@ report-fits b p k n i low high size left here (keeps x) =
       only = λ j l d q. d (p .keys-distinct j i l here (λ z. omega (arith, sym q ∙ z)) (q ∙ sym (x .key)));
       marks = λ j l d r. omega (arith, e, p .removal-above j l r);
     }
-report-fits b p k n i low high size left here (takes new x) =
+report-fits b p k n pst i low high size left here (takes new x) =
     let e = floor-takes b k i (x .empty) in
     record {
       here = here;
@@ -65,7 +93,7 @@ report-fits b p k n i low high size left here (takes new x) =
       only = λ j l d. new j l;
       marks = λ j l d r. omega (arith, e, p .removal-above j l r);
     }
-report-fits b p k n i low high size left here (drops new used x) =
+report-fits b p k n pst i low high size left here (drops new used x) =
     let e = floor-drops b k i (x .removal .used) (new i here) in
     record {
       here = here;
@@ -81,14 +109,19 @@ report-fits b p k n i low high size left here (drops new used x) =
           omega (arith, e, x .oldest j l r, apart);
     }
 
-pub reported-proper : (b : Table) (store : List ℕ) (k : ℕ) (ero : List ℕ) (route : Verdict) → Sized b → BodyFits ero → reportVerdict b store k ero route .number ≡ 0 → Proper (reported b k ero)
+pub reported-proper : (b : Table) (store : List ℕ) (k : ℕ) (ero : List ℕ) (route : Verdict) (pst : ℕ)
+    → Sized b
+    → BodyFits ero pst
+    → reportVerdict b store k ero route .number ≡ 0
+    → Proper (reported b k ero pst)
 unfolding reported
-reported-proper b store k ero route s y z =
+reported-proper b store k ero route pst s y z =
     let g = report-passed b store k ero route z in
     let p = g .whole .proper in
-    let size : Storable (length (bodyIn ero)) = record { most = g .size; four = y .four; least = λ d. y .least } in
-    changed-proper b (targetOf b k) (bearing b k (length (bodyIn ero))) (floorAfter b k (targetOf b k)) s p
-    (report-fits b p k (length (bodyIn ero)) (targetOf b k) (g .key-least) (g .key-most) size (g .versions-left) (g .place) (report-place-is b k (g .place)))
+    let size : Storable (length (bodyIn ero)) pst =
+    record { most = g .size; four = y .four; least = λ d. y .least; form = λ d. y .form; bare = λ e. absurd (omega (arith, least-some pst, y .least)) } in
+    changed-proper b (targetOf b k) (bearing b k (length (bodyIn ero)) pst) (floorAfter b k (targetOf b k)) s p
+    (report-fits b p k (length (bodyIn ero)) pst (targetOf b k) (g .key-least) (g .key-most) size (g .versions-left) (g .place) (report-place-is b k (g .place)))
 
 -- a test on whether a verdict is an acceptance
 taken? : (v : Verdict) → (v .number ≡ 0) ⊎ (v .number ≡ 0 → ⊥)
@@ -98,15 +131,14 @@ pub report-proper : (b : Table) (store : List ℕ) (k : ℕ) (ero : List ℕ) (s
 unfolding reportAnswer reportWith
 report-proper b store k ero session pst s p = ⊎-elim yes no (taken? (reportVerdict b store k ero (judgeOf ero true session pst)))
   where
-    yes : reportVerdict b store k ero (judgeOf ero true session pst) .number ≡ 0 → Proper (kept (reportVerdict b store k ero (judgeOf ero true session pst) .number) b (reported b k ero))
+    yes : reportVerdict b store k ero (judgeOf ero true session pst) .number ≡ 0 → Proper (kept (reportVerdict b store k ero (judgeOf ero true session pst) .number) b (reported b k ero pst))
     yes z =
         let g = report-passed b store k ero (judgeOf ero true session pst) z in
-        let h = accepted-body ero true session pst (g .route-taken) in
-        rw (kept-new (reportVerdict b store k ero (judgeOf ero true session pst) .number) b (reported b k ero) z)
-        (reported-proper b store k ero (judgeOf ero true session pst) s (record { least = h .0; four = h .1 }) z)
+        rw (kept-new (reportVerdict b store k ero (judgeOf ero true session pst) .number) b (reported b k ero pst) z)
+        (reported-proper b store k ero (judgeOf ero true session pst) pst s (body-fits ero session pst (g .route-taken)) z)
 
-    no : (reportVerdict b store k ero (judgeOf ero true session pst) .number ≡ 0 → ⊥) → Proper (kept (reportVerdict b store k ero (judgeOf ero true session pst) .number) b (reported b k ero))
-    no d = rw (kept-old (reportVerdict b store k ero (judgeOf ero true session pst) .number) b (reported b k ero) d) p
+    no : (reportVerdict b store k ero (judgeOf ero true session pst) .number ≡ 0 → ⊥) → Proper (kept (reportVerdict b store k ero (judgeOf ero true session pst) .number) b (reported b k ero pst))
+    no d = rw (kept-old (reportVerdict b store k ero (judgeOf ero true session pst) .number) b (reported b k ero pst) d) p
 
 -- ---- remove
 pub removed-proper : (b : Table) (store : List ℕ) (k : ℕ) → Sized b → removeVerdict b store k .number ≡ 0 → Proper (removed b k)
@@ -114,12 +146,12 @@ unfolding removed
 removed-proper b store k s z =
     let g = remove-passed b store k z in
     let p = g .whole .proper in
-    changed-proper b (placeOf b k) (bearing b k 0) (b .floor) s p
+    changed-proper b (placeOf b k) (bearing b k 0 0) (b .floor) s p
     (record {
       here = g .place .here;
       low = g .key-least;
       high = g .key-most;
-      size = record { most = omega arith; four = refl; least = λ d. absurd (d refl) };
+      size = record { most = omega arith; four = refl; least = λ d. absurd (d refl); form = λ d. absurd (d refl); bare = λ e. refl };
       newer = omega arith;
       top = omega (arith, p .version-in, g .versions-left);
       floor = p .floor-in;
@@ -153,27 +185,38 @@ module _ (b : Table) (m : ℕ) where
 
   -- a place of the compacted board is empty, or as it was
   data Left (i : ℕ) : Type 0 where
-    gone : keyAt (compacted b m) i ≡ 0 → versionAt (compacted b m) i ≡ 0 → lengthAt (compacted b m) i ≡ 0 → Left i
+    gone : keyAt (compacted b m) i ≡ 0 → versionAt (compacted b m) i ≡ 0 → lengthAt (compacted b m) i ≡ 0 → formAt (compacted b m) i ≡ 0 → Left i
     same : dropped b m i ≡ false → keyAt (compacted b m) i ≡ keyAt b i → versionAt (compacted b m) i ≡ versionAt b i → Left i
 
-  left : (i : ℕ) → i < places → Left i
+  left : Proper b → (i : ℕ) → i < places → Left i
   unfolding compacted
-  left i l = go (dropped b m i) refl
+  left p i l = go (dropped b m i) refl
     where
       go : (x : Bool) → dropped b m i ≡ x → Left i
-      go true e = gone (compacted-key i l ∙ rw e) (compacted-version i l ∙ rw e) (dropped-is i e .0 .bare)
+      go true e = gone (compacted-key i l ∙ rw e) (compacted-version i l ∙ rw e) (dropped-is i e .0 .bare) (p .removal-form i l (dropped-is i e .0))
       go false e = same e (compacted-key i l ∙ rw e) (compacted-version i l ∙ rw e)
 
   pub compacted-proper : Proper b → m ≤ b .version → Proper (compacted b m)
   unfolding compacted
   compacted-proper p h =
-      sound-proper (compacted b m) (omega (arith, p .floor-in)) (p .version-in) (λ i l. at i l (left i l))
-      (λ i j l k u e. keys i j l k u e (left i l) (left j k))
-      (λ i j l k u e. versions i j l k u e (left i l) (left j k))
+      sound-proper (compacted b m) (omega (arith, p .floor-in)) (p .version-in) (λ i l. at i l (left p i l))
+      (λ i j l k u e. keys i j l k u e (left p i l) (left p j k))
+      (λ i j l k u e. versions i j l k u e (left p i l) (left p j k))
     where
       at : (i : ℕ) → i < places → Left i → Sound (entryAt (compacted b m) i) (b .version) (max (b .floor) m)
-      at i l (gone e f g) =
-          record { none = λ y. (f, g); key = omega arith; low = λ y. absurd (y e); high = omega arith; mark = λ y w. absurd (y e); least = λ y. absurd (y g); most = omega arith; four = omega arith }
+      at i l (gone e f g h) =
+          record {
+            none = λ y. (f, g);
+            key = omega arith;
+            low = λ y. absurd (y e);
+            high = omega arith;
+            mark = λ y w. absurd (y e);
+            least = λ y. absurd (y g);
+            most = omega arith;
+            four = omega arith;
+            form = λ y. absurd (y g);
+            bare = λ y. h;
+          }
       at i l (same d e f) =
           let o = proper-sound b p i l in
           rw (e, f)
@@ -186,16 +229,18 @@ module _ (b : Table) (m : ℕ) where
             least = o .least;
             most = o .most;
             four = o .four;
+            form = o .form;
+            bare = o .bare;
           })
 
       keys : (i j : ℕ) → i < places → j < places → Used (compacted b m) i → keyAt (compacted b m) i ≡ keyAt (compacted b m) j → Left i → Left j → i ≡ j
-      keys i j l k u e (gone x y z) q = absurd (u x)
-      keys i j l k u e (same d x y) (gone x′ y′ z′) = absurd (u (e ∙ x′))
+      keys i j l k u e (gone x y z f) q = absurd (u x)
+      keys i j l k u e (same d x y) (gone x′ y′ z′ f′) = absurd (u (e ∙ x′))
       keys i j l k u e (same d x y) (same d′ x′ y′) = p .keys-distinct i j l k (λ z. u (x ∙ z)) (sym x ∙ e ∙ x′)
 
       versions : (i j : ℕ) → i < places → j < places → Used (compacted b m) i → versionAt (compacted b m) i ≡ versionAt (compacted b m) j → Left i → Left j → i ≡ j
-      versions i j l k u e (gone x y z) q = absurd (u x)
-      versions i j l k u e (same d x y) (gone x′ y′ z′) = absurd (omega (arith, p .version-least i l (λ z. u (x ∙ z)), sym y ∙ e ∙ y′))
+      versions i j l k u e (gone x y z f) q = absurd (u x)
+      versions i j l k u e (same d x y) (gone x′ y′ z′ f′) = absurd (omega (arith, p .version-least i l (λ z. u (x ∙ z)), sym y ∙ e ∙ y′))
       versions i j l k u e (same d x y) (same d′ x′ y′) = p .versions-distinct i j l k (λ z. u (x ∙ z)) (sym y ∙ e ∙ y′)
 
 pub compact-proper : (b : Table) (store : List ℕ) (m : ℕ) → Proper b → Proper (compactAnswer b store m .table)
@@ -208,13 +253,13 @@ compact-proper b store m p =
 module _ (b : Table) (store : List ℕ) (k : ℕ) (ero : List ℕ) (session : Session) (pst : ℕ) where
   pub report-raises : reportAnswer b store k ero session pst .verdict .number ≡ 0 → reportAnswer b store k ero session pst .table .version ≡ b .version + 1
   unfolding reportAnswer reportWith reported
-  report-raises z = ap (λ (x : Table). x .version) (kept-new (reportVerdict b store k ero (judgeOf ero true session pst) .number) b (reported b k ero) z)
+  report-raises z = ap (λ (x : Table). x .version) (kept-new (reportVerdict b store k ero (judgeOf ero true session pst) .number) b (reported b k ero pst) z)
 
   pub report-refused-keeps : (reportAnswer b store k ero session pst .verdict .number ≡ 0 → ⊥) → reportAnswer b store k ero session pst .table ≡ b
   unfolding reportAnswer reportWith
-  report-refused-keeps d = kept-old (reportVerdict b store k ero (judgeOf ero true session pst) .number) b (reported b k ero) d
+  report-refused-keeps d = kept-old (reportVerdict b store k ero (judgeOf ero true session pst) .number) b (reported b k ero pst) d
 
-  reported-floor : reportVerdict b store k ero (judgeOf ero true session pst) .number ≡ 0 → b .floor ≤ reported b k ero .floor
+  reported-floor : reportVerdict b store k ero (judgeOf ero true session pst) .number ≡ 0 → b .floor ≤ reported b k ero pst .floor
   unfolding reported
   reported-floor z =
       let g = report-passed b store k ero (judgeOf ero true session pst) z in
@@ -228,8 +273,8 @@ module _ (b : Table) (store : List ℕ) (k : ℕ) (ero : List ℕ) (session : Se
   pub report-floor : b .floor ≤ reportAnswer b store k ero session pst .table .floor
   unfolding reportAnswer reportWith
   report-floor =
-      ⊎-elim (λ z. rw (kept-new (reportVerdict b store k ero (judgeOf ero true session pst) .number) b (reported b k ero) z) (reported-floor z))
-      (λ d. rw (kept-old (reportVerdict b store k ero (judgeOf ero true session pst) .number) b (reported b k ero) d) (omega arith))
+      ⊎-elim (λ z. rw (kept-new (reportVerdict b store k ero (judgeOf ero true session pst) .number) b (reported b k ero pst) z) (reported-floor z))
+      (λ d. rw (kept-old (reportVerdict b store k ero (judgeOf ero true session pst) .number) b (reported b k ero pst) d) (omega arith))
       (taken? (reportVerdict b store k ero (judgeOf ero true session pst)))
 
 module _ (b : Table) (store : List ℕ) (k : ℕ) where

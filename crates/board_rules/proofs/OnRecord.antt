@@ -28,10 +28,10 @@ use Rattle.board_rules.specs.Rules.{Outcome, isBoard, outcomeOf}
 use Rattle.board_rules.specs.Report.{reportAnswer, reportStore}
 use Rattle.board_rules.specs.Remove.{removeAnswer}
 use Rattle.board_rules.specs.Compact.{compactAnswer}
-use Rattle.board_rules.specs.Body.{bodyNumber, bodyOf}
+use Rattle.board_rules.specs.Body.{bodyNumber, bodyOf, bodyForm}
 use Rattle.board_rules.specs.Next.{nextVerdict, nextAnswer, numberIn}
 use Rattle.board_rules.specs.Moved.{movedAnswer}
-use Rattle.board_rules.specs.OnRecord.{isRecord, verdictOn, Result, resultOf, resultOn, reportOn, reportStoreOn, removeOn, compactOn, bodyNumberOn, bodyOn, nextOn, movedOn}
+use Rattle.board_rules.specs.OnRecord.{isRecord, verdictOn, Result, resultOf, resultOn, reportOn, reportStoreOn, removeOn, compactOn, bodyNumberOn, bodyOn, bodyFormOn, nextOn, movedOn}
 use Rattle.board_rules.proofs.Verdicts.{Whole, board-whole, whole-board, kept-old, kept-new}
 use Rattle.board_rules.proofs.Inside.{next-number}
 use Rattle.board_rules.proofs.Exact.{NoBoard, report-17-then, report-17-only, remove-17-then, remove-17-only, body-17-then, body-17-only}

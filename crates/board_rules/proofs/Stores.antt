@@ -55,19 +55,19 @@ module _ (b : Table) (store : List ℕ) (k : ℕ) (ero : List ℕ) (session : Se
   unfolding reportAnswer reportWith reported
   report-sized s =
       ⊎-elim
-      (λ z. rw (kept-new (reportVerdict b store k ero (judgeOf ero true session pst) .number) b (reported b k ero) z)
-      (changed-sized b (targetOf b k) (bearing b k (length (bodyIn ero))) (floorAfter b k (targetOf b k)) s))
-      (λ d. rw (kept-old (reportVerdict b store k ero (judgeOf ero true session pst) .number) b (reported b k ero) d) s)
+      (λ z. rw (kept-new (reportVerdict b store k ero (judgeOf ero true session pst) .number) b (reported b k ero pst) z)
+      (changed-sized b (targetOf b k) (bearing b k (length (bodyIn ero)) pst) (floorAfter b k (targetOf b k)) s))
+      (λ d. rw (kept-old (reportVerdict b store k ero (judgeOf ero true session pst) .number) b (reported b k ero pst) d) s)
       (same? (reportVerdict b store k ero (judgeOf ero true session pst) .number) 0)
 
 pub remove-sized : (b : Table) (store : List ℕ) (k : ℕ) → Sized b → Sized (removeAnswer b store k .table)
 unfolding removeAnswer removed
 remove-sized b store k s =
-    ⊎-elim (λ z. rw (kept-new (removeVerdict b store k .number) b (removed b k) z) (changed-sized b (placeOf b k) (bearing b k 0) (b .floor) s))
+    ⊎-elim (λ z. rw (kept-new (removeVerdict b store k .number) b (removed b k) z) (changed-sized b (placeOf b k) (bearing b k 0 0) (b .floor) s))
     (λ d. rw (kept-old (removeVerdict b store k .number) b (removed b k) d) s) (same? (removeVerdict b store k .number) 0)
 
 pub compact-sized : (b : Table) (store : List ℕ) (m : ℕ) → Sized b → Sized (compactAnswer b store m .table)
 unfolding compactAnswer compacted
 compact-sized b store m s =
-    ⊎-elim (λ z. rw (kept-new (compactVerdict b store m .number) b (compacted b m) z) (record { keys = length-row _ 128; versions = length-row _ 128; lengths = s .lengths }))
+    ⊎-elim (λ z. rw (kept-new (compactVerdict b store m .number) b (compacted b m) z) (record { keys = length-row _ 128; versions = length-row _ 128; lengths = s .lengths; forms = s .forms }))
     (λ d. rw (kept-old (compactVerdict b store m .number) b (compacted b m) d) s) (same? (compactVerdict b store m .number) 0)

@@ -11,7 +11,7 @@ use borrow.Author.Tests.{eq-eqb, ne-eqb, lt-ltb, le-ltb, le-leb}
 use Rattle.answers.specs.declared.verdict.Verdict.{Verdict}
 use Rattle.answers.specs.Verdicts.{acceptedWith}
 use Rattle.board_record.specs.Sizes.{places, keyLeast, keyMost}
-use Rattle.board_record.specs.Table.{Table, lengthAt, PathAt, bearing, changed}
+use Rattle.board_record.specs.Table.{Table, lengthAt, formAt, PathAt, bearing, changed}
 use Rattle.board_record.specs.Search.{KeyPlace, placeOf, ReportPlace, keeps, takes, drops, targetOf, floorAfter, Wanted, NextChange, nextOf}
 use Rattle.board_record.specs.Proper.{Proper}
 use Rattle.board_record.proofs.Logic.{from?}
@@ -21,7 +21,7 @@ use Rattle.board_rules.specs.declared.answer.Handed.the-variants.{Level}
 use Rattle.board_rules.specs.Rules.{isBoard, inRange, hasPath}
 use Rattle.board_rules.specs.Report.{bodyIn, reported}
 use Rattle.board_rules.specs.Remove.{removed}
-use Rattle.board_rules.specs.Body.{bodyRules, bodyNumber, octetsAt, bodyOf}
+use Rattle.board_rules.specs.Body.{bodyRules, bodyNumber, octetsAt, bodyOf, bodyForm}
 use Rattle.board_rules.specs.Next.{nextVerdict, changeAt, handedAt, nextAnswer}
 use Rattle.board_rules.proofs.Verdicts.{Whole, whole-board, kept-new}
 
@@ -35,12 +35,17 @@ pub report-goes : (b : Table) → Proper b → (k i : ℕ) → (k ≡ 0 → ⊥)
 report-goes b p k i z r =
     ⊎-elim (λ l. absurd (no-place-full b k i (full-is b k l) r)) (λ l. report-place-one b p k (targetOf b k) i z (report-place-is b k l) r) (from? 128 (targetOf b k))
 
-pub report-stores : (b : Table) → Proper b → (k i : ℕ) (ero : List ℕ) → (k ≡ 0 → ⊥) → ReportPlace b k i → reported b k ero ≡ changed b i (bearing b k (length (bodyIn ero))) (floorAfter b k i)
+pub report-stores : (b : Table)
+    → Proper b
+    → (k i : ℕ) (ero : List ℕ) (pst : ℕ)
+    → (k ≡ 0 → ⊥)
+    → ReportPlace b k i
+    → reported b k ero pst ≡ changed b i (bearing b k (length (bodyIn ero)) pst) (floorAfter b k i)
 unfolding reported
-report-stores b p k i ero z r = rw (report-goes b p k i z r)
+report-stores b p k i ero pst z r = rw (report-goes b p k i z r)
 
 -- ---- remove: "The removal stays as a mark", at the key's place
-pub remove-marks : (b : Table) → Proper b → (k i : ℕ) → (k ≡ 0 → ⊥) → KeyPlace b k i → removed b k ≡ changed b i (bearing b k 0) (b .floor)
+pub remove-marks : (b : Table) → Proper b → (k i : ℕ) → (k ≡ 0 → ⊥) → KeyPlace b k i → removed b k ≡ changed b i (bearing b k 0 0) (b .floor)
 unfolding removed
 remove-marks b p k i z x = rw (key-place-found b p k i z x)
 
@@ -64,6 +69,10 @@ module _ (b : Table) (store : List ℕ) (k i : ℕ) (w : Whole b (length store))
   pub body-handed : bodyOf b store k ≡ octetsAt b store i
   unfolding bodyOf
   body-handed = rw (body-accepted, found)
+
+  pub form-handed : bodyForm b store k ≡ formAt b i
+  unfolding bodyForm
+  form-handed = rw (body-accepted, found)
 
 -- ---- next: "the change of smallest version above w that is a path, or is a removal above s; or level with the board's version"
 module _ (b : Table) (store : List ℕ) (s w : ℕ) (z : nextVerdict b store s w .number ≡ 0) where

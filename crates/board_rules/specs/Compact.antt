@@ -27,11 +27,12 @@ compactVerdict b store c = compactRules (isBoard b (length store)) c (b .version
 unfoldable pub dropped : Table → ℕ → ℕ → Bool
 dropped b c i = removalB b i && leb (versionAt b i) c
 
--- the table after an accepted compaction: a place whose mark is dropped is empty, every other one is as it was
+-- the table after an accepted compaction: a place whose mark is dropped is empty, every other one is as it was; a mark has neither length
+-- nor form
 unfoldable pub compacted : Table → ℕ → Table
 compacted b c =
     tableOf (row (λ i. cond (dropped b c i) 0 (keyAt b i)) places) (row (λ i. cond (dropped b c i) 0 (versionAt b i)) places) (b .lengths)
-    (b .version) (max (b .floor) c)
+    (b .version) (max (b .floor) c) (b .forms)
 
 unfoldable pub compactAnswer : Table → List ℕ → ℕ → Outcome
 compactAnswer b store c = record { verdict = compactVerdict b store c; table = kept (compactVerdict b store c .number) b (compacted b c) }

@@ -1,6 +1,6 @@
 -- Next (document 01, "The board": "Next (mark s, w): 17; 24 if s or w is above the version; 23 exactly if the floor is above the larger of s and w.
 -- Otherwise the change of smallest version above w that is a path, or is a removal above s; or "level" with the board's version. It comes with its
--- key and version; a path's octets are named by place and length.").
+-- key and version; a path's octets are named by place and length."), and the path's form comes with them (document 02, C-16).
 --
 -- A history: report A (1), report B (2), remove A (3). Mark (1, 1) is handed B at 2, then, as (1, 2), A removed at 3, then, as (1, 3), level with 3.
 -- After compact 3 the floor is 3: a mark (2, 2) is below it, 23; a mark (3, 3) at the floor is not, and is level; the fresh mark (3, 0) is handed B
@@ -14,7 +14,7 @@ use Rattle.answers.specs.declared.verdict.Verdict.{Verdict}
 use Rattle.answers.specs.Numbers.{notABoard, markTooOld, markAhead}
 use Rattle.answers.specs.Verdicts.{refusedBy, acceptedWith}
 use Rattle.board_record.specs.Sizes.{places}
-use Rattle.board_record.specs.Table.{Table, keyAt, versionAt, lengthAt}
+use Rattle.board_record.specs.Table.{Table, keyAt, versionAt, lengthAt, formAt}
 use Rattle.board_record.specs.Search.{nextOf}
 use Rattle.board_rules.specs.declared.answer.Change.{Change}
 use Rattle.board_rules.specs.declared.answer.Octets.{Octets}
@@ -35,11 +35,11 @@ nextRules whole s w top floor =
 unfoldable pub nextVerdict : Table → List ℕ → ℕ → ℕ → Verdict
 nextVerdict b store s w = nextRules (isBoard b (length store)) s w (b .version) (b .floor)
 
--- the change at place i: key and version, and a path's octets by place and length
+-- the change at place i: key and version, and a path's octets by place and length, with its form
 unfoldable pub changeAt : Table → ℕ → Handed
 changeAt b i =
     cond (eqb (lengthAt b i) 0) (Removed (record { key = keyAt b i; version = versionAt b i }))
-    (Path (record { key = keyAt b i; version = versionAt b i }) (record { place = i; length = lengthAt b i }))
+    (Path (record { key = keyAt b i; version = versionAt b i }) (record { place = i; length = lengthAt b i; form = formAt b i }))
 
 -- the change at the place found, or level where there is none
 unfoldable pub handedAt : Table → ℕ → Handed

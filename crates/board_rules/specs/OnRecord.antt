@@ -17,7 +17,7 @@ use Rattle.board_rules.specs.Rules.{Outcome, isBoard}
 use Rattle.board_rules.specs.Report.{reportAnswer, reportStore}
 use Rattle.board_rules.specs.Remove.{removeAnswer}
 use Rattle.board_rules.specs.Compact.{compactAnswer}
-use Rattle.board_rules.specs.Body.{bodyNumber, bodyOf}
+use Rattle.board_rules.specs.Body.{bodyNumber, bodyOf, bodyForm}
 use Rattle.board_rules.specs.Next.{nextAnswer}
 use Rattle.board_rules.specs.Moved.{movedAnswer}
 
@@ -58,6 +58,9 @@ bodyNumberOn b store k = verdictOn b (bodyNumber (tableIn b) store k)
 
 unfoldable pub bodyOn : Board → List ℕ → ℕ → List ℕ
 bodyOn b store k = cond (tidy b) (bodyOf (tableIn b) store k) []
+
+unfoldable pub bodyFormOn : Board → List ℕ → ℕ → ℕ
+bodyFormOn b store k = cond (tidy b) (bodyForm (tableIn b) store k) 0
 
 unfoldable pub nextOn : Board → List ℕ → ℕ → ℕ → Handed
 nextOn b store s w = cond (tidy b) (nextAnswer (tableIn b) store s w) (Refused (refusedBy notABoard 0))

@@ -24,9 +24,9 @@ removeRules whole k path top =
 unfoldable pub removeVerdict : Table → List ℕ → ℕ → Verdict
 removeVerdict b store k = removeRules (isBoard b (length store)) k (hasPath b k) (b .version)
 
--- the table after an accepted removal: the key keeps its place, with no body and the version that the removal bears
+-- the table after an accepted removal: the key keeps its place, with no body, no form and the version that the removal bears
 unfoldable pub removed : Table → ℕ → Table
-removed b k = changed b (placeOf b k) (bearing b k 0) (b .floor)
+removed b k = changed b (placeOf b k) (bearing b k 0 0) (b .floor)
 
 unfoldable pub removeAnswer : Table → List ℕ → ℕ → Outcome
 removeAnswer b store k = record { verdict = removeVerdict b store k; table = kept (removeVerdict b store k .number) b (removed b k) }

@@ -35,14 +35,15 @@ reportRules whole k route n top target =
 unfoldable pub reportVerdict : Table → List ℕ → ℕ → List ℕ → Verdict → Verdict
 reportVerdict b store k ero route = reportRules (isBoard b (length store)) k route (length (bodyIn ero)) (b .version) (targetOf b k)
 
--- the table after an accepted report: "each accepted report .. raises the version by 1 and the change bears that"
-unfoldable pub reported : Table → ℕ → List ℕ → Table
-reported b k ero = changed b (targetOf b k) (bearing b k (length (bodyIn ero))) (floorAfter b k (targetOf b k))
+-- the table after an accepted report: "each accepted report .. raises the version by 1 and the change bears that"; the path's form is the PST (document 02,
+-- C-16)
+unfoldable pub reported : Table → ℕ → List ℕ → ℕ → Table
+reported b k ero pst = changed b (targetOf b k) (bearing b k (length (bodyIn ero)) pst) (floorAfter b k (targetOf b k))
 
 -- the answer to a report whose route checks answer `route`; "Every refusal returns its number and place and no other content; board .. as they were"
-unfoldable pub reportWith : Table → List ℕ → ℕ → List ℕ → Verdict → Outcome
-reportWith b store k ero route =
-    record { verdict = reportVerdict b store k ero route; table = kept (reportVerdict b store k ero route .number) b (reported b k ero) }
+unfoldable pub reportWith : Table → List ℕ → ℕ → List ℕ → Verdict → ℕ → Outcome
+reportWith b store k ero route pst =
+    record { verdict = reportVerdict b store k ero route; table = kept (reportVerdict b store k ero route .number) b (reported b k ero pst) }
 
 -- the store after it: "the body is written at the place's start, and no call here writes other octets of the store"
 unfoldable pub storeWith : Table → List ℕ → ℕ → List ℕ → Verdict → List ℕ
@@ -51,7 +52,7 @@ storeWith b store k ero route =
 
 -- "Report (key, ERO, session, PST)": the route checks are those of an ERO under the session and the PST
 unfoldable pub reportAnswer : Table → List ℕ → ℕ → List ℕ → Session → ℕ → Outcome
-reportAnswer b store k ero session pst = reportWith b store k ero (judgeOf ero true session pst)
+reportAnswer b store k ero session pst = reportWith b store k ero (judgeOf ero true session pst) pst
 
 unfoldable pub reportStore : Table → List ℕ → ℕ → List ℕ → Session → ℕ → List ℕ
 reportStore b store k ero session pst = storeWith b store k ero (judgeOf ero true session pst)

@@ -22,6 +22,10 @@ inRange k = leb keyLeast k && leb k keyMost
 unfoldable pub lengthIn : List ℕ → ℕ → ℕ
 lengthIn lengths at = cond (ltb at places) (getD lengths at 0) 0
 
+-- the form at a place; 0 for no place
+unfoldable pub formIn : List ℕ → ℕ → ℕ
+formIn forms at = cond (ltb at places) (getD forms at 0) 0
+
 -- 22 "key has no path": that it has one
 unfoldable pub hasPath : Table → ℕ → Bool
 hasPath b k = ltb (placeOf b k) places && not (eqb (lengthAt b (placeOf b k)) 0)

@@ -7,10 +7,12 @@ pub struct Change {
     pub version: u64,
 }
 
-// A path's octets are named by place and length: place i, from 0, starts at octet 384 times i of the store.
+// A path's octets are named by place and length: place i, from 0, starts at octet 384 times i of the store. The form is the
+// setup type that they were reported under (objects::SRV6_SETUP or MPLS_SETUP).
 pub struct Octets {
     pub place: usize,
     pub length: usize,
+    pub form: usize,
 }
 
 // Next hands out a path, or a removal, or says that the follower is level with the board's version.

@@ -14,6 +14,7 @@ pub use rule::moved_rules;
 pub use rule::next_rules;
 pub use rule::remove_rules;
 pub use rule::report_rules;
+pub use whole::form_at;
 pub use whole::is_board;
 pub use whole::length_at;
 pub use whole::start_of;

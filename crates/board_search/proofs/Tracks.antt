@@ -66,9 +66,9 @@ tracks-done : (t u : ℕ → Bool) (v : ℕ → ℕ) (i : ℕ) (b : Best) → Tr
 tracks-done t u v i b r h l f = let q : i ≡ 128 = omega arith in rw q at (r .at) ∙ least-same t u v 128 f
 
 -- ---- what the tests say on a board
-module _ (ks vs ls : List ℕ) (top floor : ℕ) (p : properB (tableOf ks vs ls top floor) ≡ true) where
+module _ (ks vs ls : List ℕ) (top floor : ℕ) (fs : List ℕ) (p : properB (tableOf ks vs ls top floor fs) ≡ true) where
   abbrev table : Table
-  table = tableOf ks vs ls top floor
+  table = tableOf ks vs ls top floor fs
 
   pub below : (i : ℕ) → i < places → getD vs i 0 < 18446744073709551615
   below i l = omega (arith, properB-sound table p i l .high, proper-is table p .version-in)

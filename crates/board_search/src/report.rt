@@ -21,9 +21,10 @@ fn oldest<'a>(
     lengths: &'a [u16; 128],
     top: u64,
     floor: u64,
+    forms: &'a [u8; 128],
 ) -> usize
-    requires { ⌜ properB (tableOf (now keys) (now versions) (now lengths) top floor) ≡ true ⌝ }
-    ensures oldest { λ r. ⌜ r ≡ oldestOf (tableOf (now (keys .entry)) (now (versions .entry)) (now (lengths .entry)) top floor) ⌝ }
+    requires { ⌜ properB (tableOf (now keys) (now versions) (now lengths) top floor (now forms)) ≡ true ⌝ }
+    ensures oldest { λ r. ⌜ r ≡ oldestOf (tableOf (now (keys .entry)) (now (versions .entry)) (now (lengths .entry)) top floor (now (forms .entry))) ⌝ }
 {
     let mut best = no_best();
     let mut i: usize = 0;
@@ -41,10 +42,11 @@ pub fn target<'a>(
     lengths: &'a [u16; 128],
     top: u64,
     floor: u64,
+    forms: &'a [u8; 128],
     key: u64,
 ) -> usize
-    requires { ⌜ properB (tableOf (now keys) (now versions) (now lengths) top floor) ≡ true ⌝ }
-    ensures target { λ r. ⌜ r ≡ targetOf (tableOf (now (keys .entry)) (now (versions .entry)) (now (lengths .entry)) top floor) key ⌝ }
+    requires { ⌜ properB (tableOf (now keys) (now versions) (now lengths) top floor (now forms)) ≡ true ⌝ }
+    ensures target { λ r. ⌜ r ≡ targetOf (tableOf (now (keys .entry)) (now (versions .entry)) (now (lengths .entry)) top floor (now (forms .entry))) key ⌝ }
 {
     let known = place_of(keys, key);
     if known < PLACES {
@@ -54,7 +56,7 @@ pub fn target<'a>(
     if free < PLACES {
         return free;
     }
-    oldest(keys, versions, lengths, top, floor)
+    oldest(keys, versions, lengths, top, floor, forms)
 }
 
 // The floor after a report of the key at the place.
@@ -66,7 +68,7 @@ pub fn floor_after<'a>(
     at: usize,
 ) -> u64
     requires { ⌜ at < places ⌝ }
-    ensures floor { λ r. ⌜ ((lengths : List ℕ) (top : ℕ) → r ≡ floorAfter (tableOf (now (keys .entry)) (now (versions .entry)) lengths top floor) key at) ⌝ }
+    ensures floor { λ r. ⌜ ((lengths forms : List ℕ) (top : ℕ) → r ≡ floorAfter (tableOf (now (keys .entry)) (now (versions .entry)) lengths top floor forms) key at) ⌝ }
 {
     let old = wide32(keys[at]);
     if old == 0 {

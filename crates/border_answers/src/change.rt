@@ -3,7 +3,7 @@ ghost use mathlib.Core.Path.{_≡_};
 ghost use Rattle.border_answers.specs.Handing.{changeOut};
 use board_rules::Handed;
 
-// Its kind, then what comes with it.
+// Its kind, then what comes with it; the form is a path's.
 #[repr(C)]
 pub struct ChangeRecord {
     pub number: usize,
@@ -12,6 +12,7 @@ pub struct ChangeRecord {
     pub version: u64,
     pub place: usize,
     pub length: usize,
+    pub form: usize,
 }
 
 // kinds of what next hands out
@@ -34,6 +35,7 @@ pub fn change_out(h: Handed) -> ChangeRecord
             version: 0,
             place: 0,
             length: 0,
+            form: 0,
         },
         Handed::Path(c, o) => ChangeRecord {
             number: 0,
@@ -42,6 +44,7 @@ pub fn change_out(h: Handed) -> ChangeRecord
             version: c.version,
             place: o.place,
             length: o.length,
+            form: o.form,
         },
         Handed::Removed(c) => ChangeRecord {
             number: 0,
@@ -50,6 +53,7 @@ pub fn change_out(h: Handed) -> ChangeRecord
             version: c.version,
             place: 0,
             length: 0,
+            form: 0,
         },
         Handed::Level(version) => ChangeRecord {
             number: 0,
@@ -58,6 +62,7 @@ pub fn change_out(h: Handed) -> ChangeRecord
             version: version,
             place: 0,
             length: 0,
+            form: 0,
         },
     }
 }

@@ -5,10 +5,11 @@ use border_records::VerdictRecord;
 use writer::Writer;
 use writer::Written;
 
-// Of which kind the route is, and the present place.
+// Of which kind and form the route is, and the present place.
 #[repr(C)]
 pub struct WriterRecord {
     pub ero: u8,
+    pub form: u8,
     pub at: usize,
 }
 
@@ -24,6 +25,7 @@ pub fn writer_in(w: WriterRecord) -> Writer
     Writer {
         ero: border_records::yes(w.ero),
         at: w.at,
+        form: w.form,
     }
 }
 
@@ -36,6 +38,7 @@ pub fn written_out(w: Written) -> WrittenRecord
         verdict: border_records::verdict_out(verdict),
         writer: WriterRecord {
             ero: border_records::flag_of(state.ero),
+            form: state.form,
             at: state.at,
         },
     }

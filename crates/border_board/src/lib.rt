@@ -5,7 +5,7 @@ ghost use Rattle.board_record.specs.Table.{tableOf};
 ghost use Rattle.board_record.specs.Record.{withRows, emptyBoard};
 ghost use Rattle.board_rules.specs.OnRecord.{removeOn, compactOn};
 ghost use Rattle.report_call.specs.Reported.{reportForOn, reportStoreForOn};
-ghost use Rattle.border_records.specs.Records.{sessionIn, verdictOut};
+ghost use Rattle.border_records.specs.Records.{sessionsIn, verdictOut};
 use border_records::SessionRecord;
 use border_records::VerdictRecord;
 
@@ -18,9 +18,10 @@ pub fn empty(
     floor: &mut u64,
     order: &mut [u8; 128],
     tops: &mut [u64; 16],
+    forms: &mut [u8; 128],
 )
     ensures empty { λ _.
-        let after = tableOf (now (keys .exit)) (now (versions .exit)) (now (lengths .exit)) (now (version .exit)) (now (floor .exit)) in
+        let after = tableOf (now (keys .exit)) (now (versions .exit)) (now (lengths .exit)) (now (version .exit)) (now (floor .exit)) (now (forms .exit)) in
         ⌜ withRows after (now (order .exit)) (now (tops .exit)) ≡ emptyBoard ⌝ }
 {
     *keys = [0; 128];
@@ -30,6 +31,7 @@ pub fn empty(
     *floor = 0;
     *order = [0; 128];
     *tops = [0; 16];
+    *forms = [0; 128];
 }
 
 // Reports a path.
@@ -41,6 +43,7 @@ pub fn report(
     floor: &mut u64,
     order: &mut [u8; 128],
     tops: &mut [u64; 16],
+    forms: &mut [u8; 128],
     store: &mut [u8],
     key: u64,
     ero: &[u8],
@@ -49,17 +52,17 @@ pub fn report(
     addresses: &[u8],
 ) -> VerdictRecord
     ensures verdict { λ r.
-        let before = withRows (tableOf (now (keys .entry)) (now (versions .entry)) (now (lengths .entry)) (now (version .entry)) (now (floor .entry))) (now (order .entry)) (now (tops .entry)) in
-        ⌜ r ≡ verdictOut (reportForOn before (now (store .entry)) key (now (ero .entry)) (sessionIn session) pst (now (addresses .entry)) .verdict) ⌝ }
+        let before = withRows (tableOf (now (keys .entry)) (now (versions .entry)) (now (lengths .entry)) (now (version .entry)) (now (floor .entry)) (now (forms .entry))) (now (order .entry)) (now (tops .entry)) in
+        ⌜ r ≡ verdictOut (reportForOn before (now (store .entry)) key (now (ero .entry)) (sessionsIn session) pst (now (addresses .entry)) .verdict) ⌝ }
     ensures board { λ _.
-        let before = withRows (tableOf (now (keys .entry)) (now (versions .entry)) (now (lengths .entry)) (now (version .entry)) (now (floor .entry))) (now (order .entry)) (now (tops .entry)) in
-        let after = withRows (tableOf (now (keys .exit)) (now (versions .exit)) (now (lengths .exit)) (now (version .exit)) (now (floor .exit))) (now (order .exit)) (now (tops .exit)) in
-        ⌜ after ≡ reportForOn before (now (store .entry)) key (now (ero .entry)) (sessionIn session) pst (now (addresses .entry)) .board ⌝ }
+        let before = withRows (tableOf (now (keys .entry)) (now (versions .entry)) (now (lengths .entry)) (now (version .entry)) (now (floor .entry)) (now (forms .entry))) (now (order .entry)) (now (tops .entry)) in
+        let after = withRows (tableOf (now (keys .exit)) (now (versions .exit)) (now (lengths .exit)) (now (version .exit)) (now (floor .exit)) (now (forms .exit))) (now (order .exit)) (now (tops .exit)) in
+        ⌜ after ≡ reportForOn before (now (store .entry)) key (now (ero .entry)) (sessionsIn session) pst (now (addresses .entry)) .board ⌝ }
     ensures octets { λ _.
-        let before = withRows (tableOf (now (keys .entry)) (now (versions .entry)) (now (lengths .entry)) (now (version .entry)) (now (floor .entry))) (now (order .entry)) (now (tops .entry)) in
-        ⌜ now (store .exit) ≡ reportStoreForOn before (now (store .entry)) key (now (ero .entry)) (sessionIn session) pst (now (addresses .entry)) ⌝ }
+        let before = withRows (tableOf (now (keys .entry)) (now (versions .entry)) (now (lengths .entry)) (now (version .entry)) (now (floor .entry)) (now (forms .entry))) (now (order .entry)) (now (tops .entry)) in
+        ⌜ now (store .exit) ≡ reportStoreForOn before (now (store .entry)) key (now (ero .entry)) (sessionsIn session) pst (now (addresses .entry)) ⌝ }
 {
-    let agreed = border_records::session_in(session);
+    let both = border_records::sessions_in(session);
     let v = report_call::report(
         keys,
         versions,
@@ -68,10 +71,11 @@ pub fn report(
         floor,
         order,
         tops,
+        forms,
         store,
         key,
         ero,
-        agreed,
+        both,
         pst,
         addresses,
     );
@@ -87,15 +91,16 @@ pub fn remove(
     floor: u64,
     order: &mut [u8; 128],
     tops: &mut [u64; 16],
+    forms: &mut [u8; 128],
     store: &[u8],
     key: u64,
 ) -> VerdictRecord
     ensures verdict { λ r.
-        let before = withRows (tableOf (now (keys .entry)) (now (versions .entry)) (now (lengths .entry)) (now (version .entry)) floor) (now (order .entry)) (now (tops .entry)) in
+        let before = withRows (tableOf (now (keys .entry)) (now (versions .entry)) (now (lengths .entry)) (now (version .entry)) floor (now (forms .entry))) (now (order .entry)) (now (tops .entry)) in
         ⌜ r ≡ verdictOut (removeOn before (now (store .entry)) key .verdict) ⌝ }
     ensures board { λ _.
-        let before = withRows (tableOf (now (keys .entry)) (now (versions .entry)) (now (lengths .entry)) (now (version .entry)) floor) (now (order .entry)) (now (tops .entry)) in
-        let after = withRows (tableOf (now (keys .entry)) (now (versions .exit)) (now (lengths .exit)) (now (version .exit)) floor) (now (order .exit)) (now (tops .exit)) in
+        let before = withRows (tableOf (now (keys .entry)) (now (versions .entry)) (now (lengths .entry)) (now (version .entry)) floor (now (forms .entry))) (now (order .entry)) (now (tops .entry)) in
+        let after = withRows (tableOf (now (keys .entry)) (now (versions .exit)) (now (lengths .exit)) (now (version .exit)) floor (now (forms .exit))) (now (order .exit)) (now (tops .exit)) in
         ⌜ after ≡ removeOn before (now (store .entry)) key .board ⌝ }
 {
     let v = board_remove::remove(
@@ -106,6 +111,7 @@ pub fn remove(
         floor,
         order,
         tops,
+        forms,
         store,
         key,
     );
@@ -113,23 +119,24 @@ pub fn remove(
 }
 
 // Drops the marks with version at most c.
-pub fn compact(
+pub fn compact<'a>(
     keys: &mut [u32; 128],
     versions: &mut [u64; 128],
-    lengths: &[u16; 128],
+    lengths: &'a [u16; 128],
     version: u64,
     floor: &mut u64,
     order: &mut [u8; 128],
     tops: &mut [u64; 16],
+    forms: &'a [u8; 128],
     store: &[u8],
     c: u64,
 ) -> VerdictRecord
     ensures verdict { λ r.
-        let before = withRows (tableOf (now (keys .entry)) (now (versions .entry)) (now (lengths .entry)) version (now (floor .entry))) (now (order .entry)) (now (tops .entry)) in
+        let before = withRows (tableOf (now (keys .entry)) (now (versions .entry)) (now (lengths .entry)) version (now (floor .entry)) (now (forms .entry))) (now (order .entry)) (now (tops .entry)) in
         ⌜ r ≡ verdictOut (compactOn before (now (store .entry)) c .verdict) ⌝ }
     ensures board { λ _.
-        let before = withRows (tableOf (now (keys .entry)) (now (versions .entry)) (now (lengths .entry)) version (now (floor .entry))) (now (order .entry)) (now (tops .entry)) in
-        let after = withRows (tableOf (now (keys .exit)) (now (versions .exit)) (now (lengths .entry)) version (now (floor .exit))) (now (order .exit)) (now (tops .exit)) in
+        let before = withRows (tableOf (now (keys .entry)) (now (versions .entry)) (now (lengths .entry)) version (now (floor .entry)) (now (forms .entry))) (now (order .entry)) (now (tops .entry)) in
+        let after = withRows (tableOf (now (keys .exit)) (now (versions .exit)) (now (lengths .entry)) version (now (floor .exit)) (now (forms .entry))) (now (order .exit)) (now (tops .exit)) in
         ⌜ after ≡ compactOn before (now (store .entry)) c .board ⌝ }
 {
     let v = board_remove::compact(
@@ -140,6 +147,7 @@ pub fn compact(
         floor,
         order,
         tops,
+        forms,
         store,
         c,
     );

@@ -4,7 +4,7 @@ ghost use mathlib.Core.Path.{_≡_};
 ghost use Rattle.board_record.specs.Table.{tableOf};
 ghost use Rattle.octets.specs.Octets.{part};
 ghost use Rattle.board_record.specs.Record.{withRows};
-ghost use Rattle.board_rules.specs.OnRecord.{bodyOn, nextOn, movedOn};
+ghost use Rattle.board_rules.specs.OnRecord.{bodyOn, bodyFormOn, nextOn, movedOn};
 ghost use Rattle.border_answers.specs.Handing.{changeOut};
 ghost use Rattle.border_records.specs.Records.{verdictOut};
 ghost use Rattle.border_looks.specs.Looks.{partOut, freshOut};
@@ -12,12 +12,13 @@ use border_answers::ChangeRecord;
 use border_answers::change_out;
 use border_records::VerdictRecord;
 
-// Where a path's octets lie in the store; a refusal has none.
+// Where a path's octets lie in the store, and the path's form; a refusal has none.
 #[repr(C)]
 pub struct PartRecord {
     pub number: usize,
     pub start: usize,
     pub length: usize,
+    pub form: usize,
 }
 
 // A follower's mark.
@@ -27,7 +28,7 @@ pub struct MarkRecord {
     pub w: u64,
 }
 
-// Where the octets of a key's path lie.
+// Where the octets of a key's path lie, and its form.
 pub fn body<'a>(
     keys: &'a [u32; 128],
     versions: &'a [u64; 128],
@@ -36,15 +37,19 @@ pub fn body<'a>(
     floor: u64,
     order: &'a [u8; 128],
     tops: &'a [u64; 16],
+    forms: &'a [u8; 128],
     store: &[u8],
     key: u64,
 ) -> PartRecord
     ensures part { λ r.
-        let b = withRows (tableOf (now (keys .entry)) (now (versions .entry)) (now (lengths .entry)) version floor) (now (order .entry)) (now (tops .entry)) in
+        let b = withRows (tableOf (now (keys .entry)) (now (versions .entry)) (now (lengths .entry)) version floor (now (forms .entry))) (now (order .entry)) (now (tops .entry)) in
         ⌜ r ≡ partOut b (now (store .entry)) key ⌝ }
     ensures octets { λ r.
-        let b = withRows (tableOf (now (keys .entry)) (now (versions .entry)) (now (lengths .entry)) version floor) (now (order .entry)) (now (tops .entry)) in
+        let b = withRows (tableOf (now (keys .entry)) (now (versions .entry)) (now (lengths .entry)) version floor (now (forms .entry))) (now (order .entry)) (now (tops .entry)) in
         ⌜ part (now (store .entry)) (r .start) (r .length) ≡ bodyOn b (now (store .entry)) key ⌝ }
+    ensures form { λ r.
+        let b = withRows (tableOf (now (keys .entry)) (now (versions .entry)) (now (lengths .entry)) version floor (now (forms .entry))) (now (order .entry)) (now (tops .entry)) in
+        ⌜ r .form ≡ bodyFormOn b (now (store .entry)) key ⌝ }
 {
     let verdict = board_look::body_number(
         keys,
@@ -54,6 +59,7 @@ pub fn body<'a>(
         floor,
         order,
         tops,
+        forms,
         store,
         key,
     );
@@ -62,6 +68,7 @@ pub fn body<'a>(
             number: verdict.number,
             start: 0,
             length: 0,
+            form: 0,
         };
     }
     let at = board_search::place_of(keys, key);
@@ -69,6 +76,7 @@ pub fn body<'a>(
         number: 0,
         start: board_record::ROOM * at,
         length: board_rules::length_at(lengths, at),
+        form: board_rules::form_at(forms, at),
     }
 }
 
@@ -81,12 +89,13 @@ pub fn next<'a>(
     floor: u64,
     order: &'a [u8; 128],
     tops: &'a [u64; 16],
+    forms: &'a [u8; 128],
     store: &[u8],
     s: u64,
     w: u64,
 ) -> ChangeRecord
     ensures next { λ r.
-        let b = withRows (tableOf (now (keys .entry)) (now (versions .entry)) (now (lengths .entry)) version floor) (now (order .entry)) (now (tops .entry)) in
+        let b = withRows (tableOf (now (keys .entry)) (now (versions .entry)) (now (lengths .entry)) version floor (now (forms .entry))) (now (order .entry)) (now (tops .entry)) in
         ⌜ r ≡ changeOut (nextOn b (now (store .entry)) s w) ⌝ }
 {
     let handed = board_look::next(
@@ -97,6 +106,7 @@ pub fn next<'a>(
         floor,
         order,
         tops,
+        forms,
         store,
         s,
         w,
@@ -113,13 +123,14 @@ pub fn moved<'a>(
     floor: u64,
     order: &'a [u8; 128],
     tops: &'a [u64; 16],
+    forms: &'a [u8; 128],
     store: &[u8],
     from: u64,
     to: u64,
     v: u64,
 ) -> VerdictRecord
     ensures moved { λ r.
-        let b = withRows (tableOf (now (keys .entry)) (now (versions .entry)) (now (lengths .entry)) version floor) (now (order .entry)) (now (tops .entry)) in
+        let b = withRows (tableOf (now (keys .entry)) (now (versions .entry)) (now (lengths .entry)) version floor (now (forms .entry))) (now (order .entry)) (now (tops .entry)) in
         ⌜ r ≡ verdictOut (movedOn b (now (store .entry)) from to v) ⌝ }
 {
     let told = board_look::moved(
@@ -130,6 +141,7 @@ pub fn moved<'a>(
         floor,
         order,
         tops,
+        forms,
         store,
         from,
         to,

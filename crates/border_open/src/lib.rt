@@ -1,8 +1,8 @@
-// Reading an OPEN object, and the session of two answers, over the records of the border (include/strundevi.h).
+// Reading an OPEN object, and the sessions of two answers, over the records of the border (include/strundevi.h).
 ghost use mathlib.Core.Path.{_≡_};
-ghost use Rattle.session.specs.Sessions.{sessionOf};
+ghost use Rattle.session.specs.Sessions.{sessionsOf};
 ghost use Rattle.open.specs.Open.{openOf};
-ghost use Rattle.border_records.specs.Records.{openedIn, openedOut, sessionOut, setupIn};
+ghost use Rattle.border_records.specs.Records.{openedIn, openedOut, sessionsOut, setupIn};
 use border_records::OpenedRecord;
 use border_records::SessionRecord;
 use border_records::SetupRecord;
@@ -15,11 +15,11 @@ pub fn read_open(setup: SetupRecord, octets: &[u8]) -> OpenedRecord
     border_records::opened_out(open::read_open(at, octets))
 }
 
-// The session of the PCC's and the PCE's answers.
+// The sessions of the PCC's and the PCE's answers.
 pub fn agree(pcc: OpenedRecord, pce: OpenedRecord) -> SessionRecord
-    ensures session { λ r. ⌜ r ≡ sessionOut (sessionOf (openedIn pcc) (openedIn pce)) ⌝ }
+    ensures sessions { λ r. ⌜ r ≡ sessionsOut (sessionsOf (openedIn pcc) (openedIn pce)) ⌝ }
 {
     let first = border_records::opened_in(pcc);
     let second = border_records::opened_in(pce);
-    border_records::session_out(session::agree(first, second))
+    border_records::sessions_out(session::agree(first, second))
 }

@@ -1,7 +1,7 @@
 -- What a record at the border stands for, and the record that an answer is handed out as (include/strundevi.h).
 -- `..In` reads a record that came in, `..Out` lays out an answer.
 use Prim.Native.Nat.{ℕ, min}
-use mathlib.Core.Bool.{Bool, cond, not}
+use mathlib.Core.Bool.{Bool, false, cond, not}
 use lib.Dec.{eqb, ltb}
 use Rattle.answers.specs.declared.verdict.Verdict.{Verdict}
 use Rattle.msd.specs.Msd.{absent}
@@ -10,6 +10,7 @@ use Rattle.session.specs.declared.Limit.{Limit}
 use Rattle.session.specs.declared.Limit.the-variants.{Free, Most}
 use Rattle.session.specs.declared.Opened.{Opened}
 use Rattle.session.specs.declared.Session.{Session}
+use Rattle.session.specs.declared.Sessions.{Sessions}
 use Rattle.border_records.specs.declared.verdict.VerdictRecord.{VerdictRecord}
 use Rattle.border_records.specs.declared.opened.OpenedRecord.{OpenedRecord}
 use Rattle.border_records.specs.declared.agreement.SessionRecord.{SessionRecord}
@@ -34,9 +35,9 @@ abbrev pub mostOf : Limit → ℕ
 mostOf Free = 0
 mostOf (Most n) = n
 
--- In a session the number has 32 bits; a larger one is handed out as the largest of these, which no route reaches.
+-- In a session the number has 16 bits; a larger one is handed out as the largest of these, which no route reaches.
 abbrev pub largest : ℕ
-largest = 4294967295
+largest = 65535
 
 abbrev pub shortOf : Limit → ℕ
 shortOf Free = 0
@@ -51,6 +52,10 @@ thereOf d = cond (ltb d absent) 1 0
 
 abbrev pub valueOf : ℕ → ℕ
 valueOf d = cond (ltb d absent) d 0
+
+-- The form at fault crosses as an octet; one that is none is handed out as 0, no form's.
+abbrev pub formOut : ℕ → ℕ
+formOut form = cond (ltb form 256) form 0
 
 -- Where A and R stand.
 abbrev pub setupIn : SetupRecord → Setup
@@ -71,6 +76,10 @@ openedIn o =
       r = isYes (o .r);
       v = depthFrom (o .hasv) (o .v);
       m = depthFrom (o .hasm) (o .m);
+      form = o .form;
+      mpls = isYes (o .mpls);
+      mplsn = isYes (o .mplsn);
+      mplslimit = limitIn (o .mplslimited) (o .mplslimit);
     }
 
 abbrev pub openedOut : Opened → OpenedRecord
@@ -87,10 +96,16 @@ openedOut o =
       v = valueOf (o .v);
       hasm = thereOf (o .m);
       m = valueOf (o .m);
+      mpls = flagOf (o .mpls);
+      mplsn = flagOf (o .mplsn);
+      mplslimited = limitedOf (o .mplslimit);
+      form = formOut (o .form);
+      mplslimit = mostOf (o .mplslimit);
     }
 
-abbrev pub sessionIn : SessionRecord → Session
-sessionIn s =
+-- The two sessions in one record. MPLS's has no A, R, v and m.
+abbrev pub srv6In : SessionRecord → Session
+srv6In s =
     record {
       agreed = isYes (s .agreed);
       n = isYes (s .n);
@@ -101,17 +116,36 @@ sessionIn s =
       m = depthFrom (s .hasm) (s .m);
     }
 
-abbrev pub sessionOut : Session → SessionRecord
-sessionOut s =
+abbrev pub mplsIn : SessionRecord → Session
+mplsIn s =
     record {
-      agreed = flagOf (s .agreed);
-      n = flagOf (s .n);
-      a = flagOf (s .a);
-      r = flagOf (s .r);
-      hasv = thereOf (s .v);
-      v = valueOf (s .v);
-      hasm = thereOf (s .m);
-      m = valueOf (s .m);
-      limited = limitedOf (s .limit);
-      limit = shortOf (s .limit);
+      agreed = isYes (s .mpls);
+      n = isYes (s .mplsn);
+      limit = limitIn (s .mplslimited) (s .mplslimit);
+      a = false;
+      r = false;
+      v = absent;
+      m = absent;
+    }
+
+abbrev pub sessionsIn : SessionRecord → Sessions
+sessionsIn s = record { srv6 = srv6In s; mpls = mplsIn s }
+
+abbrev pub sessionsOut : Sessions → SessionRecord
+sessionsOut s =
+    record {
+      agreed = flagOf (s .srv6 .agreed);
+      n = flagOf (s .srv6 .n);
+      a = flagOf (s .srv6 .a);
+      r = flagOf (s .srv6 .r);
+      hasv = thereOf (s .srv6 .v);
+      v = valueOf (s .srv6 .v);
+      hasm = thereOf (s .srv6 .m);
+      m = valueOf (s .srv6 .m);
+      limited = limitedOf (s .srv6 .limit);
+      mpls = flagOf (s .mpls .agreed);
+      mplsn = flagOf (s .mpls .n);
+      mplslimited = limitedOf (s .mpls .limit);
+      limit = shortOf (s .srv6 .limit);
+      mplslimit = shortOf (s .mpls .limit);
     }

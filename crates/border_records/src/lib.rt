@@ -12,8 +12,8 @@ mod setup;
 mod verdict;
 
 pub use agreement::SessionRecord;
-pub use agreement::session_in;
-pub use agreement::session_out;
+pub use agreement::sessions_in;
+pub use agreement::sessions_out;
 pub use flag::flag_of;
 pub use flag::yes;
 pub use opened::OpenedRecord;

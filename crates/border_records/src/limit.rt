@@ -1,4 +1,4 @@
-// A limit is a flag and a number. Without the flag there is none, whatever the number is. In a session the number has 32 bits.
+// A limit is a flag and a number. Without the flag there is none, whatever the number is. In a session the number has 16 bits.
 ghost use Prim.Native.Nat.{min};
 ghost use mathlib.Core.Path.{_≡_};
 ghost use Rattle.border_records.specs.Records.{limitIn, limitedOf, mostOf, largest, shortOf};
@@ -33,10 +33,10 @@ pub fn most(limit: Limit) -> usize
     }
 }
 
-// The largest number of 32 bits.
-const LARGEST: usize = 4294967295;
+// The largest number of 16 bits.
+const LARGEST: usize = 65535;
 
-pub fn short_in(limited: u8, limit: u32) -> Limit
+pub fn short_in(limited: u8, limit: u16) -> Limit
     ensures limit { λ r. ⌜ r ≡ limitIn limited limit ⌝ }
 {
     if limited == 0 {
@@ -45,17 +45,17 @@ pub fn short_in(limited: u8, limit: u32) -> Limit
     Limit::Most(limit as usize)
 }
 
-fn cut(n: usize) -> u32
+fn cut(n: usize) -> u16
     ensures cut { λ r. ⌜ r ≡ min n largest ⌝ }
 {
     if n < LARGEST {
-        return n as u32;
+        return n as u16;
     }
-    4294967295
+    65535
 }
 
-// The limit in 32 bits, 0 where there is none.
-pub fn short(limit: Limit) -> u32
+// The limit in 16 bits, 0 where there is none.
+pub fn short(limit: Limit) -> u16
     ensures short { λ r. ⌜ r ≡ shortOf limit ⌝ }
 {
     match limit {

@@ -7,4 +7,4 @@ use Rattle.border_segment.specs.Segments.{outlineIn, outlineWithin, segm
 
 pub segment-back : (g : Segment)
     → segmentWith (outlineIn (outlineWithin (segmentOut g))) (segmentOut g .sid) (segmentOut g .nai) (segmentOut g .structure) ≡ g
-segment-back g = rw (flag-back (g .loose), flag-back (g .verify), flag-back (g .hassid), flag-back (g .structured))
+segment-back g = rw (flag-back (g .loose), flag-back (g .verify), flag-back (g .hassid), flag-back (g .structured), flag-back (g .labelled), flag-back (g .complete))

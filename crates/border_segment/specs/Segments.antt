@@ -18,6 +18,8 @@ outlineIn o =
       behaviour = o .behaviour;
       hassid = isYes (o .hassid);
       structured = isYes (o .structured);
+      labelled = isYes (o .labelled);
+      complete = isYes (o .complete);
     }
 
 abbrev pub segmentOut : Segment → SegmentRecord
@@ -32,12 +34,23 @@ segmentOut g =
       nai = g .nai;
       structured = flagOf (g .structured);
       structure = g .structure;
+      labelled = flagOf (g .labelled);
+      complete = flagOf (g .complete);
     }
 
 -- What a segment's record names beside its octets.
 abbrev pub outlineWithin : SegmentRecord → OutlineRecord
 outlineWithin g =
-    record { loose = g .loose; verify = g .verify; nt = g .nt; behaviour = g .behaviour; hassid = g .hassid; structured = g .structured }
+    record {
+      loose = g .loose;
+      verify = g .verify;
+      nt = g .nt;
+      behaviour = g .behaviour;
+      hassid = g .hassid;
+      structured = g .structured;
+      labelled = g .labelled;
+      complete = g .complete;
+    }
 
 abbrev pub pickedOut : Picked → PickedRecord
 pickedOut p =

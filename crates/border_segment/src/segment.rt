@@ -17,6 +17,8 @@ pub struct SegmentRecord {
     pub nai: [u8; 40],
     pub structured: u8,
     pub structure: [u8; 4],
+    pub labelled: u8,
+    pub complete: u8,
 }
 
 #[repr(C)]
@@ -27,6 +29,8 @@ pub struct OutlineRecord {
     pub behaviour: u16,
     pub hassid: u8,
     pub structured: u8,
+    pub labelled: u8,
+    pub complete: u8,
 }
 
 pub fn outline_in(o: OutlineRecord) -> Outline
@@ -40,6 +44,8 @@ pub fn outline_in(o: OutlineRecord) -> Outline
         behaviour: o.behaviour as usize,
         hassid: border_records::yes(o.hassid),
         structured: border_records::yes(o.structured),
+        labelled: border_records::yes(o.labelled),
+        complete: border_records::yes(o.complete),
     }
 }
 
@@ -59,5 +65,7 @@ pub fn segment_out(g: Segment) -> SegmentRecord
         nai: nai,
         structured: border_records::flag_of(g.structured),
         structure: structure,
+        labelled: border_records::flag_of(g.labelled),
+        complete: border_records::flag_of(g.complete),
     }
 }

@@ -12,12 +12,12 @@ use border_answers::writer_in;
 use border_answers::written_out;
 use border_segment::OutlineRecord;
 
-// Writes the header with length 4.
-pub fn begin(buffer: &mut [u8], writer: WriterRecord, ero: u8) -> WrittenRecord
-    ensures answer { λ r. ⌜ r ≡ writtenOut (beginAnswer (now (buffer .entry)) (writerIn writer) (isYes ero)) ⌝ }
+// Writes the header with length 4. The setup type names the form, SRv6's if it names none, and the state keeps it.
+pub fn begin(buffer: &mut [u8], writer: WriterRecord, ero: u8, pst: u64) -> WrittenRecord
+    ensures answer { λ r. ⌜ r ≡ writtenOut (beginAnswer (now (buffer .entry)) (writerIn writer) (isYes ero) pst) ⌝ }
     ensures octets { λ _. ⌜ now (buffer .exit) ≡ beginBuffer (now (buffer .entry)) (writerIn writer) (isYes ero) ⌝ }
 {
-    written_out(writer::begin(buffer, writer_in(writer), border_records::yes(ero)))
+    written_out(writer::begin(buffer, writer_in(writer), border_records::yes(ero), pst))
 }
 
 // Writes a segment from the present place on. The segment's octets are lent.

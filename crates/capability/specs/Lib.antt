@@ -1,2 +1,3 @@
 pub mod SetupTypes
 pub mod Srv6
+pub mod Mpls

@@ -6,6 +6,7 @@ use mathlib.Core.Option.{Option}
 use lib.ListN.{length, drop}
 use lib.Dec.{eqb, leb}
 use Rattle.octets.specs.Octets.{octetOf, be16}
+use Rattle.objects.specs.Objects.{srv6Setup}
 use Rattle.answers.specs.Numbers.{openMalformed, wrongMsd}
 use Rattle.positions.specs.declared.Setup.{Setup}
 use Rattle.positions.specs.Positions.{flagAt}
@@ -78,5 +79,5 @@ carriesBy p w = openCarries true (nOf w) (limitOf w) (aOf p w) (rOf p w) (number
 -- What a side that lists type 3 announces by the value of sub-TLV 27, in the order 1, 3.
 unfoldable pub announcedOf : Setup → List ℕ → Opened
 announcedOf p w =
-    cond (not (sizedOf w)) (openRefused openMalformed)
-    (cond (wrongOf w) (openRefused wrongMsd) (carriesBy p w))
+    cond (not (sizedOf w)) (openRefused openMalformed srv6Setup)
+    (cond (wrongOf w) (openRefused wrongMsd srv6Setup) (carriesBy p w))

@@ -8,12 +8,16 @@ ghost use Rattle.capability.specs.Srv6.{announcedOf};
 use answers::OPEN_MALFORMED;
 use answers::WRONG_MSD;
 use msd::ABSENT;
+use objects::SRV6_SETUP;
 use positions::Setup;
 use session::Limit;
 use session::Opened;
 
 // The type of the sub-TLV.
 pub const SRV6_CAPABILITY: usize = 27;
+
+// The form at fault where its value breaks a rule.
+pub const SRV6_FORM: usize = SRV6_SETUP as usize;
 
 // The places of the two flag octets, and what N and X are worth in the second.
 const BOTH_FLAGS: usize = 2;
@@ -32,7 +36,7 @@ pub fn announced(p: Setup, w: &[u8]) -> Opened
     ensures announced { λ r. ⌜ r ≡ announcedOf p (now (w .entry)) ⌝ }
 {
     if !octets::both(w.len() % 2 == 0, PAIRS <= w.len()) {
-        return session::refused_open(OPEN_MALFORMED);
+        return session::refused_open(OPEN_MALFORMED, SRV6_FORM);
     }
     let flags = octets::octet(w, FLAGS);
     let n = flags / N % 2 == 1;
@@ -44,7 +48,7 @@ pub fn announced(p: Setup, w: &[u8]) -> Opened
     }
     let pairs = msd::gather(&w[PAIRS..]);
     if pairs.wrong {
-        return session::refused_open(WRONG_MSD);
+        return session::refused_open(WRONG_MSD, SRV6_FORM);
     }
     let v = pairs.encaps;
     let m = pairs.left;

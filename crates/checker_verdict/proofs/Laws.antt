@@ -12,8 +12,8 @@ use Rattle.positions.specs.declared.Setup.{Setup}
 use Rattle.positions.specs.Positions.{firstTwo}
 use Rattle.open.specs.Open.{openOf}
 use Rattle.session.specs.declared.Opened.{Opened}
-use Rattle.session.specs.declared.Session.{Session}
-use Rattle.session.specs.Sessions.{sessionOf}
+use Rattle.session.specs.declared.Sessions.{Sessions}
+use Rattle.session.specs.Sessions.{sessionsOf}
 use Rattle.route_call.specs.Called.{judgedFor}
 use Rattle.checker_verdict.specs.Checking.{pccOf, pceOf, eroOf, checkedOf}
 
@@ -30,7 +30,7 @@ module _ (s : List ℕ) where
   unfolding checkedOf
   pce-refused o p e h f k = rw (← e, ← f, eq-eqb (o .number) 0 h, ne-eqb (p .number) 0 k)
 
-  pub ero-judged : (o p : Opened) (g : Session) (x : List ℕ) {v : Verdict} → o ≡ pccOf s → o .number ≡ 0 → p ≡ pceOf s → p .number ≡ 0 → g ≡ sessionOf o p
+  pub ero-judged : (o p : Opened) (g : Sessions) (x : List ℕ) {v : Verdict} → o ≡ pccOf s → o .number ≡ 0 → p ≡ pceOf s → p .number ≡ 0 → g ≡ sessionsOf o p
       → x ≡ eroOf s → v ≡ judgedFor x true g srv6Setup [] → v ≡ checkedOf s
   unfolding checkedOf
   ero-judged o p g x e h f k a b j =

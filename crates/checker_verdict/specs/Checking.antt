@@ -9,7 +9,7 @@ use Rattle.objects.specs.Objects.{srv6Setup}
 use Rattle.answers.specs.declared.verdict.Verdict.{Verdict}
 use Rattle.answers.specs.Verdicts.{refusedBy}
 use Rattle.session.specs.declared.Opened.{Opened}
-use Rattle.session.specs.Sessions.{sessionOf}
+use Rattle.session.specs.Sessions.{sessionsOf}
 use Rattle.positions.specs.Positions.{firstTwo}
 use Rattle.open.specs.Open.{openOf}
 use Rattle.route_call.specs.Called.{judgedFor}
@@ -31,4 +31,4 @@ abbrev pub unlessRefused : Opened → Verdict → Verdict
 unlessRefused o next = cond (eqb (o .number) 0) next (refusedBy (o .number) 0)
 
 unfoldable pub checkedOf : List ℕ → Verdict
-checkedOf s = unlessRefused (pccOf s) (unlessRefused (pceOf s) (judgedFor (eroOf s) true (sessionOf (pccOf s) (pceOf s)) srv6Setup []))
+checkedOf s = unlessRefused (pccOf s) (unlessRefused (pceOf s) (judgedFor (eroOf s) true (sessionsOf (pccOf s) (pceOf s)) srv6Setup []))

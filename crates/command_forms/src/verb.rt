@@ -42,15 +42,15 @@ pub const RRO: [u8; 3] = *b"rro";
 
 // The letters: n a number, 1 one of 0 or 1, 8 of 0 to 255, 6 of 0 to 65,535, z a size, o octets, e `ero` or `rro`,
 // s a SID, a a NAI, t a structure.
-pub const ROWS: [u8; 187] = *b"\
+pub const ROWS: [u8; 190] = *b"\
 pcc o\n\
 pce o\n\
 ero no\n\
 rro no\n\
 ero-segment nno\n\
 rro-segment nno\n\
-begin ez\n\
-add 1186sat\n\
+begin enz\n\
+add 1186sat11\n\
 finish\n\
 lent\n\
 report nno\n\

@@ -16,16 +16,17 @@ use Rattle.session.specs.declared.Limit.the-variants.{Free, Most}
 use Rattle.session.specs.declared.Opened.{Opened}
 use Rattle.subobject.specs.declared.segment.Segment.{Segment}
 use Rattle.subobject.specs.declared.strays.Strays.{Strays}
-use Rattle.subobject.specs.Layout.{naiLength}
+use Rattle.forms.specs.declared.Form.{Form}
+use Rattle.forms.specs.Forms.{naiLength}
 use Rattle.writer.specs.declared.state.Written.{Written}
 use Rattle.route.specs.declared.picking.Picked.{Picked}
 use Rattle.board_rules.specs.declared.answer.Handed.{Handed}
 use Rattle.board_rules.specs.declared.answer.Handed.the-variants.{Refused, Path, Removed, Level}
-use Rattle.board_by_value.specs.ByValue.{bodyNumberOn, bodyOn, nextOn, movedOn, freshMarkOn}
+use Rattle.board_by_value.specs.ByValue.{bodyNumberOn, bodyOn, bodyFormOn, nextOn, movedOn, freshMarkOn}
 use Rattle.printing.specs.Text.{spell, decimalOf, glyphOf, hexOf, octetsText, furtherText, listText}
 use Rattle.words.specs.Words.{newline, space, comma, ascii}
-use Rattle.console_lines.specs.Lines.{lineOf, acceptance, refusalLine, badLine, doneLine, oneLine, twoLine, octetsLine, listLine}
-use Rattle.console_fields.specs.Shown.{bitOf, limitText, depthText, openLine, openedLine, structureText, strayWords, segmentLine}
+use Rattle.console_lines.specs.Lines.{lineOf, acceptance, refusalLine, openRefusalLine, badLine, doneLine, oneLine, twoLine, octetsLine, formLine, listLine}
+use Rattle.console_fields.specs.Shown.{bitOf, limitText, depthText, mplsWords, openLine, openedLine, structureText, strayWords, labelWords, segmentLine}
 use Rattle.command_forms.specs.declared.verb.Verb.{Verb}
 use Rattle.command_forms.specs.declared.verb.Verb.the-variants as v
 use Rattle.command.specs.declared.Command.{Command}
@@ -175,31 +176,45 @@ clear-list (x ∷ xs) = clear-append (decimalOf x) (furtherText xs) (clear-decim
 list-one : (s : List ℕ) → OneLine (listLine s)
 list-one s = accepted-one (listText s ∷ []) (all-cons (listText s) [] (clear-list s) all-none)
 
+form-one : (form : ℕ) (s : List ℕ) → OneLine (formLine form s)
+form-one form s = accepted-one (decimalOf form ∷ octetsText s ∷ []) (all-cons (decimalOf form) (octetsText s ∷ []) (clear-decimal form) (octets-clear s))
+
+mpls-clear : (o : Opened) → allClear (mplsWords o) ≡ true
+mpls-clear o = numbers-clear (bitOf (o .mpls)) (bitOf (o .mplsn)) _ (all-cons (limitText (o .mplslimit)) [] (clear-limit (o .mplslimit)) all-none)
+
 open-one : (o : Opened) → OneLine (openLine o)
 open-one o =
     let v = depthText (depthIn (o .v)) in
     let m = depthText (depthIn (o .m)) in
     accepted-one _ (numbers-clear (bitOf (o .srv6)) (bitOf (o .n)) _ (all-cons (limitText (o .limit)) _ (clear-limit (o .limit))
-    (numbers-clear (bitOf (o .a)) (bitOf (o .r)) (v ∷ m ∷ []) (all-cons v (m ∷ []) (clear-depth (depthIn (o .v))) (all-cons m [] (clear-depth (depthIn (o .m))) all-none)))))
+    (numbers-clear (bitOf (o .a)) (bitOf (o .r)) (v ∷ m ∷ mplsWords o) (all-cons v (m ∷ mplsWords o) (clear-depth (depthIn (o .v)))
+    (all-cons m (mplsWords o) (clear-depth (depthIn (o .m))) (mpls-clear o))))))
+
+open-refusal-one : (number form : ℕ) → OneLine (openRefusalLine number form)
+open-refusal-one number form = line-one (decimalOf 0 ∷ decimalOf form ∷ []) (decimalOf number) (clear-decimal number) (numbers-clear 0 form [] all-none)
 
 opened-one : (o : Opened) → OneLine (openedLine o)
 opened-one o = go (eqb (o .number) 0) where
-  go : (t : Bool) → OneLine (cond t (openLine o) (refusalLine (o .number) 0))
+  go : (t : Bool) → OneLine (cond t (openLine o) (openRefusalLine (o .number) (o .form)))
   go true = open-one o
-  go false = refusal-one (o .number) 0
+  go false = open-refusal-one (o .number) (o .form)
 
-segment-one : (g : Segment) (x : Strays) → OneLine (segmentLine g x)
-segment-one g x =
-    let sid = octetsText (take (cond (g .hassid) 16 0) (g .sid)) in
-    let nai = octetsText (take (naiLength (g .nt)) (g .nai)) in
-    let structure = structureText (g .structured) (g .structure) in
-    let strays = strayWords x in
-    accepted-one _ (numbers-clear (bitOf (g .loose)) (bitOf (g .verify)) _ (numbers-clear (g .nt) (g .behaviour) (sid ∷ nai ∷ structure ∷ strays)
-    (all-cons sid (nai ∷ structure ∷ strays) (clear-octets (take (cond (g .hassid) 16 0) (g .sid)))
-    (all-cons nai (structure ∷ strays) (clear-octets (take (naiLength (g .nt)) (g .nai)))
-    (all-cons structure strays (clear-structure (g .structured) (g .structure))
+label-clear : (m c : Bool) (x : Strays) → allClear (labelWords m c x) ≡ true
+label-clear m c x =
+    numbers-clear (bitOf m) (bitOf c) (strayWords x)
     (numbers-clear (x .flags) (x .structure) (decimalOf (bitOf (x .reserved)) ∷ [])
-    (all-cons (decimalOf (bitOf (x .reserved))) [] (clear-decimal (bitOf (x .reserved))) all-none)))))))
+    (all-cons (decimalOf (bitOf (x .reserved))) [] (clear-decimal (bitOf (x .reserved))) all-none))
+
+segment-one : (form : Form) (g : Segment) (x : Strays) → OneLine (segmentLine form g x)
+segment-one form g x =
+    let sid = octetsText (take (cond (g .hassid) (form .sid) 0) (g .sid)) in
+    let nai = octetsText (take (naiLength form (g .nt)) (g .nai)) in
+    let structure = structureText (g .structured) (g .structure) in
+    let labels = labelWords (g .labelled) (g .complete) x in
+    accepted-one _ (numbers-clear (bitOf (g .loose)) (bitOf (g .verify)) _ (numbers-clear (g .nt) (g .behaviour) (sid ∷ nai ∷ structure ∷ labels)
+    (all-cons sid (nai ∷ structure ∷ labels) (clear-octets (take (cond (g .hassid) (form .sid) 0) (g .sid)))
+    (all-cons nai (structure ∷ labels) (clear-octets (take (naiLength form (g .nt)) (g .nai)))
+    (all-cons structure labels (clear-structure (g .structured) (g .structure)) (label-clear (g .labelled) (g .complete) x))))))
 
 answer-one : (w : Verdict) (accepted : List ℕ) → OneLine accepted → OneLine (answerLine w accepted)
 unfolding answerLine
@@ -216,9 +231,9 @@ plain-one : (w : Verdict) → OneLine (plainLine w)
 unfolding plainLine
 plain-one w = answer-one w doneLine (accepted-one [] all-none)
 
-picked-one : (p : Picked) → OneLine (pickedLine p)
+picked-one : (form : Form) (p : Picked) → OneLine (pickedLine form p)
 unfolding pickedLine
-picked-one p = answer-one (p .verdict) (segmentLine (p .segment) (p .strays)) (segment-one (p .segment) (p .strays))
+picked-one form p = answer-one (p .verdict) (segmentLine form (p .segment) (p .strays)) (segment-one form (p .segment) (p .strays))
 
 place-one : (w : Written) → OneLine (placeLine w)
 unfolding placeLine
@@ -227,7 +242,11 @@ place-one w = answer-one (w .verdict) (oneLine (w .writer .at)) (number-one (w .
 handed-one : (store : List ℕ) (h : Handed) → OneLine (handedLine store h)
 unfolding clear
 handed-one store (Refused w) = refusal-one (w .number) (w .place)
-handed-one store (Path c o) = accepted-one (ascii "path" ∷ _) (all-cons (ascii "path") _ refl (numbers-clear (c .key) (c .version) _ (octets-clear _)))
+handed-one store (Path c o) =
+    accepted-one (ascii "path" ∷ _)
+    (all-cons (ascii "path") _ refl
+    (numbers-clear (c .key) (c .version) _
+    (all-cons (decimalOf (o .form)) _ (clear-decimal (o .form)) (octets-clear _))))
 handed-one store (Removed c) = accepted-one (ascii "removed" ∷ _) (all-cons (ascii "removed") _ refl (numbers-clear (c .key) (c .version) [] all-none))
 handed-one store (Level n) = accepted-one (ascii "level" ∷ decimalOf n ∷ []) (all-cons (ascii "level") (decimalOf n ∷ []) refl (all-cons (decimalOf n) [] (clear-decimal n) all-none))
 
@@ -241,8 +260,8 @@ by-verb-one v.Pcc h k c line n = opened-one (openIn (k .positions) line)
 by-verb-one v.Pce h k c line n = opened-one (openIn (k .positions) line)
 by-verb-one v.Ero h k c line n = count-one _
 by-verb-one v.Rro h k c line n = count-one _
-by-verb-one v.EroSegment h k c line n = picked-one _
-by-verb-one v.RroSegment h k c line n = picked-one _
+by-verb-one v.EroSegment h k c line n = picked-one _ _
+by-verb-one v.RroSegment h k c line n = picked-one _ _
 by-verb-one v.Begin h k c line n = place-one _
 by-verb-one v.Add h k c line n = place-one _
 by-verb-one v.Finish h k c line n = answer-one _ _ (octets-one _)
@@ -250,7 +269,7 @@ by-verb-one v.Lent h k c line n = octets-one (k .lent)
 by-verb-one v.Report h k c line n = count-one _
 by-verb-one v.Remove h k c line n = plain-one _
 by-verb-one v.Compact h k c line n = plain-one _
-by-verb-one v.Body h k c line n = answer-one (bodyNumberOn (k .board) (k .store) (c .one)) _ (octets-one (bodyOn (k .board) (k .store) (c .one)))
+by-verb-one v.Body h k c line n = answer-one (bodyNumberOn (k .board) (k .store) (c .one)) _ (form-one (bodyFormOn (k .board) (k .store) (c .one)) (bodyOn (k .board) (k .store) (c .one)))
 by-verb-one v.Next h k c line n = handed-one (k .store) (nextOn (k .board) (k .store) (c .one) (c .two))
 by-verb-one v.Mark h k c line n = two-one (freshMarkOn (k .board) .s) (freshMarkOn (k .board) .w)
 by-verb-one v.Board h k c line n = two-one (k .board .version) (k .board .floor)

@@ -3,16 +3,16 @@ use Prim.Native.Nat.{ℕ, _*_}
 use mathlib.Core.Bool.{cond}
 use mathlib.Core.List.{List, [], _∷_}
 use lib.Dec.{eqb}
-use Rattle.session.specs.declared.Session.{Session}
+use Rattle.session.specs.declared.Sessions.{Sessions}
 use Rattle.octets.specs.Octets.{part}
 use Rattle.board_record.specs.declared.record.Board.{Board}
 use Rattle.board_record.specs.Sizes.{room}
 use Rattle.board_record.specs.Order.{named}
 use Rattle.board_rules.specs.declared.answer.Handed.{Handed}
 use Rattle.board_rules.specs.declared.answer.Handed.the-variants.{Refused, Path, Removed, Level}
-use Rattle.board_by_value.specs.ByValue.{reportOn, reportStoreOn, removeOn, compactOn, bodyNumberOn, bodyOn, nextOn, movedOn, freshMarkOn}
+use Rattle.board_by_value.specs.ByValue.{reportOn, reportStoreOn, removeOn, compactOn, bodyNumberOn, bodyOn, bodyFormOn, nextOn, movedOn, freshMarkOn}
 use Rattle.command.specs.declared.Command.{Command}
-use Rattle.console_lines.specs.Lines.{refusalLine, oneLine, octetsLine, listLine, pathLine, removedLine, levelLine, twoLine}
+use Rattle.console_lines.specs.Lines.{refusalLine, oneLine, formLine, listLine, pathLine, removedLine, levelLine, twoLine}
 use Rattle.console_state.specs.Answers.{answerLine, countLine, plainLine}
 use Rattle.console_state.specs.Spelled.{octetsIn}
 
@@ -23,11 +23,11 @@ pub record Boarding : Type 0 where
   pub answer : List ℕ
 
 -- `report KEY PST OCTETS`: "reports a path to the board"; `0 0 COUNT STRAY`. The head end's addresses are those set by `addresses`.
-abbrev pub reportTurn : Board → List ℕ → Session → List ℕ → Command → List ℕ → Boarding
-reportTurn b store session addresses c line = record {
-  board = reportOn b store (c .one) (octetsIn line 3) session (c .two) addresses .board;
-  store = reportStoreOn b store (c .one) (octetsIn line 3) session (c .two) addresses;
-  answer = countLine (reportOn b store (c .one) (octetsIn line 3) session (c .two) addresses .verdict);
+abbrev pub reportTurn : Board → List ℕ → Sessions → List ℕ → Command → List ℕ → Boarding
+reportTurn b store both addresses c line = record {
+  board = reportOn b store (c .one) (octetsIn line 3) both (c .two) addresses .board;
+  store = reportStoreOn b store (c .one) (octetsIn line 3) both (c .two) addresses;
+  answer = countLine (reportOn b store (c .one) (octetsIn line 3) both (c .two) addresses .verdict);
 }
 
 -- `remove KEY`; `0 0`
@@ -46,14 +46,14 @@ compactTurn b store c = record {
   answer = plainLine (compactOn b store (c .one) .verdict);
 }
 
--- `body KEY`; `0 0 OCTETS`
+-- `body KEY`; `0 0 FORM OCTETS`, "the path's form before its octets"
 unfoldable pub bodyLine : Board → List ℕ → Command → List ℕ
-bodyLine b store c = answerLine (bodyNumberOn b store (c .one)) (octetsLine (bodyOn b store (c .one)))
+bodyLine b store c = answerLine (bodyNumberOn b store (c .one)) (formLine (bodyFormOn b store (c .one)) (bodyOn b store (c .one)))
 
--- `0 0 path KEY VERSION OCTETS`, `0 0 removed KEY VERSION` or `0 0 level VERSION`
+-- `0 0 path KEY VERSION FORM OCTETS`, `0 0 removed KEY VERSION` or `0 0 level VERSION`
 abbrev pub handedLine : List ℕ → Handed → List ℕ
 handedLine store (Refused v) = refusalLine (v .number) (v .place)
-handedLine store (Path change path) = pathLine (change .key) (change .version) (part store (room * path .place) (path .length))
+handedLine store (Path change path) = pathLine (change .key) (change .version) (path .form) (part store (room * path .place) (path .length))
 handedLine store (Removed change) = removedLine (change .key) (change .version)
 handedLine store (Level version) = levelLine version
 

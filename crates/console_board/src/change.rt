@@ -9,7 +9,7 @@ use board_record::Board;
 use command::Command;
 use command::octets_at;
 use console_state::listed;
-use session::Session;
+use session::Sessions;
 
 // The board after a command, and the end of the line in the buffer.
 pub struct Boarded {
@@ -22,7 +22,7 @@ pub fn reported(
     b: Board,
     line: &[u8],
     c: Command,
-    session: Session,
+    both: Sessions,
     store: &mut [u8],
     memory: &[u8],
     given: usize,
@@ -30,13 +30,13 @@ pub fn reported(
     out: &mut [u8],
 ) -> Boarded
     requires { ⌜ (length (now line) ≤ 2 * length (now room)) × (128 ≤ length (now out)) ⌝ }
-    ensures board { λ r. ⌜ r .board ≡ reportTurn b (now (store .entry)) session (listIn given (now (memory .entry))) c (now (line .entry)) .board ⌝ }
-    ensures store { λ r. ⌜ now (store .exit) ≡ reportTurn b (now (store .entry)) session (listIn given (now (memory .entry))) c (now (line .entry)) .store ⌝ }
-    ensures told { λ r. ⌜ Behind (now (out .entry)) (now (out .exit)) 0 (r .end) (reportTurn b (now (store .entry)) session (listIn given (now (memory .entry))) c (now (line .entry)) .answer) ⌝ }
+    ensures board { λ r. ⌜ r .board ≡ reportTurn b (now (store .entry)) both (listIn given (now (memory .entry))) c (now (line .entry)) .board ⌝ }
+    ensures store { λ r. ⌜ now (store .exit) ≡ reportTurn b (now (store .entry)) both (listIn given (now (memory .entry))) c (now (line .entry)) .store ⌝ }
+    ensures told { λ r. ⌜ Behind (now (out .entry)) (now (out .exit)) 0 (r .end) (reportTurn b (now (store .entry)) both (listIn given (now (memory .entry))) c (now (line .entry)) .answer) ⌝ }
 {
     let n = octets_at(line, 3, room);
     let list = listed(memory, given);
-    let a = board_by_value::report(b, store, c.one, &room[..n], session, c.two, list);
+    let a = board_by_value::report(b, store, c.one, &room[..n], both, c.two, list);
     let v = a.verdict;
     let after = a.board;
     Boarded {

@@ -19,8 +19,9 @@ pub fn body(b: Board, c: Command, store: &[u8], out: &mut [u8]) -> usize
     if v.number != 0 {
         return console_lines::refusal(out, v.number, v.place);
     }
+    let form = board_by_value::body_form(b, store, c.one);
     let path = board_by_value::body(b, store, c.one);
-    console_lines::octets(out, path)
+    console_lines::formed(out, form as u64, path)
 }
 
 // `next S W`
@@ -34,6 +35,7 @@ pub fn next(b: Board, c: Command, store: &[u8], out: &mut [u8]) -> usize
             out,
             change.key,
             change.version,
+            path.form as u64,
             named(store, path.place, path.length),
         ),
         Handed::Removed(change) => console_lines::removed(out, change.key, change.version),

@@ -12,9 +12,10 @@ use Rattle.session.specs.declared.Limit.the-variants.{Free, Most}
 use Rattle.session.specs.declared.Opened.{Opened}
 use Rattle.subobject.specs.declared.segment.Segment.{Segment}
 use Rattle.subobject.specs.declared.strays.Strays.{Strays}
-use Rattle.subobject.specs.Layout.{naiLength}
+use Rattle.forms.specs.declared.Form.{Form}
+use Rattle.forms.specs.Forms.{naiLength}
 use Rattle.printing.specs.Text.{decimalOf, octetsText}
-use Rattle.console_lines.specs.Lines.{acceptance, refusalLine}
+use Rattle.console_lines.specs.Lines.{acceptance, openRefusalLine}
 
 -- the octets that the line of an OPEN or of a segment takes at most
 abbrev pub long : ℕ
@@ -33,18 +34,22 @@ abbrev pub depthText : Option ℕ → List ℕ
 depthText none = dash ∷ []
 depthText (some v) = decimalOf v
 
--- `A R V M`, "V and M numbers or `-`"
-abbrev pub flagWords : Opened → List (List ℕ)
-flagWords o = decimalOf (bitOf (o .a)) ∷ decimalOf (bitOf (o .r)) ∷ depthText (depthIn (o .v)) ∷ depthText (depthIn (o .m)) ∷ []
+-- `MPLS MN MLIMIT`: "MPLS, its N and its limit behind"
+abbrev pub mplsWords : Opened → List (List ℕ)
+mplsWords o = decimalOf (bitOf (o .mpls)) ∷ decimalOf (bitOf (o .mplsn)) ∷ limitText (o .mplslimit) ∷ []
 
--- `0 0 SRV6 N LIMIT A R V M`
+-- `A R V M`, "V and M numbers or `-`", and what is behind them
+abbrev pub flagWords : Opened → List (List ℕ)
+flagWords o = decimalOf (bitOf (o .a)) ∷ decimalOf (bitOf (o .r)) ∷ depthText (depthIn (o .v)) ∷ depthText (depthIn (o .m)) ∷ mplsWords o
+
+-- `0 0 SRV6 N LIMIT A R V M MPLS MN MLIMIT`
 abbrev pub openLine : Opened → List ℕ
 openLine o =
     acceptance (decimalOf (bitOf (o .srv6)) ∷ decimalOf (bitOf (o .n)) ∷ limitText (o .limit) ∷ flagWords o)
 
--- An OPEN's answer, a refusal too.
+-- An OPEN's answer, a refusal too: "a refusal is `NUMBER 0 FORM`".
 abbrev pub openedLine : Opened → List ℕ
-openedLine o = cond (eqb (o .number) 0) (openLine o) (refusalLine (o .number) 0)
+openedLine o = cond (eqb (o .number) 0) (openLine o) (openRefusalLine (o .number) (o .form))
 
 -- `40,24,16,48`, or `-` for none
 abbrev pub structureText : Bool → List ℕ → List ℕ
@@ -57,8 +62,13 @@ structureText there bits =
 abbrev pub strayWords : Strays → List (List ℕ)
 strayWords x = decimalOf (x .flags) ∷ decimalOf (x .structure) ∷ decimalOf (bitOf (x .reserved)) ∷ []
 
--- `0 0 L V NT BEHAVIOUR SID NAI STRUCTURE FLAGS SFLAGS RESERVED`, "SID and NAI as OCTETS of their own lengths, or `-`"
-abbrev pub segmentLine : Segment → Strays → List ℕ
-segmentLine g x =
+-- `M C FLAGS SFLAGS RESERVED`
+abbrev pub labelWords : Bool → Bool → Strays → List (List ℕ)
+labelWords m c x = decimalOf (bitOf m) ∷ decimalOf (bitOf c) ∷ strayWords x
+
+-- `0 0 L V NT BEHAVIOUR SID NAI STRUCTURE M C FLAGS SFLAGS RESERVED`, "SID and NAI as OCTETS of their own lengths, or `-`": the SID's is the form's
+abbrev pub segmentLine : Form → Segment → Strays → List ℕ
+segmentLine form g x =
     acceptance (decimalOf (bitOf (g .loose)) ∷ decimalOf (bitOf (g .verify)) ∷ decimalOf (g .nt) ∷ decimalOf (g .behaviour)
-    ∷ octetsText (take (cond (g .hassid) 16 0) (g .sid)) ∷ octetsText (take (naiLength (g .nt)) (g .nai)) ∷ structureText (g .structured) (g .structure) ∷ strayWords x)
+    ∷ octetsText (take (cond (g .hassid) (form .sid) 0) (g .sid)) ∷ octetsText (take (naiLength form (g .nt)) (g .nai))
+    ∷ structureText (g .structured) (g .structure) ∷ labelWords (g .labelled) (g .complete) x)

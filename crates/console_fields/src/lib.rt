@@ -4,17 +4,18 @@ ghost use Prim.Native.Nat.{_+_, _≤_};
 ghost use mathlib.Core.Path.{_≡_};
 ghost use mathlib.Core.Bool.{cond, true};
 ghost use lib.ListN.{length, take};
-ghost use Rattle.subobject.specs.Layout.{naiLength};
+ghost use Rattle.forms.specs.Forms.{naiLength};
+ghost use Rattle.forms.specs.Sized.{Sized};
 ghost use Rattle.printing.specs.Text.{Behind, spaced, octetsText};
 ghost use Rattle.msd.specs.Msd.{depthIn};
 ghost use Rattle.console_lines.specs.Lines.{short, furtherWords};
-ghost use Rattle.console_fields.specs.Shown.{long, bitOf, limitText, depthText, flagWords, openLine, openedLine, structureText, strayWords, segmentLine};
+ghost use Rattle.console_fields.specs.Shown.{long, bitOf, limitText, depthText, mplsWords, flagWords, openLine, openedLine, structureText, strayWords, labelWords, segmentLine};
 use console_lines::ACCEPTED;
 use console_lines::END;
+use forms::Form;
 use msd::ABSENT;
 use session::Limit;
 use session::Opened;
-use subobject::SID_LENGTH;
 use subobject::Segment;
 use subobject::Strays;
 use words::COMMA;
@@ -56,20 +57,33 @@ fn depth_field(out: &mut [u8], at: usize, d: usize) -> usize
     printing::field(out, at, d as u64)
 }
 
-// ` A R V M`, and the end of the line.
+// ` MPLS MN MLIMIT`, and the end of the line.
+fn mpls_end(out: &mut [u8], at: usize, o: Opened) -> usize
+    requires { ⌜ at + 64 ≤ length (now out) ⌝ }
+    ensures behind { λ r. ⌜ Behind (now (out .entry)) (now (out .exit)) at r (furtherWords (mplsWords o)) ⌝ }
+    ensures short { λ r. ⌜ r ≤ at + 64 ⌝ }
+{
+    let end = printing::field(out, at, bit(o.mpls));
+    let end = printing::field(out, end, bit(o.mplsn));
+    let limit = o.mplslimit;
+    let end = limit_field(out, end, limit);
+    printing::push(out, end, &END)
+}
+
+// ` A R V M MPLS MN MLIMIT`, and the end of the line.
 fn flags_end(out: &mut [u8], at: usize, o: Opened) -> usize
-    requires { ⌜ at + 128 ≤ length (now out) ⌝ }
+    requires { ⌜ at + 160 ≤ length (now out) ⌝ }
     ensures behind { λ r. ⌜ Behind (now (out .entry)) (now (out .exit)) at r (furtherWords (flagWords o)) ⌝ }
-    ensures short { λ r. ⌜ r ≤ at + 128 ⌝ }
+    ensures short { λ r. ⌜ r ≤ at + 160 ⌝ }
 {
     let end = printing::field(out, at, bit(o.a));
     let end = printing::field(out, end, bit(o.r));
     let end = depth_field(out, end, o.v);
     let end = depth_field(out, end, o.m);
-    printing::push(out, end, &END)
+    mpls_end(out, end, o)
 }
 
-// `0 0 SRV6 N LIMIT A R V M`
+// `0 0 SRV6 N LIMIT A R V M MPLS MN MLIMIT`
 fn carried(out: &mut [u8], o: Opened) -> usize
     requires { ⌜ long ≤ length (now out) ⌝ }
     ensures told { λ r. ⌜ Behind (now (out .entry)) (now (out .exit)) 0 r (openLine o) ⌝ }
@@ -90,7 +104,7 @@ pub fn opened(out: &mut [u8], o: Opened) -> usize
     ensures within { λ r. ⌜ r ≤ long ⌝ }
 {
     if o.number != 0 {
-        return console_lines::refusal(out, o.number, 0);
+        return console_lines::open_refusal(out, o.number, o.form);
     }
     carried(out, o)
 }
@@ -133,22 +147,22 @@ fn structure_field(out: &mut [u8], at: usize, there: bool, bits: [u8; 4]) -> usi
 }
 
 // A space and the SID, or `-` for none.
-fn sid_field(out: &mut [u8], at: usize, there: bool, sid: [u8; 16]) -> usize
-    requires { ⌜ at + 34 ≤ length (now out) ⌝ }
-    ensures behind { λ r. ⌜ Behind (now (out .entry)) (now (out .exit)) at r (spaced (octetsText (take (cond there 16 0) sid))) ⌝ }
+fn sid_field(out: &mut [u8], at: usize, form: Form, there: bool, sid: [u8; 16]) -> usize
+    requires { ⌜ (at + 34 ≤ length (now out)) × (form .sid ≤ 16) ⌝ }
+    ensures behind { λ r. ⌜ Behind (now (out .entry)) (now (out .exit)) at r (spaced (octetsText (take (cond there (form .sid) 0) sid))) ⌝ }
     ensures short { λ r. ⌜ r ≤ at + 34 ⌝ }
 {
-    let k = octets::pick(there, SID_LENGTH, 0);
+    let k = octets::pick(there, octets::wide(form.sid), 0);
     printing::octets_field(out, at, &sid[..k])
 }
 
 // A space and the NAI, or `-` for none.
-fn nai_field(out: &mut [u8], at: usize, nt: usize, nai: [u8; 40]) -> usize
-    requires { ⌜ at + 82 ≤ length (now out) ⌝ }
-    ensures behind { λ r. ⌜ Behind (now (out .entry)) (now (out .exit)) at r (spaced (octetsText (take (naiLength nt) nai))) ⌝ }
+fn nai_field(out: &mut [u8], at: usize, form: Form, nt: usize, nai: [u8; 40]) -> usize
+    requires { ⌜ (at + 82 ≤ length (now out)) × (Sized form) ⌝ }
+    ensures behind { λ r. ⌜ Behind (now (out .entry)) (now (out .exit)) at r (spaced (octetsText (take (naiLength form nt) nai))) ⌝ }
     ensures short { λ r. ⌜ r ≤ at + 82 ⌝ }
 {
-    let n = subobject::nai_length(nt);
+    let n = forms::nai_length(form, nt);
     printing::octets_field(out, at, &nai[..n])
 }
 
@@ -164,10 +178,21 @@ fn strays_end(out: &mut [u8], at: usize, x: Strays) -> usize
     printing::push(out, end, &END)
 }
 
-// `0 0 L V NT BEHAVIOUR SID NAI STRUCTURE FLAGS SFLAGS RESERVED`
-pub fn segment(out: &mut [u8], g: Segment, x: Strays) -> usize
-    requires { ⌜ long ≤ length (now out) ⌝ }
-    ensures told { λ r. ⌜ Behind (now (out .entry)) (now (out .exit)) 0 r (segmentLine g x) ⌝ }
+// ` M C FLAGS SFLAGS RESERVED`, and the end of the line.
+fn labels_end(out: &mut [u8], at: usize, m: bool, c: bool, x: Strays) -> usize
+    requires { ⌜ at + 106 ≤ length (now out) ⌝ }
+    ensures behind { λ r. ⌜ Behind (now (out .entry)) (now (out .exit)) at r (furtherWords (labelWords m c x)) ⌝ }
+    ensures short { λ r. ⌜ r ≤ at + 106 ⌝ }
+{
+    let end = printing::field(out, at, bit(m));
+    let end = printing::field(out, end, bit(c));
+    strays_end(out, end, x)
+}
+
+// `0 0 L V NT BEHAVIOUR SID NAI STRUCTURE M C FLAGS SFLAGS RESERVED`, of a segment of a form
+pub fn segment(out: &mut [u8], form: Form, g: Segment, x: Strays) -> usize
+    requires { ⌜ (long ≤ length (now out)) × (Sized form) ⌝ }
+    ensures told { λ r. ⌜ Behind (now (out .entry)) (now (out .exit)) 0 r (segmentLine form g x) ⌝ }
     ensures within { λ r. ⌜ r ≤ long ⌝ }
 {
     let at = printing::push(out, 0, &ACCEPTED);
@@ -176,10 +201,10 @@ pub fn segment(out: &mut [u8], g: Segment, x: Strays) -> usize
     let at = printing::field(out, at, g.nt as u64);
     let at = printing::field(out, at, g.behaviour as u64);
     let sid = g.sid;
-    let at = sid_field(out, at, g.hassid, sid);
+    let at = sid_field(out, at, form, g.hassid, sid);
     let nai = g.nai;
-    let at = nai_field(out, at, g.nt as usize, nai);
+    let at = nai_field(out, at, form, g.nt as usize, nai);
     let bits = g.structure;
     let at = structure_field(out, at, g.structured, bits);
-    strays_end(out, at, x)
+    labels_end(out, at, g.labelled, g.complete, x)
 }

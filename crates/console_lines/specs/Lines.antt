@@ -30,6 +30,10 @@ acceptance ws = lineOf (48 ∷ []) ((48 ∷ []) ∷ ws)
 abbrev pub refusalLine : ℕ → ℕ → List ℕ
 refusalLine number place = lineOf (decimalOf number) (decimalOf place ∷ [])
 
+-- "a refusal is `NUMBER 0 FORM`, FORM the one at fault", of an OPEN
+abbrev pub openRefusalLine : ℕ → ℕ → List ℕ
+openRefusalLine number form = lineOf (decimalOf number) (decimalOf 0 ∷ decimalOf form ∷ [])
+
 -- `bad line N`
 abbrev pub badLine : ℕ → List ℕ
 badLine n = lineOf (ascii "bad") (ascii "line" ∷ decimalOf n ∷ [])
@@ -50,13 +54,17 @@ twoLine a b = acceptance (decimalOf a ∷ decimalOf b ∷ [])
 abbrev pub octetsLine : List ℕ → List ℕ
 octetsLine s = acceptance (octetsText s ∷ [])
 
+-- `0 0 FORM OCTETS`
+abbrev pub formLine : ℕ → List ℕ → List ℕ
+formLine form s = acceptance (decimalOf form ∷ octetsText s ∷ [])
+
 -- `0 0 LIST`
 abbrev pub listLine : List ℕ → List ℕ
 listLine s = acceptance (listText s ∷ [])
 
--- `0 0 path KEY VERSION OCTETS`
-abbrev pub pathLine : ℕ → ℕ → List ℕ → List ℕ
-pathLine key version s = acceptance (ascii "path" ∷ decimalOf key ∷ decimalOf version ∷ octetsText s ∷ [])
+-- `0 0 path KEY VERSION FORM OCTETS`
+abbrev pub pathLine : ℕ → ℕ → ℕ → List ℕ → List ℕ
+pathLine key version form s = acceptance (ascii "path" ∷ decimalOf key ∷ decimalOf version ∷ decimalOf form ∷ octetsText s ∷ [])
 
 -- `0 0 removed KEY VERSION`
 abbrev pub removedLine : ℕ → ℕ → List ℕ

@@ -3,7 +3,7 @@
 ghost use Prim.Native.Nat.{_+_, _*_, _≤_};
 ghost use lib.ListN.{length};
 ghost use Rattle.printing.specs.Text.{Behind};
-ghost use Rattle.console_lines.specs.Lines.{short, refusalLine, badLine, doneLine, oneLine, twoLine, octetsLine, listLine, pathLine, removedLine, levelLine, verdictLine};
+ghost use Rattle.console_lines.specs.Lines.{short, refusalLine, openRefusalLine, badLine, doneLine, oneLine, twoLine, octetsLine, formLine, listLine, pathLine, removedLine, levelLine, verdictLine};
 use answers::Verdict;
 use words::NEWLINE;
 
@@ -24,6 +24,18 @@ pub fn refusal(out: &mut [u8], number: usize, place: usize) -> usize
 {
     let at = printing::number(out, 0, number as u64);
     let at = printing::field(out, at, place as u64);
+    printing::push(out, at, &END)
+}
+
+// `NUMBER 0 FORM`, of an OPEN
+pub fn open_refusal(out: &mut [u8], number: usize, form: usize) -> usize
+    requires { ⌜ short ≤ length (now out) ⌝ }
+    ensures told { λ r. ⌜ Behind (now (out .entry)) (now (out .exit)) 0 r (openRefusalLine number form) ⌝ }
+    ensures within { λ r. ⌜ r ≤ short ⌝ }
+{
+    let at = printing::number(out, 0, number as u64);
+    let at = printing::field(out, at, 0);
+    let at = printing::field(out, at, form as u64);
     printing::push(out, at, &END)
 }
 
@@ -81,6 +93,18 @@ pub fn octets(out: &mut [u8], s: &[u8]) -> usize
     printing::push(out, at, &END)
 }
 
+// `0 0 FORM OCTETS`
+pub fn formed(out: &mut [u8], form: u64, s: &[u8]) -> usize
+    requires { ⌜ 2 * length (now s) + short ≤ length (now out) ⌝ }
+    ensures told { λ r. ⌜ Behind (now (out .entry)) (now (out .exit)) 0 r (formLine form (now (s .entry))) ⌝ }
+    ensures within { λ r. ⌜ r ≤ 2 * length (now (s .entry)) + short ⌝ }
+{
+    let at = printing::push(out, 0, &ACCEPTED);
+    let at = printing::field(out, at, form);
+    let at = printing::octets_field(out, at, s);
+    printing::push(out, at, &END)
+}
+
 // `0 0 LIST`
 pub fn list(out: &mut [u8], s: &[u8]) -> usize
     requires { ⌜ 21 * length (now s) + short ≤ length (now out) ⌝ }
@@ -92,15 +116,16 @@ pub fn list(out: &mut [u8], s: &[u8]) -> usize
     printing::push(out, at, &END)
 }
 
-// `0 0 path KEY VERSION OCTETS`
-pub fn path(out: &mut [u8], key: u64, version: u64, s: &[u8]) -> usize
+// `0 0 path KEY VERSION FORM OCTETS`
+pub fn path(out: &mut [u8], key: u64, version: u64, form: u64, s: &[u8]) -> usize
     requires { ⌜ 2 * length (now s) + short ≤ length (now out) ⌝ }
-    ensures told { λ r. ⌜ Behind (now (out .entry)) (now (out .exit)) 0 r (pathLine key version (now (s .entry))) ⌝ }
+    ensures told { λ r. ⌜ Behind (now (out .entry)) (now (out .exit)) 0 r (pathLine key version form (now (s .entry))) ⌝ }
     ensures within { λ r. ⌜ r ≤ 2 * length (now (s .entry)) + short ⌝ }
 {
     let at = printing::push(out, 0, b"0 0 path");
     let at = printing::field(out, at, key);
     let at = printing::field(out, at, version);
+    let at = printing::field(out, at, form);
     let at = printing::octets_field(out, at, s);
     printing::push(out, at, &END)
 }

@@ -3,7 +3,9 @@ use Prim.Native.Nat.{ℕ}
 use mathlib.Core.Bool.{Bool}
 use mathlib.Core.List.{List}
 use Rattle.session.specs.declared.Opened.{Opened}
-use Rattle.session.specs.declared.Session.{Session}
+use Rattle.session.specs.declared.Sessions.{Sessions}
+use Rattle.forms.specs.declared.Form.{Form}
+use Rattle.forms.specs.Forms.{formOf}
 use Rattle.positions.specs.declared.Setup.{Setup}
 use Rattle.open.specs.Open.{openOf}
 use Rattle.route_call.specs.Called.{judgedFor, segmentFor}
@@ -17,15 +19,15 @@ use Rattle.console_state.specs.Spelled.{octetsIn}
 unfoldable pub openIn : Setup → List ℕ → Opened
 openIn p line = openOf p (octetsIn line 1)
 
--- `ero PST OCTETS` · `rro PST OCTETS`: "judges a route under the session; a PST is any number, and none but 3 is 3"; `0 0 COUNT STRAY`.
+-- `ero PST OCTETS` · `rro PST OCTETS`: "judges a route under the session", that of the form which the PST names; "a PST is any number"; `0 0 COUNT STRAY`.
 -- The head end's addresses are those set by `addresses`.
-unfoldable pub routeLine : Bool → Session → List ℕ → Command → List ℕ → List ℕ
-routeLine ero session addresses c line = countLine (judgedFor (octetsIn line 2) ero session (c .one) addresses)
+unfoldable pub routeLine : Bool → Sessions → List ℕ → Command → List ℕ → List ℕ
+routeLine ero both addresses c line = countLine (judgedFor (octetsIn line 2) ero both (c .one) addresses)
 
--- a segment that was asked for, or the refusal
-unfoldable pub pickedLine : Picked → List ℕ
-pickedLine p = answerLine (p .verdict) (segmentLine (p .segment) (p .strays))
+-- a segment of a form that was asked for, or the refusal
+unfoldable pub pickedLine : Form → Picked → List ℕ
+pickedLine form p = answerLine (p .verdict) (segmentLine form (p .segment) (p .strays))
 
--- `ero-segment PST I OCTETS` · `rro-segment PST I OCTETS`: "asks for segment I of a route"; `0 0 L V NT BEHAVIOUR SID NAI STRUCTURE FLAGS SFLAGS RESERVED`
-unfoldable pub segmentAnswer : Bool → Session → List ℕ → Command → List ℕ → List ℕ
-segmentAnswer ero session addresses c line = pickedLine (segmentFor (octetsIn line 3) ero session (c .one) addresses (c .two))
+-- `ero-segment PST I OCTETS` · `rro-segment PST I OCTETS`: "asks for segment I of a route"; `0 0 L V NT BEHAVIOUR SID NAI STRUCTURE M C FLAGS SFLAGS RESERVED`
+unfoldable pub segmentAnswer : Bool → Sessions → List ℕ → Command → List ℕ → List ℕ
+segmentAnswer ero both addresses c line = pickedLine (formOf (c .one)) (segmentFor (octetsIn line 3) ero both (c .one) addresses (c .two))

@@ -5,7 +5,8 @@ ghost use mathlib.Core.Path.{_≡_};
 ghost use lib.ListN.{length, take};
 ghost use Rattle.printing.specs.Text.{Behind};
 ghost use Rattle.console_lines.specs.Lines.{short};
-ghost use Rattle.console_fields.specs.Shown.{long};
+ghost use Rattle.forms.specs.Forms.{formOf};
+ghost use Rattle.console_fields.specs.Shown.{long, segmentLine};
 ghost use Rattle.command_forms.specs.Forms.{mostSize};
 ghost use Rattle.console_state.specs.Rooms.{Spells};
 ghost use Rattle.console_state.specs.Standing.{listIn};
@@ -17,7 +18,9 @@ use command_forms::MOST_SIZE;
 use console_state::listed;
 use positions::Setup;
 use session::Opened;
-use session::Session;
+use session::Sessions;
+use subobject::Segment;
+use subobject::Strays;
 
 // `pcc OCTETS`, `pce OCTETS`: the answer to the OPEN of the line.
 pub fn heard(p: Setup, line: &[u8], room: &mut [u8]) -> Opened
@@ -33,19 +36,30 @@ pub fn judged(
     line: &[u8],
     c: Command,
     ero: bool,
-    session: Session,
+    both: Sessions,
     memory: &[u8],
     given: usize,
     room: &mut [u8],
     out: &mut [u8],
 ) -> usize
     requires { ⌜ Spells (now line) (now room) × (short ≤ length (now out)) ⌝ }
-    ensures told { λ r. ⌜ Behind (now (out .entry)) (now (out .exit)) 0 r (routeLine ero session (listIn given (now (memory .entry))) c (now (line .entry))) ⌝ }
+    ensures told { λ r. ⌜ Behind (now (out .entry)) (now (out .exit)) 0 r (routeLine ero both (listIn given (now (memory .entry))) c (now (line .entry))) ⌝ }
 {
     let n = octets_at(line, 2, room);
     let list = listed(memory, given);
-    let v = route_call::judge(&room[..n], ero, session, c.one, list);
+    let v = route_call::judge(&room[..n], ero, both, c.one, list);
     console_state::counted(out, v)
+}
+
+// The line of a segment of the form that a setup type names.
+fn shown(out: &mut [u8], pst: u64, g: Segment, x: Strays) -> usize
+    requires { ⌜ long ≤ length (now out) ⌝ }
+    ensures told { λ r. ⌜ Behind (now (out .entry)) (now (out .exit)) 0 r (segmentLine (formOf pst) g x) ⌝ }
+{
+    if pst == objects::MPLS_SETUP {
+        return console_fields::segment(out, forms::mpls(), g, x);
+    }
+    console_fields::segment(out, forms::srv6(), g, x)
 }
 
 // `ero-segment PST I OCTETS`, `rro-segment PST I OCTETS`
@@ -53,25 +67,25 @@ pub fn picked(
     line: &[u8],
     c: Command,
     ero: bool,
-    session: Session,
+    both: Sessions,
     memory: &[u8],
     given: usize,
     room: &mut [u8],
     out: &mut [u8],
 ) -> usize
     requires { ⌜ Spells (now line) (now room) × (long ≤ length (now out)) ⌝ }
-    ensures told { λ r. ⌜ Behind (now (out .entry)) (now (out .exit)) 0 r (segmentAnswer ero session (listIn given (now (memory .entry))) c (now (line .entry))) ⌝ }
+    ensures told { λ r. ⌜ Behind (now (out .entry)) (now (out .exit)) 0 r (segmentAnswer ero both (listIn given (now (memory .entry))) c (now (line .entry))) ⌝ }
 {
     let n = octets_at(line, 3, room);
     let list = listed(memory, given);
-    let p = route_call::segment(&room[..n], ero, session, c.one, list, c.two);
+    let p = route_call::segment(&room[..n], ero, both, c.one, list, c.two);
     let v = p.verdict;
     if v.number != 0 {
         return console_lines::refusal(out, v.number, v.place);
     }
     let g = p.segment;
     let x = p.strays;
-    console_fields::segment(out, g, x)
+    shown(out, c.one, g, x)
 }
 
 // `addresses OCTETS`: the list laid behind the writer's part, and its octets.

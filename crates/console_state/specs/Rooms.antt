@@ -14,7 +14,7 @@ pub record Rooms (line store memory room out : List ℕ) : Type 0 where
   pub spells : Spells line room
   -- "a new buffer of SIZE octets (0 to 65,536)"
   pub buffer : mostSize ≤ length memory
-  -- `0 0 path KEY VERSION OCTETS`
+  -- `0 0 path KEY VERSION FORM OCTETS`
   pub stored : 2 * length store + long ≤ length out
   -- `0 0 OCTETS`
   pub lent : 2 * mostSize + long ≤ length out

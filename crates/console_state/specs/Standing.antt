@@ -4,6 +4,7 @@ use mathlib.Core.Bool.{true}
 use mathlib.Core.List.{List, []}
 use lib.ListN.{take, drop, replicate}
 use Rattle.answers.specs.Numbers.{openMalformed}
+use Rattle.objects.specs.Objects.{srv6Setup}
 use Rattle.positions.specs.declared.Setup.{Setup}
 use Rattle.positions.specs.Positions.{firstTwo}
 use Rattle.command_forms.specs.Forms.{mostSize}
@@ -26,9 +27,9 @@ pub record Console : Type 0 where
   pub positions : Setup
   pub addresses : List ℕ
 
--- "the writer stands at place 0 of an ERO"
+-- "the writer stands at place 0 of an ERO", of SRv6
 abbrev pub writerAtStart : Writer
-writerAtStart = record { ero = true; at = 0 }
+writerAtStart = record { ero = true; at = 0; form = srv6Setup }
 
 -- "its store is 49,152 octets of 0"
 unfoldable pub storeAtStart : List ℕ
@@ -40,8 +41,8 @@ abbrev pub atStart : Console
 atStart = record {
   board = emptyBoard;
   store = storeAtStart;
-  pcc = openRefused openMalformed;
-  pce = openRefused openMalformed;
+  pcc = openRefused openMalformed 0;
+  pce = openRefused openMalformed 0;
   writer = writerAtStart;
   lent = [];
   positions = firstTwo;
@@ -72,7 +73,7 @@ consoleOf s store memory = record {
 -- ## States
 
 abbrev pub stateAtStart : State
-stateAtStart = record { board = emptyBoard; pcc = openRefused openMalformed; pce = openRefused openMalformed; writer = writerAtStart; size = 0; positions = firstTwo; given = 0 }
+stateAtStart = record { board = emptyBoard; pcc = openRefused openMalformed 0; pce = openRefused openMalformed 0; writer = writerAtStart; size = 0; positions = firstTwo; given = 0 }
 
 abbrev pub withBoard : State → Board → State
 withBoard s board = record { board = board; pcc = s .pcc; pce = s .pce; writer = s .writer; size = s .size; positions = s .positions; given = s .given }

@@ -22,9 +22,13 @@ pub fn start() -> State
 {
     State {
         board: board_record::empty(),
-        pcc: session::refused_open(answers::OPEN_MALFORMED),
-        pce: session::refused_open(answers::OPEN_MALFORMED),
-        writer: Writer { ero: true, at: 0 },
+        pcc: session::refused_open(answers::OPEN_MALFORMED, 0),
+        pce: session::refused_open(answers::OPEN_MALFORMED, 0),
+        writer: Writer {
+            ero: true,
+            at: 0,
+            form: objects::SRV6_SETUP as u8,
+        },
         size: 0,
         positions: positions::first_two(),
         given: 0,

@@ -3,8 +3,8 @@ use Prim.Native.Nat.{ℕ}
 use mathlib.Core.Path.{_≡_}
 use mathlib.Core.Bool.{true, false}
 use mathlib.Core.List.{List, []}
-use Rattle.session.specs.declared.Session.{Session}
-use Rattle.session.specs.Sessions.{sessionOf}
+use Rattle.session.specs.declared.Sessions.{Sessions}
+use Rattle.session.specs.Sessions.{sessionsOf}
 use Rattle.printing.specs.Text.{Behind}
 use Rattle.console_lines.specs.Lines.{badLine, doneLine}
 use Rattle.console_fields.specs.Shown.{openedLine}
@@ -28,7 +28,7 @@ pub record Turned : Type 0 where
 abbrev pub stays : Console → List ℕ → Turned
 stays k answer = record { console = k; answer = answer }
 
--- `pcc OCTETS`: "reads an OPEN object; its answer, a refusal too, becomes that side's half of the session"; `0 0 SRV6 N LIMIT A R V M`
+-- `pcc OCTETS`: "reads an OPEN object; its answer, a refusal too, becomes that side's half of the session"; `0 0 SRV6 N LIMIT A R V M MPLS MN MLIMIT`
 abbrev pub pccTurn : Console → List ℕ → Turned
 pccTurn k line = record {
   console = record { board = k .board; store = k .store; pcc = openIn (k .positions) line; pce = k .pce; writer = k .writer; lent = k .lent; positions = k .positions; addresses = k .addresses };
@@ -42,9 +42,9 @@ pceTurn k line = record {
   answer = openedLine (openIn (k .positions) line);
 }
 
--- "the session" of both halves
-abbrev pub agreedIn : Console → Session
-agreedIn k = sessionOf (k .pcc) (k .pce)
+-- "the session" of both halves, one for each form
+abbrev pub agreedIn : Console → Sessions
+agreedIn k = sessionsOf (k .pcc) (k .pce)
 
 -- What a command about the writer leaves, and its line.
 abbrev pub composes : Console → Composing → Turned
@@ -110,9 +110,9 @@ turnBy v.Rro k c line n = stays k (routeLine false (agreedIn k) (k .addresses) c
 turnBy v.EroSegment k c line n = stays k (segmentAnswer true (agreedIn k) (k .addresses) c line)
 -- `rro-segment PST I OCTETS`
 turnBy v.RroSegment k c line n = stays k (segmentAnswer false (agreedIn k) (k .addresses) c line)
--- `begin ero SIZE` · `begin rro SIZE`
+-- `begin ero PST SIZE` · `begin rro PST SIZE`
 turnBy v.Begin k c line n = composes k (beginTurn (k .writer) (k .lent) c)
--- `add L V NT BEHAVIOUR SID NAI STRUCTURE`: "adds a segment"
+-- `add L V NT BEHAVIOUR SID NAI STRUCTURE M C`: "adds a segment"
 turnBy v.Add k c line n = composes k (addTurn (k .writer) (k .lent) c line)
 -- `finish`: "finishes the route; the writer stays where it is"
 turnBy v.Finish k c line n = composes k (finishTurn (k .writer) (k .lent))

@@ -15,6 +15,7 @@ use Rattle.writer.specs.Writing.{beginNumber, beginAnswer, answered}
 use Rattle.words.specs.Words.{space, wordOf}
 use Rattle.decimal.specs.Decimal.{isNone, structureOf}
 use Rattle.command.specs.declared.Command.{Command}
+use Rattle.command.specs.Commands.{numberAt}
 use Rattle.console_writer.specs.Composing.{freshOctet, freshBuffer, sidIn, naiIn, segmentIn}
 
 -- ## The part of a memory that is lent
@@ -53,17 +54,18 @@ number-trial k size e = go (ltb size 4) refl where
   go false h = let l = ltb-false size 4 h in rw (h, le-ltb k 4 (omega arith))
 
 -- A begin in the first octets of 4 is answered as one in the new buffer.
-pub begin-trial : (b : List ℕ) (size : ℕ) (w : Writer) (ero : Bool) → length b ≡ min size 4 → beginAnswer b w ero ≡ beginAnswer (freshBuffer size) w ero
+pub begin-trial : (b : List ℕ) (size : ℕ) (w : Writer) (ero : Bool) (pst : ℕ) → length b ≡ min size 4
+    → beginAnswer b w ero pst ≡ beginAnswer (freshBuffer size) w ero pst
 unfolding beginAnswer
-begin-trial b size w ero e = rw (length-fresh size, number-trial (length b) size e)
+begin-trial b size w ero pst e = rw (length-fresh size, number-trial (length b) size e)
 
 refused-writer : (n : ℕ) (old new : Writer) → (answered n old new .verdict .number ≡ 0 → ⊥) → old ≡ answered n old new .writer
 refused-writer zero old new h = absurd (h refl)
 refused-writer (suc n) old new h = refl
 
-pub begin-keeps : (b : List ℕ) (w : Writer) (ero : Bool) → (beginAnswer b w ero .verdict .number ≡ 0 → ⊥) → w ≡ beginAnswer b w ero .writer
+pub begin-keeps : (b : List ℕ) (w : Writer) (ero : Bool) (pst : ℕ) → (beginAnswer b w ero pst .verdict .number ≡ 0 → ⊥) → w ≡ beginAnswer b w ero pst .writer
 unfolding beginAnswer
-begin-keeps b w ero h = refused-writer (beginNumber (length b)) w _ h
+begin-keeps b w ero pst h = refused-writer (beginNumber (length b)) w _ h
 
 pub kept-old : {A : Type 0} (n : ℕ) (old new : A) → (n ≡ 0 → ⊥) → old ≡ kept n old new
 kept-old zero old new h = absurd (h refl)
@@ -75,12 +77,14 @@ kept-new (suc n) old new h = absurd (omega arith)
 
 -- ## Add
 
-pub segment-made : (c : Command) (line : List ℕ) {sid nai structure : List ℕ} {bare plain : Bool}
+pub segment-made : (c : Command) (line : List ℕ) {sid nai structure : List ℕ} {bare plain : Bool} {m k : ℕ}
     → sid ≡ sidIn line
     → nai ≡ naiIn line
     → bare ≡ isNone (wordOf space line 5)
     → plain ≡ isNone (wordOf space line 7)
     → structure ≡ structureOf (wordOf space line 7)
+    → m ≡ numberAt line 8
+    → k ≡ numberAt line 9
     → record {
       loose = eqb (c .one) 1;
       verify = eqb (c .two) 1;
@@ -91,6 +95,8 @@ pub segment-made : (c : Command) (line : List ℕ) {sid nai structure : List ℕ
       nai = nai;
       structured = not plain;
       structure = structure;
+      labelled = eqb m 1;
+      complete = eqb k 1;
     } ≡ segmentIn c line
 unfolding segmentIn
-segment-made c line a b d e f = cc
+segment-made c line a b d e f g h = cc

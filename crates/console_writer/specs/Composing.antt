@@ -13,6 +13,7 @@ use Rattle.writer.specs.Writing.{beginAnswer, beginBuffer, addAnswer, addBuffer
 use Rattle.words.specs.Words.{space, wordOf}
 use Rattle.decimal.specs.Decimal.{isNone, structureOf}
 use Rattle.command.specs.declared.Command.{Command}
+use Rattle.command.specs.Commands.{numberAt}
 use Rattle.console_lines.specs.Lines.{oneLine, octetsLine}
 use Rattle.console_state.specs.Answers.{answerLine}
 use Rattle.console_state.specs.Spelled.{octetsIn}
@@ -37,18 +38,18 @@ freshOctet = 0xEE
 unfoldable pub freshBuffer : ℕ → List ℕ
 freshBuffer size = replicate size freshOctet
 
--- `begin ero SIZE` · `begin rro SIZE`: "lends the writer a new buffer of SIZE octets (0 to 65,536), each `EE`, and begins a route in it. Where that is
+-- `begin ero PST SIZE` · `begin rro PST SIZE`: "lends the writer a new buffer of SIZE octets (0 to 65,536), each `EE`, and begins a route in it. Where that is
 -- refused the writer keeps the buffer, the kind and the place that it had"; `0 0 4`
 abbrev pub beginTurn : Writer → List ℕ → Command → Composing
 beginTurn w lent c = record {
-  writer = beginAnswer (freshBuffer (c .two)) w (c .ero) .writer;
-  lent = kept (beginAnswer (freshBuffer (c .two)) w (c .ero) .verdict .number) lent (beginBuffer (freshBuffer (c .two)) w (c .ero));
-  answer = placeLine (beginAnswer (freshBuffer (c .two)) w (c .ero));
+  writer = beginAnswer (freshBuffer (c .three)) w (c .ero) (c .two) .writer;
+  lent = kept (beginAnswer (freshBuffer (c .three)) w (c .ero) (c .two) .verdict .number) lent (beginBuffer (freshBuffer (c .three)) w (c .ero));
+  answer = placeLine (beginAnswer (freshBuffer (c .three)) w (c .ero) (c .two));
 }
 
 -- ## Add
 
--- "SID 16 octets or `-`"
+-- "SID 1 to 16 octets, kept in 16 with 0 behind, or `-`"
 unfoldable pub sidIn : List ℕ → List ℕ
 sidIn line = over (octetsIn line 5) (replicate 16 0)
 
@@ -56,7 +57,7 @@ sidIn line = over (octetsIn line 5) (replicate 16 0)
 unfoldable pub naiIn : List ℕ → List ℕ
 naiIn line = over (octetsIn line 6) (replicate 40 0)
 
--- "L, V 0 or 1, NT 0 to 255, BEHAVIOUR 0 to 65,535, SID .., NAI .., STRUCTURE"
+-- "L, V 0 or 1, NT 0 to 255, BEHAVIOUR 0 to 65,535, SID .., NAI .., STRUCTURE"; "M, C 0 or 1"
 unfoldable pub segmentIn : Command → List ℕ → Segment
 segmentIn c line = record {
   loose = eqb (c .one) 1;
@@ -68,6 +69,8 @@ segmentIn c line = record {
   nai = naiIn line;
   structured = not (isNone (wordOf space line 7));
   structure = structureOf (wordOf space line 7);
+  labelled = eqb (numberAt line 8) 1;
+  complete = eqb (numberAt line 9) 1;
 }
 
 -- what the form of an `add` says of its words
@@ -77,7 +80,7 @@ pub record AddForm (c : Command) (line : List ℕ) : Type 0 where
   pub sid : length (octetsIn line 5) ≤ 16
   pub nai : length (octetsIn line 6) ≤ 40
 
--- `add L V NT BEHAVIOUR SID NAI STRUCTURE`: "adds a segment"; `0 0 AT`
+-- `add L V NT BEHAVIOUR SID NAI STRUCTURE M C`: "adds a segment"; `0 0 AT`
 abbrev pub addTurn : Writer → List ℕ → Command → List ℕ → Composing
 addTurn w lent c line = record {
   writer = addAnswer lent w (segmentIn c line) .writer;

@@ -1,4 +1,4 @@
-// `begin ero SIZE`, `begin rro SIZE`
+// `begin ero PST SIZE`, `begin rro PST SIZE`
 ghost use Prim.Native.Nat.{_≤_};
 ghost use mathlib.Core.Path.{_≡_};
 ghost use lib.ListN.{length, take};
@@ -27,12 +27,12 @@ fn fill(buffer: &mut [u8])
 }
 
 // A new buffer, and a route begun in it.
-fn fresh(part: &mut [u8], old: Writer, ero: bool) -> Written
-    ensures answer { λ r. ⌜ r ≡ beginAnswer (freshBuffer (length (now (part .entry)))) old ero ⌝ }
+fn fresh(part: &mut [u8], old: Writer, ero: bool, pst: u64) -> Written
+    ensures answer { λ r. ⌜ r ≡ beginAnswer (freshBuffer (length (now (part .entry)))) old ero pst ⌝ }
     ensures buffer { λ _. ⌜ now (part .exit) ≡ beginBuffer (freshBuffer (length (now (part .entry)))) old ero ⌝ }
 {
     fill(part);
-    writer::begin(part, old, ero)
+    writer::begin(part, old, ero, pst)
 }
 
 // A number as a size.
@@ -44,15 +44,15 @@ fn narrow(n: u64) -> usize
 
 // Whether a begin is refused is asked with a buffer of its own, so that the writer keeps what it had.
 pub fn begun(old: Writer, size: usize, c: Command, memory: &mut [u8], out: &mut [u8]) -> Composed
-    requires { ⌜ (c .two ≤ length (now memory)) × (short ≤ length (now out)) ⌝ }
+    requires { ⌜ (c .three ≤ length (now memory)) × (short ≤ length (now out)) ⌝ }
     ensures writer { λ r. ⌜ r .writer ≡ beginTurn old (take size (now (memory .entry))) c .writer ⌝ }
     ensures lent { λ r. ⌜ take (r .size) (now (memory .exit)) ≡ beginTurn old (take size (now (memory .entry))) c .lent ⌝ }
     ensures told { λ r. ⌜ Behind (now (out .entry)) (now (out .exit)) 0 (r .end) (beginTurn old (take size (now (memory .entry))) c .answer) ⌝ }
 {
-    let new = narrow(c.two);
+    let new = narrow(c.three);
     let mut trial = [0u8; 4];
     let k = fit(new, &trial);
-    let w = writer::begin(&mut trial[..k], old, c.ero);
+    let w = writer::begin(&mut trial[..k], old, c.ero, c.two);
     let v = w.verdict;
     if v.number != 0 {
         return Composed {
@@ -61,7 +61,7 @@ pub fn begun(old: Writer, size: usize, c: Command, memory: &mut [u8], out: &mut 
             end: placed(out, w),
         };
     }
-    let b = fresh(&mut memory[..new], old, c.ero);
+    let b = fresh(&mut memory[..new], old, c.ero, c.two);
     let writer = b.writer;
     Composed {
         writer: writer,

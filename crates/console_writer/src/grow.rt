@@ -1,4 +1,4 @@
-// `add L V NT BEHAVIOUR SID NAI STRUCTURE`
+// `add L V NT BEHAVIOUR SID NAI STRUCTURE M C`
 ghost use Prim.Native.Nat.{_≤_};
 ghost use mathlib.Core.Path.{_≡_};
 ghost use lib.ListN.{length, take};

@@ -1,4 +1,4 @@
-// The segment of a line `add L V NT BEHAVIOUR SID NAI STRUCTURE`.
+// The segment of a line `add L V NT BEHAVIOUR SID NAI STRUCTURE M C`.
 ghost use Prim.Native.Nat.{_≤_};
 ghost use mathlib.Core.Path.{_≡_};
 ghost use lib.ListN.{length};
@@ -6,6 +6,7 @@ ghost use Rattle.console_state.specs.Spelled.{octetsIn};
 ghost use Rattle.console_state.specs.Rooms.{Spells};
 ghost use Rattle.console_writer.specs.Composing.{sidIn, naiIn, segmentIn, AddForm};
 use command::Command;
+use command::number_at;
 use command::octets_at;
 use subobject::Segment;
 use words::SPACE;
@@ -34,6 +35,8 @@ pub fn segment_in(line: &[u8], c: Command, room: &mut [u8]) -> Segment
     ensures segment { λ r. ⌜ r ≡ segmentIn c (now (line .entry)) ⌝ }
     ensures room { λ _. ⌜ length (now (room .exit)) ≡ length (now (room .entry)) ⌝ }
 {
+    let labelled = number_at(line, 8) == 1;
+    let complete = number_at(line, 9) == 1;
     let sid = sid_in(line, room);
     let nai = nai_in(line, room);
     let structure = decimal::structure(word(line, SPACE, 7));
@@ -47,5 +50,7 @@ pub fn segment_in(line: &[u8], c: Command, room: &mut [u8]) -> Segment
         nai: nai,
         structured: !decimal::is_none(word(line, SPACE, 7)),
         structure: structure,
+        labelled: labelled,
+        complete: complete,
     }
 }

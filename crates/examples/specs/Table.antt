@@ -3,14 +3,14 @@ use Prim.Native.Nat.{ℕ}
 use mathlib.Core.Bool.{true, false}
 use mathlib.Core.List.{List, [], _∷_, _++_}
 use lib.ListN.{set}
-use Rattle.objects.specs.Objects.{srv6Setup}
+use Rattle.objects.specs.Objects.{mplsSetup, srv6Setup}
 use Rattle.answers.specs.declared.verdict.Verdict.{Verdict}
-use Rattle.answers.specs.Numbers.{wrongMsd, lengthWrong, nothingThere, structureTooLong, notAgreed}
+use Rattle.answers.specs.Numbers.{wrongMsd, lengthWrong, nothingThere, structureTooLong, noSrv6}
 use Rattle.answers.specs.Verdicts.{refusedBy, acceptedWith}
 use Rattle.session.specs.declared.Limit.the-variants.{Free, Most}
 use Rattle.session.specs.declared.Opened.{Opened}
-use Rattle.session.specs.declared.Session.{Session}
-use Rattle.session.specs.Sessions.{openRefused, openCarries, sessionOf}
+use Rattle.session.specs.declared.Sessions.{Sessions}
+use Rattle.session.specs.Sessions.{openRefused, openCarries, sessionsOf}
 use Rattle.msd.specs.Msd.{absent}
 use Rattle.positions.specs.Positions.{firstTwo}
 use Rattle.open.specs.Open.{openOf}
@@ -34,7 +34,7 @@ objectE =
 abbrev pub withBits : ℕ → ℕ → ℕ → ℕ → List ℕ
 withBits a b c d = set (set (set objectE 3 0x24) 5 0x20) 7 0x06 ++ a ∷ b ∷ c ∷ d ∷ 0x00 ∷ 0x00 ∷ 0x00 ∷ 0x00 ∷ []
 
--- An OPEN object to read, or an ERO to judge with a PST, under the session of O and O.
+-- An OPEN object to read, or an ERO to judge with a PST.
 pub data Example : Type 0 where
   opening : List ℕ → Example
   route : List ℕ → ℕ → Example
@@ -43,9 +43,10 @@ pub data Answer : Type 0 where
   opened : Opened → Answer
   judged : Verdict → Answer
 
-abbrev pub agreedO : Session
-agreedO = sessionOf (openOf firstTwo objectO) (openOf firstTwo objectO)
+abbrev pub agreedO : Sessions
+agreedO = sessionsOf (openOf firstTwo objectO) (openOf firstTwo objectO)
 
+-- Judged under the sessions of O and O.
 abbrev pub exampleAnswer : Example → Answer
 exampleAnswer (opening s) = opened (openOf firstTwo s)
 exampleAnswer (route s pst) = judged (judgedFor s true agreedO pst [])
@@ -56,7 +57,7 @@ examples =
     ∷ opening (set objectO 16 0x00)
     ∷ opening (set objectO 28 0x00)
     ∷ route objectE srv6Setup
-    ∷ route objectE 1
+    ∷ route objectE mplsSetup
     ∷ route (set objectE 7 0x03) srv6Setup
     ∷ route (set objectE 7 0x06) srv6Setup
     ∷ route (withBits 40 24 16 48) srv6Setup
@@ -64,15 +65,15 @@ examples =
     ∷ route (withBits 64 64 64 64) srv6Setup
     ∷ []
 
--- P1: "SRv6, N 0, limit 4", v 4 and no m; P2: "accepted without SRv6"; P3: "3"; P4: "one segment", not stray; P5: "13"; P6: "9 at 4"; P7: "7 at 4";
+-- P1: "SRv6, N 0, limit 4", v 4 and no m; P2: "accepted without SRv6"; P3: "3", of SRv6; P4: "one segment", not stray; P5: "14" (document 02, C-16); P6: "9 at 4"; P7: "7 at 4";
 -- P8: "pass"; P9: "11"; P10: "11".
 abbrev pub answers : List Answer
 answers =
     opened (openCarries true false (Most 4) false false 4 absent)
     ∷ opened (openCarries false false Free false false absent absent)
-    ∷ opened (openRefused wrongMsd)
+    ∷ opened (openRefused wrongMsd srv6Setup)
     ∷ judged (acceptedWith 1)
-    ∷ judged (refusedBy notAgreed 0)
+    ∷ judged (refusedBy noSrv6 0)
     ∷ judged (refusedBy nothingThere 4)
     ∷ judged (refusedBy lengthWrong 4)
     ∷ judged (acceptedWith 1)

@@ -16,18 +16,17 @@ use Rattle.board_record.proofs.Logic.{same?, from?}
 use Rattle.board_record.proofs.Search.{key-place-is, key-place-found}
 use Rattle.board_record.proofs.Proper.{proper-sound}
 use Rattle.board_rules.specs.Rules.{hasPath}
-use Rattle.board_rules.specs.Body.{octetsAt}
-use Rattle.follow.specs.Story.{beginning, Ordered, begun, held, last}
+use Rattle.follow.specs.Story.{Path, pathAt, beginning, Ordered, begun, held, last}
 
--- the octets at a place, or none where it is a removal
-abbrev pub octets : Table → List ℕ → ℕ → Option (List ℕ)
-octets b store i = cond (eqb (lengthAt b i) 0) none (some (octetsAt b store i))
+-- the path at a place, or none where it is a removal
+abbrev pub pathIn : Table → List ℕ → ℕ → Option Path
+pathIn b store i = cond (eqb (lengthAt b i) 0) none (some (pathAt b store i))
 
-pub octets-mark : (b : Table) (store : List ℕ) (i : ℕ) → lengthAt b i ≡ 0 → octets b store i ≡ none
-octets-mark b store i e = rw (eq-eqb (lengthAt b i) 0 e)
+pub path-mark : (b : Table) (store : List ℕ) (i : ℕ) → lengthAt b i ≡ 0 → pathIn b store i ≡ none
+path-mark b store i e = rw (eq-eqb (lengthAt b i) 0 e)
 
-pub octets-path : (b : Table) (store : List ℕ) (i : ℕ) → (lengthAt b i ≡ 0 → ⊥) → octets b store i ≡ some (octetsAt b store i)
-octets-path b store i n = rw (ne-eqb (lengthAt b i) 0 n)
+pub path-there : (b : Table) (store : List ℕ) (i : ℕ) → (lengthAt b i ≡ 0 → ⊥) → pathIn b store i ≡ some (pathAt b store i)
+path-there b store i n = rw (ne-eqb (lengthAt b i) 0 n)
 
 module _ (b : Table) (store : List ℕ) (p : Proper b) (k : ℕ) where
   -- a key has a place, or none
@@ -39,11 +38,11 @@ module _ (b : Table) (store : List ℕ) (p : Proper b) (k : ℕ) where
   unfolding last
   last-none l = rw (le-ltb (placeOf b k) places l)
 
-  held-at : placeOf b k < places → held (begun (beginning b store)) k ≡ octets b store (placeOf b k)
+  held-at : placeOf b k < places → held (begun (beginning b store)) k ≡ pathIn b store (placeOf b k)
   unfolding held hasPath
   held-at l = rw (lt-ltb (placeOf b k) places l) (go (eqb (lengthAt b (placeOf b k)) 0))
     where
-      go : (x : Bool) → cond (not x) (some (octetsAt b store (placeOf b k))) none ≡ cond x none (some (octetsAt b store (placeOf b k)))
+      go : (x : Bool) → cond (not x) (some (pathAt b store (placeOf b k))) none ≡ cond x none (some (pathAt b store (placeOf b k)))
       go true = refl
       go false = refl
 
@@ -60,7 +59,7 @@ module _ (b : Table) (store : List ℕ) (p : Proper b) (k : ℕ) where
       here : placeOf b k < places → held (begun (beginning b store)) k ≡ none
       here l =
           let s = proper-sound b p (placeOf b k) l in
-          ⊎-elim (λ e. held-at l ∙ octets-mark b store (placeOf b k) (s .none e .1)) (λ u. absurd (omega (arith, last-at l, s .low u))) (same? (keyAt b (placeOf b k)) 0)
+          ⊎-elim (λ e. held-at l ∙ path-mark b store (placeOf b k) (s .none e .1)) (λ u. absurd (omega (arith, last-at l, s .low u))) (same? (keyAt b (placeOf b k)) 0)
 
   pub begun-there : 0 < last (begun (beginning b store)) k → KeyPlace b k (placeOf b k) × Used b (placeOf b k) × (last (begun (beginning b store)) k ≡ versionAt b (placeOf b k))
   begun-there v =
@@ -79,11 +78,11 @@ module _ (b : Table) (store : List ℕ) (p : Proper b) where
   pub begun-zero : last (begun (beginning b store)) 0 ≡ 0
   begun-zero = ⊎-elim (last-none b store p 0) (λ l. last-at b store p 0 l ∙ proper-sound b p (placeOf b 0) l .none (key-place-is b 0 l .key) .0) (from? places (placeOf b 0))
 
-  pub begun-here : (i : ℕ) → i < places → Used b i → (last (begun (beginning b store)) (keyAt b i) ≡ versionAt b i) × (held (begun (beginning b store)) (keyAt b i) ≡ octets b store i)
+  pub begun-here : (i : ℕ) → i < places → Used b i → (last (begun (beginning b store)) (keyAt b i) ≡ versionAt b i) × (held (begun (beginning b store)) (keyAt b i) ≡ pathIn b store i)
   begun-here i l u =
       let e : placeOf b (keyAt b i) ≡ i = key-place-found b p (keyAt b i) i u (record { here = l; key = refl }) in
       let m : placeOf b (keyAt b i) < places = omega arith in
-      (last-at b store p (keyAt b i) m ∙ ap (versionAt b) e, held-at b store p (keyAt b i) m ∙ ap (octets b store) e)
+      (last-at b store p (keyAt b i) m ∙ ap (versionAt b) e, held-at b store p (keyAt b i) m ∙ ap (pathIn b store) e)
 
   -- a proper table and its store begin a story in order
   pub begun-ordered : Ordered (beginning b store)

@@ -16,42 +16,42 @@ use Rattle.board_record.proofs.Logic.{from?}
 use Rattle.board_record.proofs.Proper.{proper-sound}
 use Rattle.board_record.proofs.Search.{key-place-is, key-place-found}
 use Rattle.board_rules.specs.Rules.{inRange, hasPath}
-use Rattle.board_rules.specs.Body.{bodyRules, bodyNumber, octetsAt, bodyOf}
-use Rattle.follow.specs.Story.{Body, Story, held, last}
+use Rattle.board_rules.specs.Body.{bodyRules, bodyNumber, bodyOf, bodyForm}
+use Rattle.follow.specs.Story.{Path, pathAt, Story, held, last}
 use Rattle.follow.specs.Run.{World, start, run}
 use Rattle.follow.specs.Promise.{BodyGiven, BodiesAreThoseHeld}
 use Rattle.follow.proofs.Cases.{some≢none, some-one}
-use Rattle.follow.proofs.Begun.{octets, octets-mark, octets-path}
+use Rattle.follow.proofs.Begun.{pathIn, path-mark, path-there}
 use Rattle.follow.proofs.Keeps.{none-yet}
-use Rattle.follow.proofs.Table.{Stands, octets-none}
+use Rattle.follow.proofs.Table.{Stands, path-none}
 use Rattle.follow.proofs.Theorem.{Good, is-board, good-run, good-start}
 
--- a key that is held has a place of its own, with that body
-record Kept (b : Table) (store : List ℕ) (k : ℕ) (body : Body) : Type 0 where
+-- a key that is held has a place of its own, with that path
+record Kept (b : Table) (store : List ℕ) (k : ℕ) (path : Path) : Type 0 where
   place : placeOf b k < places
   low : keyLeast ≤ k
   high : k ≤ keyMost
   long : lengthAt b (placeOf b k) ≡ 0 → ⊥
-  octets-are : octetsAt b store (placeOf b k) ≡ body
+  path-is : pathAt b store (placeOf b k) ≡ path
 
-kept-at : (b : Table) (store : List ℕ) (h : Story) (k : ℕ) (body : Body) → Stands b store h → held h k ≡ some body → Kept b store k body
-kept-at b store h k body r e = ⊎-elim there (λ y. absurd (some≢none body (sym e ∙ y .0))) (r .there k changed)
+kept-at : (b : Table) (store : List ℕ) (h : Story) (k : ℕ) (path : Path) → Stands b store h → held h k ≡ some path → Kept b store k path
+kept-at b store h k path r e = ⊎-elim there (λ y. absurd (some≢none path (sym e ∙ y .0))) (r .there k changed)
   where
     changed : 0 < last h k
-    changed = ⊎-elim (λ l. absurd (some≢none body (sym e ∙ none-yet h (r .ordered) k l))) (λ l. l) (from? (last h k) 0)
+    changed = ⊎-elim (λ l. absurd (some≢none path (sym e ∙ none-yet h (r .ordered) k l))) (λ l. l) (from? (last h k) 0)
 
-    there : (i : ℕ) × (i < places) × (keyAt b i ≡ k) → Kept b store k body
+    there : (i : ℕ) × (i < places) × (keyAt b i ≡ k) → Kept b store k path
     there y =
         let u : Used b (y .0) = λ z. omega (arith, changed, r .zero-not, ap (last h) (sym (y .2) ∙ z)) in
         let q : placeOf b k ≡ y .0 = key-place-found b (r .proper) k (y .0) (λ z. u (y .2 ∙ z)) (record { here = y .1; key = y .2 }) in
-        let o : octets b store (y .0) ≡ some body = sym (r .here (y .0) (y .1) u .1) ∙ ap (held h) (y .2) ∙ e in
-        let n : lengthAt b (y .0) ≡ 0 → ⊥ = λ z. some≢none body (sym o ∙ octets-mark b store (y .0) z) in
+        let o : pathIn b store (y .0) ≡ some path = sym (r .here (y .0) (y .1) u .1) ∙ ap (held h) (y .2) ∙ e in
+        let n : lengthAt b (y .0) ≡ 0 → ⊥ = λ z. some≢none path (sym o ∙ path-mark b store (y .0) z) in
         record {
           place = omega (arith, y .1);
           low = omega (arith, u, y .2);
           high = omega (arith, proper-sound b (r .proper) (y .0) (y .1) .key, y .2);
           long = λ z. n (ap (lengthAt b) (sym q) ∙ z);
-          octets-are = ap (octetsAt b store) q ∙ some-one (octetsAt b store (y .0)) body (sym (octets-path b store (y .0) n) ∙ o);
+          path-is = ap (pathAt b store) q ∙ some-one (pathAt b store (y .0)) path (sym (path-there b store (y .0) n) ∙ o);
         }
 
 -- a key that is not held has no place, or that of a removal
@@ -63,7 +63,7 @@ no-path b store h k r low e = ⊎-elim (λ l. rw (le-ltb (placeOf b k) places l)
     at-place l =
         let y = key-place-is b k l in
         let g = r .here (placeOf b k) l (λ z. omega (arith, y .key)) in
-        let n : lengthAt b (placeOf b k) ≡ 0 = octets-none b store (placeOf b k) (sym (g .1) ∙ ap (held h) (y .key) ∙ e) in
+        let n : lengthAt b (placeOf b k) ≡ 0 = path-none b store (placeOf b k) (sym (g .1) ∙ ap (held h) (y .key) ∙ e) in
         rw (lt-ltb (placeOf b k) places l, eq-eqb (lengthAt b (placeOf b k)) 0 n)
 
 range-is : (k : ℕ) → keyLeast ≤ k → k ≤ keyMost → inRange k ≡ true
@@ -71,14 +71,14 @@ unfolding inRange
 range-is k l m = rw (le-leb keyLeast k l, le-leb k keyMost m)
 
 body-given : (x : World) → Good x → (k : ℕ) → BodyGiven x k
-unfolding bodyNumber bodyRules hasPath bodyOf
+unfolding bodyNumber bodyRules hasPath bodyOf bodyForm
 body-given x g k = record {
-  path = λ body e.
+  path = λ path e.
       let b = x .table in
-      let y = kept-at b (x .store) (x .story) k body (g .stands) e in
+      let y = kept-at b (x .store) (x .story) k path (g .stands) e in
       let n : bodyNumber b (x .store) k ≡ acceptedWith 0 =
       rw (is-board x g, range-is k (y .low) (y .high), lt-ltb (placeOf b k) places (y .place), ne-eqb (lengthAt b (placeOf b k)) 0 (y .long)) in
-      (n, rw n (y .octets-are));
+      (n, rw n (ap (λ (p : Path). p .octets) (y .path-is)), rw n (ap (λ (p : Path). p .form) (y .path-is)));
   no-path = λ e l m. rw (is-board x g, range-is k l m, no-path (x .table) (x .store) (x .story) k (g .stands) l e);
 }
 

@@ -13,26 +13,26 @@ use Rattle.board_record.specs.Proper.{Proper}
 use Rattle.board_record.proofs.Logic.{same?}
 use Rattle.board_record.proofs.Changed.{changed-sized}
 use Rattle.follow.specs.Story.{Deed, Story, did, keyOf, leaves, held, last}
-use Rattle.follow.proofs.Begun.{octets, octets-mark}
+use Rattle.follow.proofs.Begun.{pathIn, path-mark}
 use Rattle.follow.proofs.Keeps.{last-same, last-other, held-same, held-other}
 use Rattle.follow.proofs.Table.{Stands}
 
--- what is asked of a change c at place i to n octets, with floor f after it, and with the store st before and st′ after it
-pub record Fits (b : Table) (st st′ : List ℕ) (c : Deed) (i n f : ℕ) : Type 0 where
-  pub proper : Proper (changed b i (bearing b (keyOf c) n) f)
+-- what is asked of a change c at place i to n octets in form m, with floor f after it, and with the store st before and st′ after it
+pub record Fits (b : Table) (st st′ : List ℕ) (c : Deed) (i n m f : ℕ) : Type 0 where
+  pub proper : Proper (changed b i (bearing b (keyOf c) n m) f)
   pub place : i < places
   pub low : keyLeast ≤ keyOf c
   pub alone : (j : ℕ) → j < places → (i ≡ j → ⊥) → keyAt b j ≡ keyOf c → ⊥
   pub rises : b .floor ≤ f
   pub dropped : Used b i → (keyAt b i ≡ keyOf c → ⊥) → (lengthAt b i ≡ 0) × (versionAt b i ≤ f)
-  pub body : octets (changed b i (bearing b (keyOf c) n) f) st′ i ≡ leaves c
+  pub body : pathIn (changed b i (bearing b (keyOf c) n m) f) st′ i ≡ leaves c
   pub store : length st′ ≡ length st
-  pub others : (j : ℕ) → j < places → (i ≡ j → ⊥) → octets (changed b i (bearing b (keyOf c) n) f) st′ j ≡ octets b st j
+  pub others : (j : ℕ) → j < places → (i ≡ j → ⊥) → pathIn (changed b i (bearing b (keyOf c) n m) f) st′ j ≡ pathIn b st j
 
-module _ (b : Table) (st st′ : List ℕ) (h : Story) (c : Deed) (i n f : ℕ) (r : Stands b st h) (x : Fits b st st′ c i n f) where
+module _ (b : Table) (st st′ : List ℕ) (h : Story) (c : Deed) (i n m f : ℕ) (r : Stands b st h) (x : Fits b st st′ c i n m f) where
   -- the board after it
   abbrev b′ : Table
-  b′ = changed b i (bearing b (keyOf c) n) f
+  b′ = changed b i (bearing b (keyOf c) n m) f
 
   key-same : keyAt b′ i ≡ keyOf c
   key-same = getD-set-same (b .keys) i (keyOf c) 0 (omega (arith, x .place, r .sized .keys))
@@ -48,17 +48,17 @@ module _ (b : Table) (st st′ : List ℕ) (h : Story) (c : Deed) (i n f : ℕ) 
     ver-other = getD-set-other (b .versions) i j (b .version + 1) 0 (λ e. d (sym e))
 
   here-all : (j : ℕ) → j < places → Used b′ j →
-      (last (did c h) (keyAt b′ j) ≡ versionAt b′ j) × (held (did c h) (keyAt b′ j) ≡ octets b′ st′ j)
+      (last (did c h) (keyAt b′ j) ≡ versionAt b′ j) × (held (did c h) (keyAt b′ j) ≡ pathIn b′ st′ j)
   here-all j l z = ⊎-elim here-new here-old (same? i j)
     where
-      here-new : i ≡ j → (last (did c h) (keyAt b′ j) ≡ versionAt b′ j) × (held (did c h) (keyAt b′ j) ≡ octets b′ st′ j)
+      here-new : i ≡ j → (last (did c h) (keyAt b′ j) ≡ versionAt b′ j) × (held (did c h) (keyAt b′ j) ≡ pathIn b′ st′ j)
       here-new e =
           let k : keyAt b′ j ≡ keyOf c = ap (keyAt b′) (sym e) ∙ key-same in (
             last-same c h (keyAt b′ j) (sym k) ∙ omega (arith, r .version-is, ap (versionAt b′) (sym e) ∙ ver-same),
-            held-same c h (keyAt b′ j) (sym k) ∙ sym (x .body) ∙ ap (octets b′ st′) e,
+            held-same c h (keyAt b′ j) (sym k) ∙ sym (x .body) ∙ ap (pathIn b′ st′) e,
           )
 
-      here-old : (i ≡ j → ⊥) → (last (did c h) (keyAt b′ j) ≡ versionAt b′ j) × (held (did c h) (keyAt b′ j) ≡ octets b′ st′ j)
+      here-old : (i ≡ j → ⊥) → (last (did c h) (keyAt b′ j) ≡ versionAt b′ j) × (held (did c h) (keyAt b′ j) ≡ pathIn b′ st′ j)
       here-old d =
           let a : keyOf c ≡ keyAt b j → ⊥ = λ y. x .alone j l d (sym y) in
           let g = r .here j l (λ y. z (key-other j d ∙ y)) in (
@@ -75,17 +75,17 @@ module _ (b : Table) (st st′ : List ℕ) (h : Story) (c : Deed) (i n f : ℕ) 
       let u : Used b i = λ z. omega (arith, r .zero-not, last-other c h k d, ap (last h) (sym kk ∙ z)) in
       let g = r .here i (x .place) u in
       let o = x .dropped u (λ z. d (sym z ∙ kk)) in
-      inr (held-other c h k d ∙ ap (held h) (sym kk) ∙ g .1 ∙ octets-mark b st i (o .0), omega (arith, last-other c h k d, ap (last h) kk, g .0, o .1)))
+      inr (held-other c h k d ∙ ap (held h) (sym kk) ∙ g .1 ∙ path-mark b st i (o .0), omega (arith, last-other c h k d, ap (last h) kk, g .0, o .1)))
       (λ e. inl (y .0, y .1, key-other (y .0) e ∙ y .2))
       (same? i (y .0)))
       (λ y. inr (held-other c h k d ∙ y .0, omega (arith, last-other c h k d, y .1, x .rises)))
       (r .there k (omega (arith, last-other c h k d))))
       (same? (keyOf c) k)
 
-  pub stands-changed : Stands (changed b i (bearing b (keyOf c) n) f) st′ (did c h)
+  pub stands-changed : Stands (changed b i (bearing b (keyOf c) n m) f) st′ (did c h)
   stands-changed = record {
     proper = x .proper;
-    sized = changed-sized b i (bearing b (keyOf c) n) f (r .sized);
+    sized = changed-sized b i (bearing b (keyOf c) n m) f (r .sized);
     enough = omega (arith, x .store, r .enough);
     ordered = r .ordered;
     version-is = omega (arith, r .version-is);

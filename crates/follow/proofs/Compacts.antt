@@ -9,7 +9,7 @@ use mathlib.Core.Logic.{_⊎_, inl, inr, ⊎-elim}
 use lib.Dec.{leb}
 use borrow.Author.Tests.{leb-true}
 use Rattle.board_record.specs.Sizes.{places}
-use Rattle.board_record.specs.Table.{Table, keyAt, versionAt, lengthAt, Used, RemovalAt, removalB}
+use Rattle.board_record.specs.Table.{Table, keyAt, versionAt, lengthAt, formAt, Used, RemovalAt, removalB}
 use Rattle.octets.proofs.Said.{both-true}
 use Rattle.board_record.proofs.Search.{removal-is}
 use Rattle.board_rules.specs.Body.{octetsAt}
@@ -17,7 +17,7 @@ use Rattle.board_record.proofs.Lists.{length-row}
 use Rattle.board_rules.proofs.Keeps.{compacted-key, compacted-version, compacted-proper}
 use Rattle.board_rules.specs.Compact.{dropped, compacted}
 use Rattle.follow.specs.Story.{Story, compactedTo, held, last}
-use Rattle.follow.proofs.Begun.{octets, octets-mark}
+use Rattle.follow.proofs.Begun.{pathIn, path-mark}
 use Rattle.follow.proofs.Table.{Stands}
 
 -- ---- a place that is dropped, and one that is not
@@ -38,6 +38,10 @@ module _ (b : Table) (c i : ℕ) (l : i < places) where
   unfolding compacted
   len-is = refl
 
+  form-is : formAt (compacted b c) i ≡ formAt b i
+  unfolding compacted
+  form-is = refl
+
   away : dropped b c i ≡ true → (keyAt (compacted b c) i ≡ 0) × (versionAt (compacted b c) i ≡ 0)
   away e = (compacted-key b c i l ∙ rw e, compacted-version b c i l ∙ rw e)
 
@@ -50,18 +54,18 @@ module _ (b : Table) (c i : ℕ) (l : i < places) where
 -- ---- the table
 
 module _ (b : Table) (st : List ℕ) (h : Story) (c : ℕ) (r : Stands b st h) (top : c ≤ b .version) where
-  here-compacted : (i : ℕ) → i < places → Used (compacted b c) i → (last h (keyAt (compacted b c) i) ≡ versionAt (compacted b c) i) × (held h (keyAt (compacted b c) i) ≡ octets (compacted b c) st i)
+  here-compacted : (i : ℕ) → i < places → Used (compacted b c) i → (last h (keyAt (compacted b c) i) ≡ versionAt (compacted b c) i) × (held h (keyAt (compacted b c) i) ≡ pathIn (compacted b c) st i)
   unfolding octetsAt
   here-compacted i l u =
       let e = stays b c i l (used-stays b c i l u) in
       let g = r .here i l (λ z. u (e .0 ∙ z)) in
-      rw (e .0, e .1, len-is b c i l) g
+      rw (e .0, e .1, len-is b c i l, form-is b c i l) g
 
   there-compacted : (k : ℕ) → 0 < last h k → ((i : ℕ) × (i < places) × (keyAt (compacted b c) i ≡ k)) ⊎ ((held h k ≡ none) × (last h k ≤ max (b .floor) c))
   there-compacted k p = ⊎-elim
       (λ y. ⊎-elim
       (λ e. let m = drop-means b c (y .0) e in let g = r .here (y .0) (y .1) (m .0 .used) in
-      inr (ap (held h) (sym (y .2)) ∙ g .1 ∙ octets-mark b st (y .0) (m .0 .bare), omega (arith, ap (last h) (y .2), g .0, m .1)))
+      inr (ap (held h) (sym (y .2)) ∙ g .1 ∙ path-mark b st (y .0) (m .0 .bare), omega (arith, ap (last h) (y .2), g .0, m .1)))
       (λ e. inl (y .0, y .1, stays b c (y .0) (y .1) e .0 ∙ y .2))
       (drop-dec b c (y .0)))
       (λ y. inr (y .0, omega (arith, y .1)))
@@ -69,13 +73,19 @@ module _ (b : Table) (st : List ℕ) (h : Story) (c : ℕ) (r : Stands b st h) (
 
   pub stands-compact : Stands (compacted b c) st (compactedTo c h)
   unfolding compacted held last
-  stands-compact = record {
-    proper = compacted-proper b c (r .proper) top;
-    sized = record { keys = length-row (λ i. cond (dropped b c i) 0 (keyAt b i)) places; versions = length-row (λ i. cond (dropped b c i) 0 (versionAt b i)) places; lengths = r .sized .lengths };
-    enough = r .enough;
-    ordered = r .ordered;
-    version-is = r .version-is;
-    zero-not = r .zero-not;
-    here = here-compacted;
-    there = there-compacted;
-  }
+  stands-compact =
+      record {
+        proper = compacted-proper b c (r .proper) top;
+        sized = record {
+          keys = length-row (λ i. cond (dropped b c i) 0 (keyAt b i)) places;
+          versions = length-row (λ i. cond (dropped b c i) 0 (versionAt b i)) places;
+          lengths = r .sized .lengths;
+          forms = r .sized .forms;
+        };
+        enough = r .enough;
+        ordered = r .ordered;
+        version-is = r .version-is;
+        zero-not = r .zero-not;
+        here = here-compacted;
+        there = there-compacted;
+      }

@@ -18,12 +18,12 @@ use Rattle.board_record.proofs.Logic.{true≢false, same?, test-is}
 use Rattle.board_record.proofs.Proper.{proper-sound}
 use Rattle.board_record.proofs.Search.{used-is, is-used, floor-keeps, floor-takes, floor-drops}
 use Rattle.board_record.proofs.Lists.{count-same, count-full, count-less, hits-at, hits-where}
-use Rattle.follow.specs.Story.{Body, Story, held, last}
+use Rattle.follow.specs.Story.{Path, Story, held, last}
 use Rattle.follow.specs.Floor.{leastValue, isSome, standing, keyEnd, floorPut}
 use Rattle.follow.proofs.Cases.{none-of, or-cases, not-true-is-false}
-use Rattle.follow.proofs.Begun.{octets, octets-mark}
+use Rattle.follow.proofs.Begun.{pathIn, path-mark}
 use Rattle.follow.proofs.Keeps.{none-yet}
-use Rattle.follow.proofs.Table.{Stands, octets-none}
+use Rattle.follow.proofs.Table.{Stands, path-none}
 use Rattle.follow.proofs.Counts.{has, keys-count}
 
 -- ---- a key stands exactly if a place has it
@@ -32,7 +32,7 @@ module _ (b : Table) (store : List ℕ) (h : Story) (r : Stands b store h) where
   unfolding standing
   place-stands i l u = let g = r .here i l u in go (eqb (lengthAt b i) 0) refl (rw (g .1, g .0) refl)
     where
-      go : (x : Bool) → eqb (lengthAt b i) 0 ≡ x → standing h (b .floor) (keyAt b i) ≡ isSome (octets b store i) || ltb (b .floor) (versionAt b i) → standing h (b .floor) (keyAt b i) ≡ true
+      go : (x : Bool) → eqb (lengthAt b i) 0 ≡ x → standing h (b .floor) (keyAt b i) ≡ isSome (pathIn b store i) || ltb (b .floor) (versionAt b i) → standing h (b .floor) (keyAt b i) ≡ true
       go true e q = q ∙ rw (e, lt-ltb (b .floor) (versionAt b i) (proper-sound b (r .proper) i l .mark u (eqb-true _ _ e)))
       go false e q = q ∙ rw e
 
@@ -40,7 +40,7 @@ module _ (b : Table) (store : List ℕ) (h : Story) (r : Stands b store h) where
   unfolding standing
   stands-last k e = go (held h k) refl (or-cases (isSome (held h k)) _ e)
     where
-      go : (o : Option Body) → held h k ≡ o → (isSome (held h k) ≡ true) ⊎ (ltb (b .floor) (last h k) ≡ true) → (0 < last h k) × (held h k ≡ none → b .floor < last h k)
+      go : (o : Option Path) → held h k ≡ o → (isSome (held h k) ≡ true) ⊎ (ltb (b .floor) (last h k) ≡ true) → (0 < last h k) × (held h k ≡ none → b .floor < last h k)
       go o p (inr q) = let l = ltb-true (b .floor) (last h k) q in (omega arith, λ z. l)
       go none p (inl q) = absurd (true≢false (sym q ∙ ap isSome p))
       go (some c) p (inl q) = (pos (leb (last h k) 0) refl, λ z. absurd (true≢false (sym q ∙ ap isSome z)))
@@ -120,15 +120,15 @@ module _ (b : Table) (store : List ℕ) (h : Story) (r : Stands b store h) (k i 
   unfolding mark?
   oldest-mark u e a =
       let g = r .here i l u in
-      let t : mark? (keyAt b i) ≡ true = rw (place-stands b store h r i l u, g .1, octets-mark b store i e) in
+      let t : mark? (keyAt b i) ≡ true = rw (place-stands b store h r i l u, g .1, path-mark b store i e) in
       least-value mark? (last h) mark-pos keyEnd (keyAt b i) (omega (arith, proper-sound b (r .proper) i l .key)) t
       (λ j m q.
       let p = both-true (standing h (b .floor) j) _ q in
       let y = stands-place b store h r j (p .0) in
       let v : keyAt b (y .0) ≡ 0 → ⊥ = λ z. stands-not-zero b store h r j (p .0) (sym (y .2) ∙ z) in
       let d = r .here (y .0) (y .1) v in
-      let w : octets b store (y .0) ≡ none = sym (d .1) ∙ ap (held h) (y .2) ∙ none-of (held h j) (not-true (isSome (held h j)) (p .1)) in
-      omega (arith, a (y .0) (y .1) (octets-none b store (y .0) w), g .0, d .0, ap (last h) (y .2)))
+      let w : pathIn b store (y .0) ≡ none = sym (d .1) ∙ ap (held h) (y .2) ∙ none-of (held h j) (not-true (isSome (held h j)) (p .1)) in
+      omega (arith, a (y .0) (y .1) (path-none b store (y .0) w), g .0, d .0, ap (last h) (y .2)))
       ∙ g .0
 
   pub floor-put : ReportPlace b k i → floorAfter b k i ≡ floorPut h (b .floor) k

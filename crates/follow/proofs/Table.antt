@@ -18,11 +18,10 @@ use Rattle.board_record.specs.Proper.{Proper}
 use Rattle.board_record.proofs.Logic.{same?}
 use Rattle.board_record.proofs.Search.{wanted-used}
 use Rattle.board_record.proofs.Search as searches
-use Rattle.board_rules.specs.Body.{octetsAt}
-use Rattle.follow.specs.Story.{Story, beginning, Ordered, begun, beginningOf, version, held, last}
+use Rattle.follow.specs.Story.{Story, pathAt, beginning, Ordered, begun, beginningOf, version, held, last}
 use Rattle.follow.specs.Follower.{Lacks, Oldest}
 use Rattle.follow.proofs.Cases.{some≢none}
-use Rattle.follow.proofs.Begun.{octets, octets-mark, begun-zero, begun-here, begun-there, begun-ordered}
+use Rattle.follow.proofs.Begun.{pathIn, path-mark, begun-zero, begun-here, begun-there, begun-ordered}
 
 -- A used place holds its key's last change. A key that was changed has a place, or its removal was dropped at or below the floor.
 pub record Stands (b : Table) (store : List ℕ) (h : Story) : Type 0 where
@@ -32,15 +31,15 @@ pub record Stands (b : Table) (store : List ℕ) (h : Story) : Type 0 where
   pub ordered : Ordered (beginningOf h)
   pub version-is : b .version ≡ version h
   pub zero-not : last h 0 ≡ 0
-  pub here : (i : ℕ) → i < places → Used b i → (last h (keyAt b i) ≡ versionAt b i) × (held h (keyAt b i) ≡ octets b store i)
+  pub here : (i : ℕ) → i < places → Used b i → (last h (keyAt b i) ≡ versionAt b i) × (held h (keyAt b i) ≡ pathIn b store i)
   pub there : (k : ℕ) → 0 < last h k → ((i : ℕ) × (i < places) × (keyAt b i ≡ k)) ⊎ ((held h k ≡ none) × (last h k ≤ b .floor))
 
-pub octets-none : (b : Table) (store : List ℕ) (i : ℕ) → octets b store i ≡ none → lengthAt b i ≡ 0
-octets-none b store i e = go (eqb (lengthAt b i) 0) refl e
+pub path-none : (b : Table) (store : List ℕ) (i : ℕ) → pathIn b store i ≡ none → lengthAt b i ≡ 0
+path-none b store i e = go (eqb (lengthAt b i) 0) refl e
   where
-    go : (x : Bool) → eqb (lengthAt b i) 0 ≡ x → cond x none (some (octetsAt b store i)) ≡ none → lengthAt b i ≡ 0
+    go : (x : Bool) → eqb (lengthAt b i) 0 ≡ x → cond x none (some (pathAt b store i)) ≡ none → lengthAt b i ≡ 0
     go true p q = eqb-true (lengthAt b i) 0 p
-    go false p q = absurd (some≢none (octetsAt b store i) q)
+    go false p q = absurd (some≢none (pathAt b store i) q)
 
 -- ---- the next change
 
@@ -48,7 +47,7 @@ module _ (b : Table) (store : List ℕ) (h : Story) (s w : ℕ) (r : Stands b st
   -- a place is wanted exactly if its key's last change is lacked
   wanted-lacks : (i : ℕ) → i < places → Wanted b s w i → Lacks h s w (keyAt b i)
   wanted-lacks i l (path p v) = let g = r .here i l (p .used) in
-      record { newer = omega (arith, g .0); needed = λ z. absurd (p .body (octets-none b store i (sym (g .1) ∙ z))) }
+      record { newer = omega (arith, g .0); needed = λ z. absurd (p .body (path-none b store i (sym (g .1) ∙ z))) }
   wanted-lacks i l (removal p v u) = let g = r .here i l (p .used) in
       record { newer = omega (arith, g .0); needed = λ z. omega (arith, g .0) }
 
@@ -56,7 +55,7 @@ module _ (b : Table) (store : List ℕ) (h : Story) (s w : ℕ) (r : Stands b st
   lacks-wanted i l n x =
       let g = r .here i l n in
       ⊎-elim
-      (λ e. removal (record { used = n; bare = e }) (omega (arith, x .newer, g .0)) (omega (arith, g .0, x .needed (g .1 ∙ octets-mark b store i e))))
+      (λ e. removal (record { used = n; bare = e }) (omega (arith, x .newer, g .0)) (omega (arith, g .0, x .needed (g .1 ∙ path-mark b store i e))))
       (λ e. path (record { used = n; body = e }) (omega (arith, x .newer, g .0)))
       (same? (lengthAt b i) 0)
 
@@ -78,7 +77,7 @@ module _ (b : Table) (store : List ℕ) (h : Story) (s w : ℕ) (r : Stands b st
 
   -- a place is found: it holds the oldest change that is lacked
   pub oldest-lacked : b .floor ≤ max s w → nextOf b s w < places
-      → Oldest h s w (keyAt b (nextOf b s w)) (versionAt b (nextOf b s w)) × (held h (keyAt b (nextOf b s w)) ≡ octets b store (nextOf b s w))
+      → Oldest h s w (keyAt b (nextOf b s w)) (versionAt b (nextOf b s w)) × (held h (keyAt b (nextOf b s w)) ≡ pathIn b store (nextOf b s w))
   oldest-lacked f n =
       let c = searches.next-is b s w n in
       let i = nextOf b s w in

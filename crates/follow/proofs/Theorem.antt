@@ -14,14 +14,14 @@ use borrow.Author.Tests.{ne-eqb, lt-ltb, le-ltb}
 use Rattle.answers.specs.Numbers.{markTooOld, notUsable}
 use Rattle.answers.specs.Verdicts.{refusedBy, acceptedWith, kept}
 use Rattle.board_record.specs.Sizes.{places, storeSize}
-use Rattle.board_record.specs.Table.{Table, emptyTable, keyAt, versionAt, lengthAt}
+use Rattle.board_record.specs.Table.{Table, emptyTable, keyAt, versionAt, lengthAt, formAt}
 use Rattle.board_record.specs.Search.{targetOf, nextOf}
 use Rattle.board_record.proofs.Logic.{from?}
 use Rattle.board_record.proofs.Proper.{empty-sized, empty-proper}
 use Rattle.board_record.proofs.Search.{report-place-is}
 use Rattle.board_rules.specs.Rules.{Outcome, outcomeOf, isBoard}
 use Rattle.board_rules.proofs.Verdicts.{whole-board, report-passed, remove-passed, compact-passed}
-use Rattle.board_rules.proofs.Keeps.{reported-proper, removed-proper}
+use Rattle.board_rules.proofs.Keeps.{least-some, body-fits, reported-proper, removed-proper}
 use Rattle.board_rules.specs.Body.{octetsAt}
 use Rattle.board_rules.specs.Report.{bodyIn, reportVerdict, reportWith, storeWith, reported, reportAnswer, reportStore}
 use Rattle.board_rules.specs.Remove.{removeVerdict, removeAnswer, removed}
@@ -29,19 +29,20 @@ use Rattle.board_rules.specs.Compact.{compactVerdict, compactAnswer, compacted}
 use Rattle.board_rules.specs.declared.answer.Handed.the-variants.{Path, Removed}
 use Rattle.board_rules.specs.Next.{nextRules, nextVerdict, changeAt, handedAt, nextAnswer}
 use Rattle.session.specs.declared.Session.{Session}
+use Rattle.session.specs.declared.Sessions.{Sessions}
+use Rattle.session.specs.Sessions.{sessionUnder}
 use Rattle.route.specs.Routes.{judgeOf}
 use Rattle.route_limit.specs.FirstOff.{sessionFor}
 use Rattle.route_call.specs.Called.{rule28}
 use Rattle.report_call.specs.Reported.{reportFor, reportStoreFor}
-use Rattle.route.proofs.Answer.{accepted-body}
-use Rattle.follow.specs.Story.{Deed, sets, clears, Story, beginning, Ordered, begun, did, compactedTo, beginningOf, version, keyOf, leaves, held, last}
+use Rattle.follow.specs.Story.{Deed, pathAt, sets, clears, Story, beginning, Ordered, begun, did, compactedTo, beginningOf, version, keyOf, leaves, held, last}
 use Rattle.follow.specs.Floor.{floorOf, floorPut}
 use Rattle.follow.specs.Follower.{Follower, fresh, makes, levels, Keeps}
 use Rattle.follow.specs.Heard.{Heard, refusal, change, level, heardIn, does, cutOff}
-use Rattle.follow.specs.Run.{World, Act, report, remove, compact, begin, ask, askCut, told, answerTo, following, step, run, start, allFresh}
+use Rattle.follow.specs.Run.{World, Act, reportedPath, report, remove, compact, begin, ask, askCut, told, answerTo, following, step, run, start, allFresh}
 use Rattle.follow.specs.Promise.{Answered, Ready, KeptBy, NoFollowerIsFooled, NumbersAreTheStorys}
 use Rattle.follow.proofs.Cases.{cases}
-use Rattle.follow.proofs.Begun.{octets, begun-le, begun-none, begun-ordered}
+use Rattle.follow.proofs.Begun.{pathIn, begun-le, begun-none, begun-ordered}
 use Rattle.follow.proofs.Keeps.{has, keeps-fresh, keeps-change, keeps-compact, keeps-made, keeps-half, keeps-level}
 use Rattle.follow.proofs.Owed.{Owed, old, next, done, answered-of, answered-determined}
 use Rattle.follow.proofs.Table.{Stands, none-lacked, oldest-lacked, stands-begun}
@@ -70,19 +71,19 @@ is-board x g = whole-board (x .table) (length (x .store)) (record { store = g .s
 
 -- the change at a place, as a follower reads it
 abbrev readAt : Table → List ℕ → ℕ → Deed
-readAt b store i = cond (eqb (lengthAt b i) 0) (clears (keyAt b i)) (sets (keyAt b i) (octetsAt b store i))
+readAt b store i = cond (eqb (lengthAt b i) 0) (clears (keyAt b i)) (sets (keyAt b i) (pathAt b store i))
 
 read-key : (b : Table) (store : List ℕ) (i : ℕ) → keyOf (readAt b store i) ≡ keyAt b i
 read-key b store i = go (eqb (lengthAt b i) 0)
   where
-    go : (t : Bool) → keyOf (cond t (clears (keyAt b i)) (sets (keyAt b i) (octetsAt b store i))) ≡ keyAt b i
+    go : (t : Bool) → keyOf (cond t (clears (keyAt b i)) (sets (keyAt b i) (pathAt b store i))) ≡ keyAt b i
     go true = refl
     go false = refl
 
-read-body : (b : Table) (store : List ℕ) (i : ℕ) → leaves (readAt b store i) ≡ octets b store i
+read-body : (b : Table) (store : List ℕ) (i : ℕ) → leaves (readAt b store i) ≡ pathIn b store i
 read-body b store i = go (eqb (lengthAt b i) 0)
   where
-    go : (t : Bool) → leaves (cond t (clears (keyAt b i)) (sets (keyAt b i) (octetsAt b store i))) ≡ cond t none (some (octetsAt b store i))
+    go : (t : Bool) → leaves (cond t (clears (keyAt b i)) (sets (keyAt b i) (pathAt b store i))) ≡ cond t none (some (pathAt b store i))
     go true = refl
     go false = refl
 
@@ -93,8 +94,8 @@ heard-change b store i l = rw (lt-ltb i places l) (go (eqb (lengthAt b i) 0))
     go : (t : Bool)
         → heardIn store
         (cond t (Removed (record { key = keyAt b i; version = versionAt b i }))
-        (Path (record { key = keyAt b i; version = versionAt b i }) (record { place = i; length = lengthAt b i })))
-        ≡ change (cond t (clears (keyAt b i)) (sets (keyAt b i) (octetsAt b store i))) (versionAt b i)
+        (Path (record { key = keyAt b i; version = versionAt b i }) (record { place = i; length = lengthAt b i; form = formAt b i })))
+        ≡ change (cond t (clears (keyAt b i)) (sets (keyAt b i) (pathAt b store i))) (versionAt b i)
     go true = refl
     go false = refl
 
@@ -161,7 +162,7 @@ kept-same (suc n) s = refl
 
 good-under : (x : World) (k : ℕ) (ero : List ℕ) (session : Session) (pst : ℕ) → Good x
     → (let a = reportAnswer (x .table) (x .store) k ero session pst in
-    InStep (a .table) (reportStore (x .table) (x .store) k ero session pst) (told a (did (sets k (bodyIn ero)) (x .story)) (x .story)))
+    InStep (a .table) (reportStore (x .table) (x .store) k ero session pst) (told a (did (sets k (reportedPath ero pst)) (x .story)) (x .story)))
 unfolding reportAnswer reportStore reportWith storeWith reported floorOf
 good-under x k ero session pst g =
     let route = judgeOf ero true session pst in
@@ -169,26 +170,26 @@ good-under x k ero session pst g =
     by-number InStep (reportVerdict b (x .store) k ero route .number) b _ (x .store) _ (x .story) _ g
     (λ e.
     let t = report-passed b (x .store) k ero route e in
-    let s = accepted-body ero true session pst (t .route-taken) in
-    let p = reported-proper b (x .store) k ero route (g .stands .sized) (record { least = s .0; four = s .1 }) e in
+    let s = body-fits ero session pst (t .route-taken) in
+    let p = reported-proper b (x .store) k ero route pst (g .stands .sized) s e in
     record {
-      stands = stands-report b (x .store) (x .story) k (bodyIn ero) (g .stands) (t .key-least) (s .0) (t .size) (t .place) p;
+      stands = stands-report b (x .store) (x .story) k (bodyIn ero) pst (g .stands) (t .key-least) (omega (arith, least-some pst, s .least)) (t .size) (t .place) p;
       floor-is =
           floor-put b (x .store) (x .story) (g .stands) k (targetOf b k) (t .place) (t .key-least) (report-place-is b k (t .place))
           ∙ ap (λ (m : ℕ). floorPut (x .story) m k) (g .floor-is);
     })
 
--- 28 leaves all as it was; else it is the report under the limit for this route
-good-report : (x : World) (k : ℕ) (ero : List ℕ) (session : Session) (pst : ℕ) (addresses : List ℕ) → Good x → Good (step x (report k ero session pst addresses))
+-- 28 leaves all as it was; else it is the report in the session of its form, under the limit for this route
+good-report : (x : World) (k : ℕ) (ero : List ℕ) (both : Sessions) (pst : ℕ) (addresses : List ℕ) → Good x → Good (step x (report k ero both pst addresses))
 unfolding step reportFor reportStoreFor
-good-report x k ero session pst addresses g = go (rule28 addresses)
+good-report x k ero both pst addresses g = go (rule28 addresses)
   where
     go : (b : Bool)
-        → (let under = sessionFor ero true session addresses in
+        → (let under = sessionFor ero true (sessionUnder both pst) addresses in
         let a = cond b (outcomeOf (refusedBy notUsable 0) (x .table)) (reportAnswer (x .table) (x .store) k ero under pst) in
-        InStep (a .table) (cond b (x .store) (reportStore (x .table) (x .store) k ero under pst)) (told a (did (sets k (bodyIn ero)) (x .story)) (x .story)))
+        InStep (a .table) (cond b (x .store) (reportStore (x .table) (x .store) k ero under pst)) (told a (did (sets k (reportedPath ero pst)) (x .story)) (x .story)))
     go true = g
-    go false = good-under x k ero (sessionFor ero true session addresses) pst g
+    go false = good-under x k ero (sessionFor ero true (sessionUnder both pst) addresses) pst g
 
 good-remove : (x : World) (k : ℕ) → Good x → Good (step x (remove k))
 unfolding step removeAnswer removed floorOf
@@ -216,7 +217,7 @@ good-compact x c g =
 
 good-step : (x : World) (a : Act) → Good x → Good (step x a)
 unfolding step
-good-step x (report k ero session pst addresses) g = good-report x k ero session pst addresses g
+good-step x (report k ero both pst addresses) g = good-report x k ero both pst addresses g
 good-step x (remove k) g = good-remove x k g
 good-step x (compact c) g = good-compact x c g
 good-step x (begin n) g = g
@@ -255,8 +256,8 @@ keeps-following x n f r k m = cases (Keeps (x .story)) (eqb m n) f (x .followers
 
 keeps-step : (x : World) (a : Act) → Good x → AllKeep x → AllKeep (step x a)
 unfolding step
-keeps-step x (report k ero session pst addresses) g r n =
-    keeps-told (reportFor (x .table) (x .store) k ero session pst addresses) _ (x .story) (x .followers n) (keeps-change (sets k (bodyIn ero)) (x .story) (x .followers n)) (r n)
+keeps-step x (report k ero both pst addresses) g r n =
+    keeps-told (reportFor (x .table) (x .store) k ero both pst addresses) _ (x .story) (x .followers n) (keeps-change (sets k (reportedPath ero pst)) (x .story) (x .followers n)) (r n)
 keeps-step x (remove k) g r n =
     keeps-told (removeAnswer (x .table) (x .store) k) _ (x .story) (x .followers n) (keeps-change (clears k) (x .story) (x .followers n)) (r n)
 keeps-step x (compact c) g r n =

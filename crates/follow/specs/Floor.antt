@@ -8,7 +8,7 @@ use mathlib.Core.Option.{Option, none, some}
 use lib.Dec.{eqb, ltb, leb}
 use Rattle.board_record.specs.Sizes.{places, keyMost}
 use Rattle.board_record.specs.Lists.{countBelow}
-use Rattle.follow.specs.Story.{Body, sets, clears, Story, begun, did, compactedTo, held, last}
+use Rattle.follow.specs.Story.{Path, sets, clears, Story, begun, did, compactedTo, held, last}
 
 -- the smaller of two numbers, where 0 stands for none
 abbrev pub lesser : ℕ → ℕ → ℕ
@@ -19,9 +19,9 @@ unfoldable pub leastValue : (ℕ → Bool) → (ℕ → ℕ) → ℕ → ℕ
 leastValue t v zero = 0
 leastValue t v (suc n) = cond (t n) (lesser (leastValue t v n) (v n)) (leastValue t v n)
 
-abbrev pub isSome : Option Body → Bool
+abbrev pub isSome : Option Path → Bool
 isSome none = false
-isSome (some body) = true
+isSome (some path) = true
 
 -- key k stands on the table with floor f: it has a path, or a removal above f
 unfoldable pub standing : Story → ℕ → ℕ → Bool
@@ -41,6 +41,6 @@ floorPut h f k = cond (standing h f k) f (cond (ltb (countBelow (standing h f) k
 
 unfoldable pub floorOf : Story → ℕ
 floorOf (begun o) = o .floor
-floorOf (did (sets k body) h) = floorPut h (floorOf h) k
+floorOf (did (sets k path) h) = floorPut h (floorOf h) k
 floorOf (did (clears k) h) = floorOf h
 floorOf (compactedTo c h) = max (floorOf h) c

@@ -15,10 +15,10 @@ pub data Heard : Type 0 where
   change : Deed → ℕ → Heard
   level : ℕ → Heard
 
--- "a path's octets are named by place and length": it reads them from the store
+-- "a path's octets are named by place and length": it reads them from the store; the form comes with them
 abbrev pub heardIn : List ℕ → Handed → Heard
 heardIn store (Refused v) = refusal (v .number)
-heardIn store (Path c o) = change (sets (c .key) (part store (room * o .place) (o .length))) (c .version)
+heardIn store (Path c o) = change (sets (c .key) (record { form = o .form; octets = part store (room * o .place) (o .length) })) (c .version)
 heardIn store (Removed c) = change (clears (c .key)) (c .version)
 heardIn store (Level v) = level v
 

@@ -1,8 +1,8 @@
 -- No follower is fooled.
 --
 -- A follower asks. It is refused as too old exactly if its mark lies below the floor of the story, and never with another number. Else it is
--- handed the oldest change that it lacks, with its key, its version and its octets; or it is told that it is level, exactly if it lacks none;
--- and told so, it holds exactly the paths last reported and not removed since, octet for octet, for every key.
+-- handed the oldest change that it lacks, with its key, its version, its form and its octets; or it is told that it is level, exactly if it lacks none;
+-- and told so, it holds exactly the paths last reported and not removed since, in their form and octet for octet, for every key.
 use Prim.Native.Nat.{ℕ, _≤_, _<_, max}
 use mathlib.Core.Path.{_≡_}
 use mathlib.Core.List.{List}
@@ -14,8 +14,8 @@ use Rattle.answers.specs.Verdicts.{refusedBy, acceptedWith}
 use Rattle.board_record.specs.Sizes.{storeSize, keyLeast, keyMost}
 use Rattle.board_record.specs.Table.{Table, Sized}
 use Rattle.board_record.specs.Proper.{Proper}
-use Rattle.board_rules.specs.Body.{bodyNumber, bodyOf}
-use Rattle.follow.specs.Story.{Body, Deed, Story, keyOf, leaves, beginning, begun, version, held}
+use Rattle.board_rules.specs.Body.{bodyNumber, bodyOf, bodyForm}
+use Rattle.follow.specs.Story.{Path, Deed, Story, keyOf, leaves, beginning, begun, version, held}
 use Rattle.follow.specs.Floor.{floorOf}
 use Rattle.follow.specs.Follower.{Follower, Keeps, Lacks, Oldest}
 use Rattle.follow.specs.Heard.{Heard, refusal, change, level}
@@ -27,7 +27,7 @@ pub record Answered (h : Story) (f : Follower) (a : Heard) : Type 0 where
   pub too-old : (a ≡ refusal markTooOld) ↔ (max (f .s) (f .w) < floorOf h)
   -- no refusal has another number
   pub no-other : (n : ℕ) → a ≡ refusal n → n ≡ markTooOld
-  -- a change handed out is the oldest that it lacks, with that change's key, version and octets
+  -- a change handed out is the oldest that it lacks, with that change's key, version, form and octets
   pub handed : (c : Deed) (v : ℕ) → a ≡ change c v → Oldest h (f .s) (f .w) (keyOf c) v × (leaves c ≡ held h (keyOf c))
   -- level exactly if it is not too old and lacks none, with the story's version
   pub level-if : (v : ℕ) → (a ≡ level v) ↔ ((v ≡ version h) × (floorOf h ≤ max (f .s) (f .w)) × ((k : ℕ) → Lacks h (f .s) (f .w) k → ⊥))
@@ -53,7 +53,8 @@ NoFollowerIsFooled = (b : Table) (store : List ℕ) (followers : ℕ → Followe
 
 -- the body call answers as the story does: a key that is held gives its path, another key in range gives 22
 pub record BodyGiven (x : World) (k : ℕ) : Type 0 where
-  pub path : (body : Body) → held (x .story) k ≡ some body → (bodyNumber (x .table) (x .store) k ≡ acceptedWith 0) × (bodyOf (x .table) (x .store) k ≡ body)
+  pub path : (path : Path) → held (x .story) k ≡ some path →
+      (bodyNumber (x .table) (x .store) k ≡ acceptedWith 0) × (bodyOf (x .table) (x .store) k ≡ path .octets) × (bodyForm (x .table) (x .store) k ≡ path .form)
   pub no-path : held (x .story) k ≡ none → keyLeast ≤ k → k ≤ keyMost → bodyNumber (x .table) (x .store) k ≡ refusedBy noPath 0
 
 abbrev pub BodiesAreThoseHeld : Type 0

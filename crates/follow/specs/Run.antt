@@ -15,8 +15,8 @@ use Rattle.report_call.specs.Reported.{reportFor, reportStoreFor}
 use Rattle.board_rules.specs.Remove.{removeAnswer}
 use Rattle.board_rules.specs.Compact.{compactAnswer}
 use Rattle.board_rules.specs.Next.{nextAnswer}
-use Rattle.session.specs.declared.Session.{Session}
-use Rattle.follow.specs.Story.{sets, clears, Story, beginning, begun, did, compactedTo}
+use Rattle.session.specs.declared.Sessions.{Sessions}
+use Rattle.follow.specs.Story.{Path, sets, clears, Story, beginning, begun, did, compactedTo}
 use Rattle.follow.specs.Follower.{Follower, fresh}
 use Rattle.follow.specs.Heard.{Heard, heardIn, does, cutOff}
 
@@ -28,15 +28,19 @@ pub record World : Type 0 where
 
 -- ---- the acts
 
--- Anyone reports (key, ERO, session, PST, addresses), removes (key) or compacts (c); follower n starts afresh; follower n asks for the next change; follower n
+-- Anyone reports (key, ERO, the two sessions, PST, addresses), removes (key) or compacts (c); follower n starts afresh; follower n asks for the next change; follower n
 -- asks and is cut off once it has made the change.
 pub data Act : Type 0 where
-  report : ℕ → List ℕ → Session → ℕ → List ℕ → Act
+  report : ℕ → List ℕ → Sessions → ℕ → List ℕ → Act
   remove : ℕ → Act
   compact : ℕ → Act
   begin : ℕ → Act
   ask : ℕ → Bool → Act
   askCut : ℕ → Act
+
+-- the path of a report: its form is the PST
+abbrev pub reportedPath : List ℕ → ℕ → Path
+reportedPath ero pst = record { form = pst; octets = bodyIn ero }
 
 -- the story goes on where the call was accepted
 abbrev pub told : Outcome → Story → Story → Story
@@ -51,12 +55,12 @@ abbrev pub following : World → ℕ → Follower → World
 following x n f = record { table = x .table; store = x .store; story = x .story; followers = λ m. cond (eqb m n) f (x .followers m) }
 
 unfoldable pub step : World → Act → World
-step x (report k ero session pst addresses) =
-    let a = reportFor (x .table) (x .store) k ero session pst addresses in
+step x (report k ero both pst addresses) =
+    let a = reportFor (x .table) (x .store) k ero both pst addresses in
     record {
       table = a .table;
-      store = reportStoreFor (x .table) (x .store) k ero session pst addresses;
-      story = told a (did (sets k (bodyIn ero)) (x .story)) (x .story);
+      store = reportStoreFor (x .table) (x .store) k ero both pst addresses;
+      story = told a (did (sets k (reportedPath ero pst)) (x .story)) (x .story);
       followers = x .followers;
     }
 step x (remove k) =

@@ -1,6 +1,6 @@
 -- The story of a board: what stood at its beginning, then its accepted calls, the newest outermost.
 --
--- Only accepted calls are in it, each as the caller made it: a key and the octets of a path, a key, or the number c of a compaction. What is
+-- Only accepted calls are in it, each as the caller made it: a key and a path, a key, or the number c of a compaction. What is
 -- defined here is read off these calls and the beginning alone: no later table is looked at, and an empty first table says nothing.
 -- "Each accepted report or removal raises the version by 1 and the change bears that": no versions are written beside the deeds.
 use Prim.Native.Nat.{ℕ, suc, _≤_, _<_}
@@ -10,29 +10,30 @@ use mathlib.Core.List.{List}
 use mathlib.Core.Option.{Option, none, some}
 use lib.Dec.{eqb, ltb}
 use Rattle.board_record.specs.Sizes.{places}
-use Rattle.board_record.specs.Table.{Table, versionAt}
+use Rattle.board_record.specs.Table.{Table, versionAt, formAt}
 use Rattle.board_record.specs.Search.{placeOf}
 use Rattle.board_rules.specs.Rules.{hasPath}
 use Rattle.board_rules.specs.Body.{octetsAt}
 
 -- ---- the calls
 
--- "a path body (the ERO after its header)"
-abbrev pub Body : Type 0
-Body = List ℕ
+-- a path: its form, by the setup type that it was reported under, and its octets, "a path body (the ERO after its header)"
+pub record Path : Type 0 where
+  pub form : ℕ
+  pub octets : List ℕ
 
--- an accepted report of a key with its body, or an accepted removal of a key
+-- an accepted report of a key with its path, or an accepted removal of a key
 pub data Deed : Type 0 where
-  sets : ℕ → Body → Deed
+  sets : ℕ → Path → Deed
   clears : ℕ → Deed
 
 abbrev pub keyOf : Deed → ℕ
-keyOf (sets k body) = k
+keyOf (sets k path) = k
 keyOf (clears k) = k
 
 -- what it leaves under its key
-abbrev pub leaves : Deed → Option Body
-leaves (sets k body) = some body
+abbrev pub leaves : Deed → Option Path
+leaves (sets k path) = some path
 leaves (clears k) = none
 
 -- ---- the beginning
@@ -41,15 +42,19 @@ leaves (clears k) = none
 pub record Beginning : Type 0 where
   pub version : ℕ
   pub floor : ℕ
-  pub held : ℕ → Option Body
+  pub held : ℕ → Option Path
   pub last : ℕ → ℕ
+
+-- the path of a place
+abbrev pub pathAt : Table → List ℕ → ℕ → Path
+pathAt b store i = record { form = formAt b i; octets = octetsAt b store i }
 
 -- what a table with its store begins a story with; its paths count as last reported there
 abbrev pub beginning : Table → List ℕ → Beginning
 beginning b store = record {
   version = b .version;
   floor = b .floor;
-  held = λ k. cond (hasPath b k) (some (octetsAt b store (placeOf b k))) none;
+  held = λ k. cond (hasPath b k) (some (pathAt b store (placeOf b k))) none;
   last = λ k. cond (ltb (placeOf b k) places) (versionAt b (placeOf b k)) 0;
 }
 
@@ -79,7 +84,7 @@ version (did c h) = suc (version h)
 version (compactedTo c h) = version h
 
 -- the path last reported under a key and not removed since
-unfoldable pub held : Story → ℕ → Option Body
+unfoldable pub held : Story → ℕ → Option Path
 held (begun o) k = o .held k
 held (did c h) k = cond (eqb (keyOf c) k) (leaves c) (held h k)
 held (compactedTo c h) k = held h k

@@ -10,6 +10,8 @@ use Prim.Native.Nat.{_+_, _*_, _<_, _≤_}
 use lib.ListN.{length, getD, replicate, length-replicate, getD-replicate}
 use Rattle.answers.specs.declared.verdict.Verdict.{Verdict}
 use Rattle.session.specs.declared.Session.{Session}
+use Rattle.session.specs.declared.Sessions.{Sessions}
+use Rattle.session.specs.Sessions.{sessionUnder}
 use Rattle.board_record.specs.declared.record.Board.{Board}
 use Rattle.board_record.specs.Sizes.{places}
 use Rattle.board_record.specs.Table.{Table, emptyTable, Sized}
@@ -31,10 +33,10 @@ use Rattle.board_rules.specs.Rules.{Outcome, outcomeOf}
 use Rattle.board_rules.specs.Report.{reportAnswer, reportStore}
 use Rattle.board_rules.specs.Remove.{removeAnswer}
 use Rattle.board_rules.specs.Compact.{compactAnswer}
-use Rattle.board_rules.specs.Body.{bodyNumber, bodyOf}
+use Rattle.board_rules.specs.Body.{bodyNumber, bodyOf, bodyForm}
 use Rattle.board_rules.specs.Next.{nextAnswer}
 use Rattle.board_rules.specs.Moved.{movedAnswer}
-use Rattle.board_rules.specs.OnRecord.{Result, resultOf, resultOn, reportOn, reportStoreOn, removeOn, compactOn, bodyNumberOn, bodyOn, nextOn, movedOn}
+use Rattle.board_rules.specs.OnRecord.{Result, resultOf, resultOn, reportOn, reportStoreOn, removeOn, compactOn, bodyNumberOn, bodyOn, bodyFormOn, nextOn, movedOn}
 use Rattle.board_rules.proofs.Verdicts.{kept-old, kept-new}
 use Rattle.board_rules.proofs.Keeps.{report-proper, remove-proper, compact-proper, report-refused-keeps, remove-refused-keeps, compact-refused-keeps}
 use Rattle.board_rules.proofs.Stores.{report-sized, remove-sized, compact-sized}
@@ -84,22 +86,22 @@ module _ (t : Table) (p : Proper t) where
       let o = reportAnswer t store k ero session pst in reportOn (recordOf t) store k ero session pst ≡ resultOf (o .verdict) (recordOf (o .table))
   report-is store k ero session pst = result-is (reportAnswer t store k ero session pst) (report-refused-keeps t store k ero session pst)
 
-  pub report-for-is : (store : List ℕ) (k : ℕ) (ero : List ℕ) (session : Session) (pst : ℕ) (addresses : List ℕ) →
-      let o = reportFor t store k ero session pst addresses in reportForOn (recordOf t) store k ero session pst addresses ≡ resultOf (o .verdict) (recordOf (o .table))
+  pub report-for-is : (store : List ℕ) (k : ℕ) (ero : List ℕ) (both : Sessions) (pst : ℕ) (addresses : List ℕ) →
+      let o = reportFor t store k ero both pst addresses in reportForOn (recordOf t) store k ero both pst addresses ≡ resultOf (o .verdict) (recordOf (o .table))
   unfolding reportFor reportForOn
-  report-for-is store k ero session pst addresses = go (rule28 addresses)
+  report-for-is store k ero both pst addresses = go (rule28 addresses)
     where
       go : (b : Bool) →
-          let under = sessionFor ero true session addresses in
+          let under = sessionFor ero true (sessionUnder both pst) addresses in
           let o = cond b (outcomeOf (refusedBy notUsable 0) t) (reportAnswer t store k ero under pst) in
           cond b (resultOf (refusedBy notUsable 0) (recordOf t)) (reportOn (recordOf t) store k ero under pst) ≡ resultOf (o .verdict) (recordOf (o .table))
       go true = refl
-      go false = report-is store k ero (sessionFor ero true session addresses) pst
+      go false = report-is store k ero (sessionFor ero true (sessionUnder both pst) addresses) pst
 
-  pub store-for-is : (store : List ℕ) (k : ℕ) (ero : List ℕ) (session : Session) (pst : ℕ) (addresses : List ℕ)
-      → reportStoreForOn (recordOf t) store k ero session pst addresses ≡ reportStoreFor t store k ero session pst addresses
+  pub store-for-is : (store : List ℕ) (k : ℕ) (ero : List ℕ) (both : Sessions) (pst : ℕ) (addresses : List ℕ)
+      → reportStoreForOn (recordOf t) store k ero both pst addresses ≡ reportStoreFor t store k ero both pst addresses
   unfolding reportStoreOn reportStoreFor reportStoreForOn
-  store-for-is store k ero session pst addresses = rw sound
+  store-for-is store k ero both pst addresses = rw sound
 
   pub remove-is : (store : List ℕ) (k : ℕ) → let o = removeAnswer t store k in removeOn (recordOf t) store k ≡ resultOf (o .verdict) (recordOf (o .table))
   remove-is store k = result-is (removeAnswer t store k) (remove-refused-keeps t store k)
@@ -115,6 +117,10 @@ module _ (t : Table) (p : Proper t) where
   unfolding bodyOn
   body-is store k = rw sound
 
+  form-is : (store : List ℕ) (k : ℕ) → bodyFormOn (recordOf t) store k ≡ bodyForm t store k
+  unfolding bodyFormOn
+  form-is store k = rw sound
+
   pub next-is : (store : List ℕ) (s w : ℕ) → nextOn (recordOf t) store s w ≡ nextAnswer t store s w
   unfolding nextOn
   next-is store s w = rw sound
@@ -124,16 +130,16 @@ module _ (t : Table) (p : Proper t) where
   moved-is store from to v = rw sound
 
 -- ---- what a report leaves
-pub for-proper : (t : Table) → Sized t → Proper t → (store : List ℕ) (k : ℕ) (ero : List ℕ) (session : Session) (pst : ℕ) (addresses : List ℕ) →
-    let o = reportFor t store k ero session pst addresses in Sized (o .table) × Proper (o .table)
+pub for-proper : (t : Table) → Sized t → Proper t → (store : List ℕ) (k : ℕ) (ero : List ℕ) (both : Sessions) (pst : ℕ) (addresses : List ℕ) →
+    let o = reportFor t store k ero both pst addresses in Sized (o .table) × Proper (o .table)
 unfolding reportFor
-for-proper t s p store k ero session pst addresses = go (rule28 addresses)
+for-proper t s p store k ero both pst addresses = go (rule28 addresses)
   where
     go : (b : Bool) →
-        let o = cond b (outcomeOf (refusedBy notUsable 0) t) (reportAnswer t store k ero (sessionFor ero true session addresses) pst) in Sized (o .table) × Proper (o .table)
+        let o = cond b (outcomeOf (refusedBy notUsable 0) t) (reportAnswer t store k ero (sessionFor ero true (sessionUnder both pst) addresses) pst) in Sized (o .table) × Proper (o .table)
     go true = (s, p)
     go false =
-        let under = sessionFor ero true session addresses in
+        let under = sessionFor ero true (sessionUnder both pst) addresses in
         (report-sized t store k ero under pst s, report-proper t store k ero under pst s p)
 
 -- ---- call for call
@@ -142,18 +148,18 @@ recorded x = record { board = recordOf (x .table); store = x .store }
 
 reply-same : (x : OnTable) → Proper (x .table) → (c : Call) → replyOn (recorded x) c ≡ replyOf x c
 unfolding replyOn replyOf
-reply-same x p (report k ero session pst addresses) = ap (λ (a : Result). verdict (a .verdict)) (report-for-is (x .table) p (x .store) k ero session pst addresses)
+reply-same x p (report k ero both pst addresses) = ap (λ (a : Result). verdict (a .verdict)) (report-for-is (x .table) p (x .store) k ero both pst addresses)
 reply-same x p (remove k) = ap (λ (a : Result). verdict (a .verdict)) (remove-is (x .table) p (x .store) k)
 reply-same x p (compact c) = ap (λ (a : Result). verdict (a .verdict)) (compact-is (x .table) p (x .store) c)
-reply-same x p (body k) = rw (number-is (x .table) p (x .store) k, body-is (x .table) p (x .store) k)
+reply-same x p (body k) = rw (number-is (x .table) p (x .store) k, form-is (x .table) p (x .store) k, body-is (x .table) p (x .store) k)
 reply-same x p (next s w) = ap handed (next-is (x .table) p (x .store) s w)
 reply-same x p (moved a b v) = ap verdict (moved-is (x .table) p (x .store) a b v)
 reply-same x p fresh = refl
 
 left-same : (x : OnTable) → Proper (x .table) → (c : Call) → leftOn (recorded x) c ≡ recorded (leftOf x c)
 unfolding leftOn leftOf
-left-same x p (report k ero session pst addresses) =
-    rw (report-for-is (x .table) p (x .store) k ero session pst addresses, store-for-is (x .table) p (x .store) k ero session pst addresses)
+left-same x p (report k ero both pst addresses) =
+    rw (report-for-is (x .table) p (x .store) k ero both pst addresses, store-for-is (x .table) p (x .store) k ero both pst addresses)
 left-same x p (remove k) = ap (λ (a : Result). record { board = a .board; store = x .store }) (remove-is (x .table) p (x .store) k)
 left-same x p (compact c) = ap (λ (a : Result). record { board = a .board; store = x .store }) (compact-is (x .table) p (x .store) c)
 left-same x p (body k) = refl
@@ -163,7 +169,7 @@ left-same x p fresh = refl
 
 left-proper : (x : OnTable) → Sized (x .table) → Proper (x .table) → (c : Call) → Sized (leftOf x c .table) × Proper (leftOf x c .table)
 unfolding leftOf
-left-proper x s p (report k ero session pst addresses) = for-proper (x .table) s p (x .store) k ero session pst addresses
+left-proper x s p (report k ero both pst addresses) = for-proper (x .table) s p (x .store) k ero both pst addresses
 left-proper x s p (remove k) = (remove-sized (x .table) (x .store) k s, remove-proper (x .table) (x .store) k s p)
 left-proper x s p (compact c) = (compact-sized (x .table) (x .store) c s, compact-proper (x .table) (x .store) c p)
 left-proper x s p (body k) = (s, p)

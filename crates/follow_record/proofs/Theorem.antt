@@ -11,7 +11,6 @@ use Rattle.board_record.specs.Table.{Table, emptyTable, Sized}
 use Rattle.board_record.specs.Proper.{Proper}
 use Rattle.board_record.specs.Record.{tableIn, recordOf, emptyBoard}
 use Rattle.board_record.proofs.Proper.{empty-sized, empty-proper}
-use Rattle.board_rules.specs.Report.{bodyIn}
 use Rattle.answers.specs.declared.verdict.Verdict.{Verdict}
 use Rattle.board_rules.specs.OnRecord.{Result, movedOn}
 use Rattle.board_rules.proofs.Keeps.{remove-proper, compact-proper}
@@ -36,8 +35,8 @@ answer-same x p n = ap (heardIn (x .store)) (next-is (x .table) p (x .store) (x 
 
 step-same : (x : World) → Proper (x .table) → (a : Act) → stepOn (recordedWorld x) a ≡ recordedWorld (step x a)
 unfolding stepOn step
-step-same x p (report k ero session pst addresses) =
-    rw (report-for-is (x .table) p (x .store) k ero session pst addresses, store-for-is (x .table) p (x .store) k ero session pst addresses)
+step-same x p (report k ero both pst addresses) =
+    rw (report-for-is (x .table) p (x .store) k ero both pst addresses, store-for-is (x .table) p (x .store) k ero both pst addresses)
 step-same x p (remove k) =
     ap (λ (a : Result). record { board = a .board; store = x .store; story = toldOn a (did (clears k) (x .story)) (x .story); followers = x .followers })
     (remove-is (x .table) p (x .store) k)
@@ -50,7 +49,7 @@ step-same x p (askCut n) = ap (λ (h : Heard). followingOn (recordedWorld x) n (
 
 step-proper : (x : World) → Sized (x .table) → Proper (x .table) → (a : Act) → Sized (step x a .table) × Proper (step x a .table)
 unfolding step
-step-proper x s p (report k ero session pst addresses) = for-proper (x .table) s p (x .store) k ero session pst addresses
+step-proper x s p (report k ero both pst addresses) = for-proper (x .table) s p (x .store) k ero both pst addresses
 step-proper x s p (remove k) = (remove-sized (x .table) (x .store) k s, remove-proper (x .table) (x .store) k s p)
 step-proper x s p (compact c) = (compact-sized (x .table) (x .store) c s, compact-proper (x .table) (x .store) c p)
 step-proper x s p (begin n) = (s, p)

@@ -9,13 +9,12 @@ use Rattle.answers.specs.declared.verdict.Verdict.{Verdict}
 use Rattle.board_record.specs.declared.record.Board.{Board}
 use Rattle.board_record.specs.Sizes.{storeSize}
 use Rattle.board_record.specs.Record.{tableIn, emptyBoard}
-use Rattle.board_rules.specs.Report.{bodyIn}
 use Rattle.board_rules.specs.OnRecord.{Result, removeOn, compactOn, nextOn}
 use Rattle.report_call.specs.Reported.{reportForOn, reportStoreForOn}
 use Rattle.follow.specs.Story.{sets, clears, Story, beginning, begun, did, compactedTo}
 use Rattle.follow.specs.Follower.{Follower, fresh}
 use Rattle.follow.specs.Heard.{Heard, heardIn, does, cutOff}
-use Rattle.follow.specs.Run.{Act, report, remove, compact, begin, ask, askCut}
+use Rattle.follow.specs.Run.{Act, reportedPath, report, remove, compact, begin, ask, askCut}
 use Rattle.follow.specs.Promise.{Answered}
 
 pub record WorldOn : Type 0 where
@@ -36,12 +35,12 @@ abbrev pub followingOn : WorldOn → ℕ → Follower → WorldOn
 followingOn x n f = record { board = x .board; store = x .store; story = x .story; followers = λ m. cond (eqb m n) f (x .followers m) }
 
 unfoldable pub stepOn : WorldOn → Act → WorldOn
-stepOn x (report k ero session pst addresses) =
-    let a = reportForOn (x .board) (x .store) k ero session pst addresses in
+stepOn x (report k ero both pst addresses) =
+    let a = reportForOn (x .board) (x .store) k ero both pst addresses in
     record {
       board = a .board;
-      store = reportStoreForOn (x .board) (x .store) k ero session pst addresses;
-      story = toldOn a (did (sets k (bodyIn ero)) (x .story)) (x .story);
+      store = reportStoreForOn (x .board) (x .store) k ero both pst addresses;
+      story = toldOn a (did (sets k (reportedPath ero pst)) (x .story)) (x .story);
       followers = x .followers;
     }
 stepOn x (remove k) =

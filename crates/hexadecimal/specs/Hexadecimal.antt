@@ -33,9 +33,9 @@ octetsOf [] = []
 octetsOf (a ∷ []) = []
 octetsOf (a ∷ b ∷ r) = pairOf a b ∷ octetsOf r
 
--- A SID: "16 octets or `-`"
+-- A SID: "1 to 16 octets, .. or `-`"
 unfoldable pub isSid : List ℕ → Bool
-isSid w = isOctets w && (isNone w || eqb (length (octetsOf w)) 16)
+isSid w = isOctets w && leb (length (octetsOf w)) 16
 
 -- A NAI: "0 to 40 octets"
 unfoldable pub isNai : List ℕ → Bool

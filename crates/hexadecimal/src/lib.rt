@@ -79,14 +79,11 @@ pub fn octets_in(word: &[u8]) -> usize
     word.len() / 2
 }
 
-// `-`, or 16 octets
+// `-`, or 1 to 16 octets
 pub fn is_sid(word: &[u8]) -> bool
     ensures sid { λ r. ⌜ r ≡ isSid (now (word .entry)) ⌝ }
 {
-    both(
-        is_octets(word),
-        either(is_none(word), octets_in(word) == SID_OCTETS),
-    )
+    both(is_octets(word), octets_in(word) <= SID_OCTETS)
 }
 
 // `-`, or up to 40 octets

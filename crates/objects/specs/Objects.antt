@@ -50,3 +50,7 @@ objectType = 1
 -- The setup type of an SRv6 path: "type 3", "PST 3".
 abbrev pub srv6Setup : ℕ
 srv6Setup = 3
+
+-- The setup type of an MPLS path: "type 1", "PST 1".
+abbrev pub mplsSetup : ℕ
+mplsSetup = 1

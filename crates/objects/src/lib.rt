@@ -29,3 +29,6 @@ pub const OBJECT_TYPE: usize = 1;
 
 // the setup type of an SRv6 path
 pub const SRV6_SETUP: u64 = 3;
+
+// and of an MPLS path
+pub const MPLS_SETUP: u64 = 1;

@@ -1,12 +1,12 @@
--- Reading an OPEN object (document 01, "The OPEN object"): its rules by their numbers, and the answer.
+-- Reading an OPEN object (document 01, "The OPEN object"; sub-TLV 26 by document 02, C-16): its rules by their numbers, and the answer.
 use Prim.Native.Nat.{ℕ, _/_, _%_}
-use mathlib.Core.List.{List}
-use mathlib.Core.Bool.{Bool, true, false, cond, not, _&&_, _||_}
+use mathlib.Core.List.{List, [], _∷_}
+use mathlib.Core.Bool.{Bool, true, false, cond, not, _&&_}
 use mathlib.Core.Option.{Option, none, some}
 use lib.ListN.{length, drop}
 use lib.Dec.{eqb, leb}
 use Rattle.octets.specs.Octets.{octetOf}
-use Rattle.objects.specs.Objects.{header, unit, openClass, objectType, srv6Setup, objectClass, objectKind, objectLength}
+use Rattle.objects.specs.Objects.{header, unit, openClass, objectType, mplsSetup, srv6Setup, objectClass, objectKind, objectLength}
 use Rattle.answers.specs.Numbers.{openMalformed, capabilityMissing, wrongMsd, notUsable}
 use Rattle.positions.specs.declared.Setup.{Setup}
 use Rattle.positions.specs.Positions.{usableSetup}
@@ -14,6 +14,7 @@ use Rattle.session.specs.declared.Opened.{Opened}
 use Rattle.session.specs.Sessions.{openRefused, withoutSrv6}
 use Rattle.tlvs.specs.Tlvs.{Tlvs, tlvsOf, tlvsWhole, firstTlv, absent}
 use Rattle.capability.specs.SetupTypes.{pathSetup, holdsList, subsOf, listsType}
+use Rattle.capability.specs.Mpls.{mplsCapability, mplsSizedOf, depthless, mplsBeside}
 use Rattle.capability.specs.Srv6.{srv6Capability, sizedOf, wrongOf, carriesBy}
 
 -- the object ---------------------------------------------------------------------------------------------------
@@ -39,7 +40,7 @@ tlvsAt = 8
 abbrev pub openTlvs : List ℕ → Tlvs
 openTlvs s = tlvsOf false (drop tlvsAt s)
 
--- "Of several TLVs 34, or sub-TLVs 27, the first is used and the others are only walked."
+-- "Of several TLVs 34, or sub-TLVs 27, the first is used and the others are only walked." So it is with sub-TLVs 26.
 unfoldable pub setupOf : List ℕ → Option (List ℕ)
 setupOf s = firstTlv pathSetup (openTlvs s)
 
@@ -47,16 +48,22 @@ abbrev pub subIn : ℕ → Option (List ℕ) → Option (List ℕ)
 subIn want none = none
 subIn want (some v) = firstTlv want (subsOf v)
 
+unfoldable pub mplsOf : List ℕ → Option (List ℕ)
+mplsOf s = subIn mplsCapability (setupOf s)
+
 unfoldable pub srv6Of : List ℕ → Option (List ℕ)
 srv6Of s = subIn srv6Capability (setupOf s)
 
--- Type 3 is listed.
-abbrev pub listedIn : Option (List ℕ) → Bool
-listedIn none = false
-listedIn (some v) = listsType srv6Setup v
+-- A setup type is listed: type 1, type 3.
+abbrev pub listedIn : ℕ → Option (List ℕ) → Bool
+listedIn kind none = false
+listedIn kind (some v) = listsType kind v
+
+unfoldable pub mplsListed : List ℕ → Bool
+mplsListed s = listedIn mplsSetup (setupOf s)
 
 unfoldable pub listed : List ℕ → Bool
-listed s = listedIn (setupOf s)
+listed s = listedIn srv6Setup (setupOf s)
 
 -- rule 28 ------------------------------------------------------------------------------------------------------
 
@@ -89,33 +96,53 @@ holdsAll (some v) = holdsList v && tlvsWhole (subsOf v)
 unfoldable pub holding : List ℕ → Bool
 holding s = holdsAll (setupOf s)
 
--- "If type 3 is listed, sub-TLV 27 must have an even length of at least 4."
+-- "Else 1.", with no sub-TLV at fault.
+unfoldable pub breaks1 : List ℕ → Bool
+breaks1 s = not (framed s && (fitting s && holding s))
+
+-- "With type 1 listed, sub-TLV 26 must have length 4 (1), .."
+abbrev pub mplsSizedIn : Option (List ℕ) → Bool
+mplsSizedIn none = true
+mplsSizedIn (some w) = mplsSizedOf w
+
+unfoldable pub breaks1Mpls : List ℕ → Bool
+breaks1Mpls s = mplsListed s && not (mplsSizedIn (mplsOf s))
+
+-- "If type 3 is listed, sub-TLV 27 must have an even length of at least 4. Else 1."
 abbrev pub sizedIn : Option (List ℕ) → Bool
 sizedIn none = true
 sizedIn (some w) = sizedOf w
 
-unfoldable pub subSized : List ℕ → Bool
-subSized s = not (listed s) || sizedIn (srv6Of s)
-
--- "Else 1."
-unfoldable pub breaks1 : List ℕ → Bool
-breaks1 s = not (framed s && (fitting s && (holding s && subSized s)))
+unfoldable pub breaks1Srv6 : List ℕ → Bool
+breaks1Srv6 s = listed s && not (sizedIn (srv6Of s))
 
 -- rule 2 -------------------------------------------------------------------------------------------------------
 
+-- ".. be there (2), .. else it is ignored."
+unfoldable pub breaks2Mpls : List ℕ → Bool
+breaks2Mpls s = mplsListed s && absent (mplsOf s)
+
 -- "Type 3 listed and no sub-TLV 27: 2. Sub-TLV 27 without type 3 is ignored."
-unfoldable pub breaks2 : List ℕ → Bool
-breaks2 s = listed s && absent (srv6Of s)
+unfoldable pub breaks2Srv6 : List ℕ → Bool
+breaks2Srv6 s = listed s && absent (srv6Of s)
 
 -- rule 3 -------------------------------------------------------------------------------------------------------
+
+-- ".. and X or a depth above 0 (3)"
+abbrev pub depthlessSub : Option (List ℕ) → Bool
+depthlessSub none = false
+depthlessSub (some w) = depthless w
+
+unfoldable pub breaks3Mpls : List ℕ → Bool
+breaks3Mpls s = mplsListed s && depthlessSub (mplsOf s)
 
 abbrev pub wrongSub : Option (List ℕ) → Bool
 wrongSub none = false
 wrongSub (some w) = wrongOf w
 
 -- "X is 0 and a pair's type isn't 41, 42, 44 or 45: 3."
-unfoldable pub breaks3 : List ℕ → Bool
-breaks3 s = listed s && wrongSub (srv6Of s)
+unfoldable pub breaks3Srv6 : List ℕ → Bool
+breaks3Srv6 s = listed s && wrongSub (srv6Of s)
 
 -- the answer ---------------------------------------------------------------------------------------------------
 
@@ -124,14 +151,49 @@ saidBy p none = withoutSrv6
 saidBy p (some w) = carriesBy p w
 
 -- SRv6 is carried where type 3 is listed, as sub-TLV 27 says.
-unfoldable pub carriesOf : Setup → List ℕ → Opened
-carriesOf p s = cond (listed s) (saidBy p (srv6Of s)) withoutSrv6
+unfoldable pub carriesSrv6 : Setup → List ℕ → Opened
+carriesSrv6 p s = cond (listed s) (saidBy p (srv6Of s)) withoutSrv6
 
--- 28 "before all others". "Order: 1, 2, 3. Otherwise accepted."
+abbrev pub besideBy : Bool → Option (List ℕ) → Opened → Opened
+besideBy false sub o = o
+besideBy true none o = o
+besideBy true (some w) o = mplsBeside w o
+
+-- MPLS is carried beside it where type 1 is listed, as sub-TLV 26 says.
+unfoldable pub carriesOf : Setup → List ℕ → Opened
+carriesOf p s = besideBy (mplsListed s) (mplsOf s) (carriesSrv6 p s)
+
+-- A rule: whether it is broken, the number that it refuses by, and the form at fault.
+pub record Rule : Type 0 where
+  pub broken : Bool
+  pub number : ℕ
+  pub form : ℕ
+
+abbrev pub rule : Bool → ℕ → ℕ → Rule
+rule broken number form = record { broken = broken; number = number; form = form }
+
+-- The first broken one refuses.
+abbrev pub firstBroken : List Rule → Opened → Opened
+firstBroken [] o = o
+firstBroken (r ∷ rs) o = cond (r .broken) (openRefused (r .number) (r .form)) (firstBroken rs o)
+
+-- No sub-TLV is at fault.
+abbrev pub noForm : ℕ
+noForm = 0
+
+-- 28 "before all others". "Order: 1, 2, 3.", and of each 26's "tested before 27's".
+abbrev pub openRules : Setup → List ℕ → List Rule
+openRules p s =
+    rule (breaks28 p) notUsable noForm
+    ∷ rule (breaks1 s) openMalformed noForm
+    ∷ rule (breaks1Mpls s) openMalformed mplsSetup
+    ∷ rule (breaks1Srv6 s) openMalformed srv6Setup
+    ∷ rule (breaks2Mpls s) capabilityMissing mplsSetup
+    ∷ rule (breaks2Srv6 s) capabilityMissing srv6Setup
+    ∷ rule (breaks3Mpls s) wrongMsd mplsSetup
+    ∷ rule (breaks3Srv6 s) wrongMsd srv6Setup
+    ∷ []
+
+-- "Otherwise accepted."
 unfoldable pub openOf : Setup → List ℕ → Opened
-openOf p s =
-    cond (breaks28 p) (openRefused notUsable)
-    (cond (breaks1 s) (openRefused openMalformed)
-    (cond (breaks2 s) (openRefused capabilityMissing)
-    (cond (breaks3 s) (openRefused wrongMsd)
-    (carriesOf p s))))
+openOf p s = firstBroken (openRules p s) (carriesOf p s)

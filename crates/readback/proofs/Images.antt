@@ -9,26 +9,31 @@ use native.Mathlib.Nat.{add-assoc}
 use native.Mathlib.Omega.{arith}
 use Rattle.answers.specs.Verdicts.{kept}
 use Rattle.octets.specs.Octets.{hi, lo, over, placed}
+use Rattle.forms.specs.declared.Form.{Form}
+use Rattle.forms.specs.Forms.{formOf}
 use Rattle.subobject.specs.declared.segment.Segment.{Segment}
-use Rattle.subobject.specs.Rules.{rule8, rule9, rule11}
+use Rattle.subobject.specs.Rules.{rule8, rule9, rule11, labelAt, timeAt, rule29, rule30}
 use Rattle.subobject.specs.Segments.{headOfSegment, subobjectOf, bitsOf}
+use Rattle.writer_layout.proofs.Forms.{readable-by}
 use Rattle.writer.specs.declared.state.Writer.{Writer}
 use Rattle.writer.specs.declared.state.Written.{Written}
 use Rattle.writer_rules.specs.Refusals.{unfit, addNumber, finishNumber}
 use Rattle.writer_rules.proofs.Laws.{Proper, Taken, taken, Done, done}
-use Rattle.writer.specs.Writing.{headerOf, beginNumber, beginAnswer, beginBuffer, addAnswer, addBuffer, finishAnswer, finishBuffer, answered, refusedAs, acceptedAs}
+use Rattle.writer.specs.Writing.{headerOf, beginNumber, beginAnswer, beginBuffer, addAnswerIn, addBufferIn, addAnswer, addBuffer, finishAnswer, finishBuffer, answered, refusedAs, acceptedAs}
 use Rattle.readback.specs.Runs.{Run, onward, beginRun, addRun, finishRun, addsRun, writeRun, Accepted, objectIn, bodyOf, objectOf}
 
 -- A segment that adding takes, but for the room.
-pub record Fit (ero : Bool) (g : Segment) : Type 0 where
-  pub r8 : rule8 (headOfSegment g) ≡ false
-  pub r9 : rule9 (headOfSegment g) ≡ false
-  pub fit : unfit ero g ≡ false
-  pub r11 : rule11 (headOfSegment g) (bitsOf g) ≡ false
+pub record Fit (form : Form) (ero : Bool) (g : Segment) : Type 0 where
+  pub r8 : rule8 form (headOfSegment form g) ≡ false
+  pub r9 : rule9 (headOfSegment form g) ≡ false
+  pub fit : unfit form ero g ≡ false
+  pub r11 : rule11 (headOfSegment form g) (bitsOf g) ≡ false
+  pub r29 : rule29 (headOfSegment form g) (labelAt (g .sid) 0) ≡ false
+  pub r30 : rule30 (headOfSegment form g) (timeAt (g .sid) 0) ≡ false
 
-pub data AllFit (ero : Bool) : List Segment → Type 0 where
-  none : AllFit ero []
-  also : {g : Segment} {gs : List Segment} → Fit ero g → AllFit ero gs → AllFit ero (g ∷ gs)
+pub data AllFit (form : Form) (ero : Bool) : List Segment → Type 0 where
+  none : AllFit form ero []
+  also : {g : Segment} {gs : List Segment} → Fit form ero g → AllFit form ero gs → AllFit form ero (g ∷ gs)
 
 -- The number of an answer is the number of its refusal.
 pub number-answered : (n : ℕ) (old new : Writer) → answered n old new .verdict .number ≡ n
@@ -46,19 +51,20 @@ unfolding placed over
 placed-behind p r w n e = rw (take-at p r n e, drop-at p r n e)
 
 -- An object under way: `body` stands behind the header, then come the segments still to add, then the rest of the buffer.
-pub record Under (ero : Bool) (body : List ℕ) (gs : List Segment) (r : Run) : Type 0 where
-  pub at : r .written .writer .at ≡ 4 + length (body ++ bodyOf gs)
+pub record Under (form : Form) (ero : Bool) (body : List ℕ) (gs : List Segment) (r : Run) : Type 0 where
+  pub at : r .written .writer .at ≡ 4 + length (body ++ bodyOf form gs)
   pub rest : List ℕ
-  pub buffer : r .buffer ≡ headerOf ero (4 + length (body ++ bodyOf gs)) ++ ((body ++ bodyOf gs) ++ rest)
-  pub fits : AllFit ero gs
-  pub most : 4 + length (body ++ bodyOf gs) ≤ 65532
-  pub fours : (4 + length (body ++ bodyOf gs)) % 4 ≡ 0
-  pub filled : length (body ++ bodyOf gs) ≡ 0 → ⊥
+  pub buffer : r .buffer ≡ headerOf ero (4 + length (body ++ bodyOf form gs)) ++ ((body ++ bodyOf form gs) ++ rest)
+  pub fits : AllFit form ero gs
+  pub most : 4 + length (body ++ bodyOf form gs) ≤ 65532
+  pub fours : (4 + length (body ++ bodyOf form gs)) % 4 ≡ 0
+  pub filled : length (body ++ bodyOf form gs) ≡ 0 → ⊥
 
 -- A segment added stands behind the body.
-moved : {ero : Bool} (body : List ℕ) (g : Segment) (gs : List Segment) {r : Run} → Fit ero g → Under ero (body ++ subobjectOf g) gs r → Under ero body (g ∷ gs) r
-moved body g gs f u =
-    let e = append-assoc body (subobjectOf g) (bodyOf gs) in
+moved : (form : Form) {ero : Bool} (body : List ℕ) (g : Segment) (gs : List Segment) {r : Run} → Fit form ero g
+    → Under form ero (body ++ subobjectOf form g) gs r → Under form ero body (g ∷ gs) r
+moved form body g gs f u =
+    let e = append-assoc body (subobjectOf form g) (bodyOf form gs) in
     record {
       at = rw e at (u .at);
       rest = u .rest;
@@ -69,10 +75,10 @@ moved body g gs f u =
       filled = rw e at (u .filled);
     }
 
-finished : {ero : Bool} (body rest b : List ℕ) (w : Writer) → w .at ≡ 4 + length body → b ≡ headerOf ero 4 ++ (body ++ rest)
-    → finishNumber (length b) (w .at) ≡ 0 → Under ero body [] (finishRun b w)
+finished : (form : Form) {ero : Bool} (body rest b : List ℕ) (w : Writer) → w .at ≡ 4 + length body → b ≡ headerOf ero 4 ++ (body ++ rest)
+    → finishNumber (length b) (w .at) ≡ 0 → Under form ero body [] (finishRun b w)
 unfolding finishAnswer finishBuffer headerOf placed over
-finished {ero} body rest b w ea eb e =
+finished form {ero} body rest b w ea eb e =
     let d = done (length b) (w .at) e in
     let n = append-nil body in
     record {
@@ -89,78 +95,86 @@ pub finish-number : (b : List ℕ) (w : Writer) → finishAnswer b w .verdict .n
 unfolding finishAnswer
 finish-number b w = number-answered (finishNumber (length b) (w .at)) w w
 
-pub add-number : (b : List ℕ) (w : Writer) (g : Segment) → addAnswer b w g .verdict .number ≡ addNumber (length b) (w .ero) (w .at) g
-unfolding addAnswer
-add-number b w g = number-answered (addNumber (length b) (w .ero) (w .at) g) w _
+pub add-number : (b : List ℕ) (w : Writer) (g : Segment) → addAnswer b w g .verdict .number ≡ addNumber (formOf (w .form)) (length b) (w .ero) (w .at) g
+unfolding addAnswerIn
+add-number b w g = number-answered (addNumber (formOf (w .form)) (length b) (w .ero) (w .at) g) w _
 
-pub begin-number : (b : List ℕ) (w : Writer) (ero : Bool) → beginAnswer b w ero .verdict .number ≡ beginNumber (length b)
+pub begin-number : (b : List ℕ) (w : Writer) (ero : Bool) (pst : ℕ) → beginAnswer b w ero pst .verdict .number ≡ beginNumber (length b)
 unfolding beginAnswer
-begin-number b w ero = number-answered (beginNumber (length b)) w _
+begin-number b w ero pst = number-answered (beginNumber (length b)) w _
 
 -- A call that accepts hands on its state and its buffer.
-pub add-onward : (b : List ℕ) (w : Writer) (g : Segment) (next : List ℕ → Writer → Run) → addNumber (length b) (w .ero) (w .at) g ≡ 0
-    → onward (addRun b w g) next ≡ next (placed b (w .at) (subobjectOf g)) (record { ero = w .ero; at = w .at + length (subobjectOf g) })
-unfolding addAnswer addBuffer
+pub add-onward : (b : List ℕ) (w : Writer) (g : Segment) (next : List ℕ → Writer → Run) → addNumber (formOf (w .form)) (length b) (w .ero) (w .at) g ≡ 0
+    → onward (addRun b w g) next
+    ≡ next (placed b (w .at) (subobjectOf (formOf (w .form)) g)) (record { ero = w .ero; at = w .at + length (subobjectOf (formOf (w .form)) g); form = w .form })
+unfolding addAnswerIn addBufferIn
 add-onward b w g next e = rw e
 
-pub begin-onward : (b : List ℕ) (w : Writer) (ero : Bool) (next : List ℕ → Writer → Run) → beginNumber (length b) ≡ 0
-    → onward (beginRun b w ero) next ≡ next (over (headerOf ero 4) b) (record { ero = ero; at = 4 })
+pub begin-onward : (b : List ℕ) (w : Writer) (ero : Bool) (pst : ℕ) (next : List ℕ → Writer → Run) → beginNumber (length b) ≡ 0
+    → onward (beginRun b w ero pst) next ≡ next (over (headerOf ero 4) b) (record { ero = ero; at = 4; form = formOf pst .setup })
 unfolding beginAnswer beginBuffer
-begin-onward b w ero next e = rw e
+begin-onward b w ero pst next e = rw e
 
-fit-of : (ero : Bool) (room : ℕ) (w : Writer) (g : Segment) → w .ero ≡ ero → Taken room (w .ero) (w .at) g → Fit ero g
-fit-of ero room w g e t = record { r8 = t .r8; r9 = t .r9; fit = rw e at (t .fit); r11 = t .r11 }
+fit-of : (form : Form) (ero : Bool) (room : ℕ) (w : Writer) (g : Segment) → w .ero ≡ ero → Taken form room (w .ero) (w .at) g → Fit form ero g
+fit-of form ero room w g e t = record { r8 = t .r8; r9 = t .r9; fit = rw e at (t .fit); r11 = t .r11; r29 = t .r29; r30 = t .r30 }
 
 adds : {ero : Bool} (gs : List Segment) (body rest b : List ℕ) (w : Writer) → w .ero ≡ ero → w .at ≡ 4 + length body → b ≡ headerOf ero 4 ++ (body ++ rest)
-    → Accepted (addsRun b w gs) → Under ero body gs (addsRun b w gs)
+    → Accepted (addsRun b w gs) → Under (formOf (w .form)) ero body gs (addsRun b w gs)
 unfolding addsRun headerOf
-adds [] body rest b w ee ea eb a = finished body rest b w ea eb (sym (finish-number b w) ∙ a)
+adds [] body rest b w ee ea eb a = finished (formOf (w .form)) body rest b w ea eb (sym (finish-number b w) ∙ a)
 adds {ero} (g ∷ gs) body rest b w ee ea eb a =
-    let n = went-on (addRun b w g) (λ b′ w′. addsRun b′ w′ gs) a (addNumber (length b) (w .ero) (w .at) g) (add-number b w g) in
-    let x = subobjectOf g in
+    let form = formOf (w .form) in
+    let n = went-on (addRun b w g) (λ b′ w′. addsRun b′ w′ gs) a (addNumber form (length b) (w .ero) (w .at) g) (add-number b w g) in
+    let x = subobjectOf form g in
     let q = add-onward b w g (λ b′ w′. addsRun b′ w′ gs) n in
     let e1 : placed b (w .at) x ≡ (headerOf ero 4 ++ body) ++ (x ++ drop (length x) rest)
     = rw eb (placed-behind (headerOf ero 4 ++ body) rest x (w .at) (omega arith)) in
     let e2 : (headerOf ero 4 ++ body) ++ (x ++ drop (length x) rest) ≡ headerOf ero 4 ++ ((body ++ x) ++ drop (length x) rest) = simp append-assoc in
     let eb' : placed b (w .at) x ≡ headerOf ero 4 ++ ((body ++ x) ++ drop (length x) rest) = e1 ∙ e2 in
     rw q
-    (moved body g gs (fit-of ero (length b) w g ee (taken (length b) (w .ero) (w .at) g n))
-    (adds gs (body ++ x) (drop (length x) rest) (placed b (w .at) x) (record { ero = w .ero; at = w .at + length x }) ee
+    (moved form body g gs (fit-of form ero (length b) w g ee (taken form (length b) (w .ero) (w .at) g n))
+    (adds gs (body ++ x) (drop (length x) rest) (placed b (w .at) x) (record { ero = w .ero; at = w .at + length x; form = w .form }) ee
     (omega (arith, length-append body x)) eb' (rw q at a)))
 
--- What an accepted run leaves.
-pub record Image (ero : Bool) (gs : List Segment) (r : Run) : Type 0 where
-  pub at : r .written .writer .at ≡ length (objectOf ero gs)
-  pub object : objectIn r ≡ objectOf ero gs
-  pub fits : AllFit ero gs
-  pub most : 4 + length (bodyOf gs) ≤ 65532
-  pub fours : (4 + length (bodyOf gs)) % 4 ≡ 0
-  pub filled : length (bodyOf gs) ≡ 0 → ⊥
+adds-in : (form : Form) {ero : Bool} (gs : List Segment) (b : List ℕ) (w : Writer) → formOf (w .form) ≡ form → w .ero ≡ ero → w .at ≡ 4
+    → b ≡ headerOf ero 4 ++ ([] ++ drop 4 b) → Accepted (addsRun b w gs) → Under form ero [] gs (addsRun b w gs)
+adds-in form gs b w ef ee ea eb a = rw (← ef) (adds gs [] (drop 4 b) b w ee ea eb a)
 
-pub length-object : (ero : Bool) (gs : List Segment) → length (objectOf ero gs) ≡ 4 + length (bodyOf gs)
+-- What an accepted run leaves.
+pub record Image (form : Form) (ero : Bool) (gs : List Segment) (r : Run) : Type 0 where
+  pub at : r .written .writer .at ≡ length (objectOf form ero gs)
+  pub object : objectIn r ≡ objectOf form ero gs
+  pub fits : AllFit form ero gs
+  pub most : 4 + length (bodyOf form gs) ≤ 65532
+  pub fours : (4 + length (bodyOf form gs)) % 4 ≡ 0
+  pub filled : length (bodyOf form gs) ≡ 0 → ⊥
+
+pub length-object : (form : Form) (ero : Bool) (gs : List Segment) → length (objectOf form ero gs) ≡ 4 + length (bodyOf form gs)
 unfolding objectOf headerOf
-length-object ero gs = omega arith
+length-object form ero gs = omega arith
 
 -- The octets of a buffer that starts with an object, up to its place.
-cut : (ero : Bool) (gs : List Segment) (b rest : List ℕ) (at : ℕ) → at ≡ 4 + length (bodyOf gs)
-    → b ≡ headerOf ero (4 + length (bodyOf gs)) ++ (bodyOf gs ++ rest) → take at b ≡ objectOf ero gs
+cut : (form : Form) (ero : Bool) (gs : List Segment) (b rest : List ℕ) (at : ℕ) → at ≡ 4 + length (bodyOf form gs)
+    → b ≡ headerOf ero (4 + length (bodyOf form gs)) ++ (bodyOf form gs ++ rest) → take at b ≡ objectOf form ero gs
 unfolding objectOf headerOf
-cut ero gs b rest at ea eb = rw (eb, ea) (take-at (objectOf ero gs) rest (4 + length (bodyOf gs)) (length-object ero gs))
+cut form ero gs b rest at ea eb = rw (eb, ea) (take-at (objectOf form ero gs) rest (4 + length (bodyOf form gs)) (length-object form ero gs))
 
-begun : (b : List ℕ) (ero : Bool) → over (headerOf ero 4) b ≡ headerOf ero 4 ++ ([] ++ drop 4 b)
+begun : (b : List ℕ) (ero : Bool) → over (headerOf ero 4) b ≡ headerOf ero 4 ++ ([] ++ drop 4 (over (headerOf ero 4) b))
 unfolding headerOf over
 begun b ero = refl
 
-pub image : (ero : Bool) (gs : List Segment) (b : List ℕ) (w : Writer) → Accepted (writeRun b w ero gs) → Image ero gs (writeRun b w ero gs)
+pub image : (ero : Bool) (pst : ℕ) (gs : List Segment) (b : List ℕ) (w : Writer) → Accepted (writeRun b w ero pst gs)
+    → Image (formOf pst) ero gs (writeRun b w ero pst gs)
 unfolding writeRun
-image ero gs b w a =
-    let n = went-on (beginRun b w ero) (λ b′ w′. addsRun b′ w′ gs) a (beginNumber (length b)) (begin-number b w ero) in
-    let q = begin-onward b w ero (λ b′ w′. addsRun b′ w′ gs) n in
-    let u = adds gs [] (drop 4 b) (over (headerOf ero 4) b) (record { ero = ero; at = 4 }) refl refl (begun b ero) (rw q at a) in
+image ero pst gs b w a =
+    let form = formOf pst in
+    let n = went-on (beginRun b w ero pst) (λ b′ w′. addsRun b′ w′ gs) a (beginNumber (length b)) (begin-number b w ero pst) in
+    let q = begin-onward b w ero pst (λ b′ w′. addsRun b′ w′ gs) n in
+    let u = adds-in form gs (over (headerOf ero 4) b) (record { ero = ero; at = 4; form = formOf pst .setup }) (readable-by pst .setup) refl refl (begun b ero) (rw q at a) in
     rw q
     (record {
-      at = u .at ∙ sym (length-object ero gs);
-      object = cut ero gs _ (u .rest) _ (u .at) (u .buffer);
+      at = u .at ∙ sym (length-object form ero gs);
+      object = cut form ero gs _ (u .rest) _ (u .at) (u .buffer);
       fits = u .fits;
       most = u .most;
       fours = u .fours;
@@ -169,7 +183,7 @@ image ero gs b w a =
 
 -- the second theorem: one object -------------------------------------------------------------------------------
 
--- Any two finished objects of the same kind and segments are equal octet for octet, whatever the buffers and the states were.
-pub one-object : (ero : Bool) (gs : List Segment) (b c : List ℕ) (v w : Writer) → Accepted (writeRun b v ero gs) → Accepted (writeRun c w ero gs)
-    → objectIn (writeRun b v ero gs) ≡ objectIn (writeRun c w ero gs)
-one-object ero gs b c v w p q = image ero gs b v p .object ∙ sym (image ero gs c w q .object)
+-- Any two finished objects of the same kind, form and segments are equal octet for octet, whatever the buffers and the states were.
+pub one-object : (ero : Bool) (pst : ℕ) (gs : List Segment) (b c : List ℕ) (v w : Writer) → Accepted (writeRun b v ero pst gs) → Accepted (writeRun c w ero pst gs)
+    → objectIn (writeRun b v ero pst gs) ≡ objectIn (writeRun c w ero pst gs)
+one-object ero pst gs b c v w p q = image ero pst gs b v p .object ∙ sym (image ero pst gs c w q .object)

@@ -10,3 +10,4 @@ pub mod Rewriting
 pub mod Mixed
 pub mod Strays
 pub mod HeadEnd
+pub mod Alone

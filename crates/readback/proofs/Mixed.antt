@@ -8,12 +8,13 @@ use lib.ListN.{length, take, drop}
 use lib.Seq.{take-append-add, drop-append-add}
 use native.Mathlib.Omega.{arith}
 use Rattle.octets.specs.Octets.{hi, lo, over, placed}
+use Rattle.forms.specs.Forms.{formOf}
 use Rattle.subobject.specs.declared.segment.Segment.{Segment}
 use Rattle.subobject.specs.Segments.{subobjectOf}
 use Rattle.writer.specs.declared.state.Writer.{Writer}
 use Rattle.writer_rules.specs.Refusals.{addNumber, finishNumber}
 use Rattle.writer_rules.proofs.Laws.{taken}
-use Rattle.writer.specs.Writing.{headerOf, beginNumber, beginAnswer, beginBuffer, addAnswer, addBuffer, finishAnswer, finishBuffer}
+use Rattle.writer.specs.Writing.{headerOf, beginNumber, beginAnswer, beginBuffer, addAnswerIn, addBufferIn, addAnswer, addBuffer, finishAnswer, finishBuffer}
 use Rattle.readback.specs.Runs.{Run, Act, onward, beginRun, finishRun, addsRun, writeRun, actsRun, anyRun, takenFrom, takenIn, Accepted}
 use Rattle.readback.specs.Runs.Act.{adding, finishing}
 use Rattle.readback.proofs.Images.{went-on, begin-number, finish-number, add-onward, begin-onward}
@@ -64,22 +65,26 @@ none-left : {ero : Bool} (b c : List ℕ) (w : Writer) → Alike ero b c → Acc
 unfolding actsRun addsRun takenFrom
 none-left b c w a e = ended b c w a (sym (finish-number b w) ∙ e)
 
+-- The state behind a segment.
+abbrev behind : Writer → Segment → Writer
+behind w g = record { ero = w .ero; at = w .at + length (subobjectOf (formOf (w .form)) g); form = w .form }
+
 -- An add that is accepted goes on.
-adds-on : (c : List ℕ) (w : Writer) (g : Segment) (gs : List Segment) → addNumber (length c) (w .ero) (w .at) g ≡ 0
-    → addsRun c w (g ∷ gs) ≡ addsRun (placed c (w .at) (subobjectOf g)) (record { ero = w .ero; at = w .at + length (subobjectOf g) }) gs
+adds-on : (c : List ℕ) (w : Writer) (g : Segment) (gs : List Segment) → addNumber (formOf (w .form)) (length c) (w .ero) (w .at) g ≡ 0
+    → addsRun c w (g ∷ gs) ≡ addsRun (placed c (w .at) (subobjectOf (formOf (w .form)) g)) (behind w g) gs
 unfolding addsRun
 adds-on c w g gs e = add-onward c w g (λ b′ w′. addsRun b′ w′ gs) e
 
 -- What a call leaves, by its number.
-after-add : (b : List ℕ) (w : Writer) (g : Segment) (cs : List Act) → addNumber (length b) (w .ero) (w .at) g ≡ 0
-    → (actsRun b w (adding g ∷ cs) ≡ actsRun (placed b (w .at) (subobjectOf g)) (record { ero = w .ero; at = w .at + length (subobjectOf g) }) cs)
-    × (takenFrom b w (adding g ∷ cs) ≡ g ∷ takenFrom (placed b (w .at) (subobjectOf g)) (record { ero = w .ero; at = w .at + length (subobjectOf g) }) cs)
-unfolding actsRun takenFrom addAnswer addBuffer
+after-add : (b : List ℕ) (w : Writer) (g : Segment) (cs : List Act) → addNumber (formOf (w .form)) (length b) (w .ero) (w .at) g ≡ 0
+    → (actsRun b w (adding g ∷ cs) ≡ actsRun (placed b (w .at) (subobjectOf (formOf (w .form)) g)) (behind w g) cs)
+    × (takenFrom b w (adding g ∷ cs) ≡ g ∷ takenFrom (placed b (w .at) (subobjectOf (formOf (w .form)) g)) (behind w g) cs)
+unfolding actsRun takenFrom addAnswerIn addBufferIn
 after-add b w g cs e = (rw e, rw e)
 
-after-refused : (b : List ℕ) (w : Writer) (g : Segment) (cs : List Act) (k : ℕ) → addNumber (length b) (w .ero) (w .at) g ≡ suc k
+after-refused : (b : List ℕ) (w : Writer) (g : Segment) (cs : List Act) (k : ℕ) → addNumber (formOf (w .form)) (length b) (w .ero) (w .at) g ≡ suc k
     → (actsRun b w (adding g ∷ cs) ≡ actsRun b w cs) × (takenFrom b w (adding g ∷ cs) ≡ takenFrom b w cs)
-unfolding actsRun takenFrom addAnswer addBuffer
+unfolding actsRun takenFrom addAnswerIn addBufferIn
 after-refused b w g cs k e = (rw e, rw e)
 
 after-finish : (b : List ℕ) (w : Writer) (cs : List Act) → finishNumber (length b) (w .at) ≡ 0
@@ -98,12 +103,12 @@ abbrev Same : Bool → List Act → Type 0
 Same ero cs = (b c : List ℕ) (w : Writer) → Alike ero b c → Accepted (actsRun b w cs) → actsRun b w cs ≡ addsRun c w (takenFrom b w cs)
 
 add-turn : {ero : Bool} (g : Segment) (cs : List Act) → Same ero cs → (b c : List ℕ) (w : Writer) → Alike ero b c → Accepted (actsRun b w (adding g ∷ cs))
-    → (n : ℕ) → addNumber (length b) (w .ero) (w .at) g ≡ n → actsRun b w (adding g ∷ cs) ≡ addsRun c w (takenFrom b w (adding g ∷ cs))
+    → (n : ℕ) → addNumber (formOf (w .form)) (length b) (w .ero) (w .at) g ≡ n → actsRun b w (adding g ∷ cs) ≡ addsRun c w (takenFrom b w (adding g ∷ cs))
 add-turn g cs ih b c w a e ℕ.zero q =
-    let x = subobjectOf g in
-    let w′ : Writer = record { ero = w .ero; at = w .at + length x } in
+    let x = subobjectOf (formOf (w .form)) g in
+    let w′ = behind w g in
     let p = after-add b w g cs q in
-    let t = taken (length b) (w .ero) (w .at) g q in
+    let t = taken (formOf (w .form)) (length b) (w .ero) (w .at) g q in
     let i = ih (placed b (w .at) x) (placed c (w .at) x) w′ (added x (w .at) a (t .place .low)) (rw (p .0) at e) in
     let o = adds-on c w g (takenFrom (placed b (w .at) x) w′ cs) (rw (same-length a) at q) in
     p .0 ∙ i ∙ sym o ∙ sym (ap (addsRun c w) (p .1))
@@ -125,7 +130,7 @@ finish-turn cs ih b c w a e (ℕ.suc k) q =
 
 acts : {ero : Bool} (cs : List Act) → Same ero cs
 acts [] b c w a e = none-left b c w a e
-acts (adding g ∷ cs) b c w a e = add-turn g cs (acts cs) b c w a e (addNumber (length b) (w .ero) (w .at) g) refl
+acts (adding g ∷ cs) b c w a e = add-turn g cs (acts cs) b c w a e (addNumber (formOf (w .form)) (length b) (w .ero) (w .at) g) refl
 acts (finishing ∷ cs) b c w a e = finish-turn cs (acts cs) b c w a e (finishNumber (length b) (w .at)) refl
 
 begun : (b : List ℕ) (ero : Bool) → over (headerOf ero 4) b ≡ headerOf ero 4 ++ drop 4 b
@@ -133,14 +138,15 @@ unfolding headerOf over
 begun b ero = refl
 
 -- Begin, adds and finishes in any order, then a finish that is accepted: all is as after begin, the adds that were accepted, and finish.
-pub any-run : (b : List ℕ) (w : Writer) (ero : Bool) (cs : List Act) → Accepted (anyRun b w ero cs) → anyRun b w ero cs ≡ writeRun b w ero (takenIn b w ero cs)
+pub any-run : (b : List ℕ) (w : Writer) (ero : Bool) (pst : ℕ) (cs : List Act) → Accepted (anyRun b w ero pst cs)
+    → anyRun b w ero pst cs ≡ writeRun b w ero pst (takenIn b w ero pst cs)
 unfolding anyRun writeRun takenIn beginAnswer beginBuffer
-any-run b w ero cs e =
-    let n = went-on (beginRun b w ero) (λ b′ w′. actsRun b′ w′ cs) e (beginNumber (length b)) (begin-number b w ero) in
+any-run b w ero pst cs e =
+    let n = went-on (beginRun b w ero pst) (λ b′ w′. actsRun b′ w′ cs) e (beginNumber (length b)) (begin-number b w ero pst) in
     let h = over (headerOf ero 4) b in
-    let w′ : Writer = record { ero = ero; at = 4 } in
-    let q = begin-onward b w ero (λ b″ w″. actsRun b″ w″ cs) n in
+    let w′ : Writer = record { ero = ero; at = 4; form = formOf pst .setup } in
+    let q = begin-onward b w ero pst (λ b″ w″. actsRun b″ w″ cs) n in
     let a : Alike ero h h = record { n = 4; m = 4; tail = drop 4 b; first = begun b ero; second = begun b ero } in
-    let t : takenIn b w ero cs ≡ takenFrom h w′ cs = rw n in
-    let o = begin-onward b w ero (λ b″ w″. addsRun b″ w″ (takenFrom h w′ cs)) n in
-    q ∙ acts cs h h w′ a (rw q at e) ∙ sym o ∙ sym (ap (writeRun b w ero) t)
+    let t : takenIn b w ero pst cs ≡ takenFrom h w′ cs = rw n in
+    let o = begin-onward b w ero pst (λ b″ w″. addsRun b″ w″ (takenFrom h w′ cs)) n in
+    q ∙ acts cs h h w′ a (rw q at e) ∙ sym o ∙ sym (ap (writeRun b w ero pst) t)

@@ -50,20 +50,6 @@ append-same a b c d l e = (
   sym (drop-at a c (length b) l) ∙ ap (drop (length b)) e ∙ drop-at b d (length b) refl,
 )
 
--- Eight octets one by one.
-pub eight : (x : List ℕ) → length x ≡ 8
-    → x ≡ getD x 0 0 ∷ getD x 1 0 ∷ getD x 2 0 ∷ getD x 3 0 ∷ getD x 4 0 ∷ getD x 5 0 ∷ getD x 6 0 ∷ getD x 7 0 ∷ []
-eight [] e = absurd (omega arith)
-eight (a ∷ []) e = absurd (omega arith)
-eight (a ∷ b ∷ []) e = absurd (omega arith)
-eight (a ∷ b ∷ c ∷ []) e = absurd (omega arith)
-eight (a ∷ b ∷ c ∷ d ∷ []) e = absurd (omega arith)
-eight (a ∷ b ∷ c ∷ d ∷ f ∷ []) e = absurd (omega arith)
-eight (a ∷ b ∷ c ∷ d ∷ f ∷ g ∷ []) e = absurd (omega arith)
-eight (a ∷ b ∷ c ∷ d ∷ f ∷ g ∷ h ∷ []) e = absurd (omega arith)
-eight (a ∷ b ∷ c ∷ d ∷ f ∷ g ∷ h ∷ i ∷ []) e = refl
-eight (a ∷ b ∷ c ∷ d ∷ f ∷ g ∷ h ∷ i ∷ j ∷ l) e = absurd (omega arith)
-
 -- octets -------------------------------------------------------------------------------------------------------
 
 pub octet-small : (s : List ℕ) → Octets s → (i : ℕ) → octetOf s i < 256
@@ -94,21 +80,3 @@ zeros-cons a x e f = rw (eq-eqb a 0 e) f
 
 pub zeros-uncons : (a : ℕ) (x : List ℕ) → zeros (a ∷ x) ≡ true → (a ≡ 0) × (zeros x ≡ true)
 zeros-uncons a x e = let p = both-true (eqb a 0) (zeros x) e in (eqb-true a 0 (p .0), p .1)
-
--- Six numbers and what is behind them.
-module _ (a b c d e f : ℕ) (x : List ℕ) where
-  pub six-zeros : a ≡ 0 → b ≡ 0 → c ≡ 0 → d ≡ 0 → e ≡ 0 → f ≡ 0 → zeros x ≡ true → zeros (a ∷ b ∷ c ∷ d ∷ e ∷ f ∷ x) ≡ true
-  six-zeros ea eb ec ed ee ef ex =
-      zeros-cons a (b ∷ c ∷ d ∷ e ∷ f ∷ x) ea
-      (zeros-cons b (c ∷ d ∷ e ∷ f ∷ x) eb
-      (zeros-cons c (d ∷ e ∷ f ∷ x) ec (zeros-cons d (e ∷ f ∷ x) ed (zeros-cons e (f ∷ x) ee (zeros-cons f x ef ex)))))
-
-  pub zeros-six : zeros (a ∷ b ∷ c ∷ d ∷ e ∷ f ∷ x) ≡ true → (a ≡ 0) × (b ≡ 0) × (c ≡ 0) × (d ≡ 0) × (e ≡ 0) × (f ≡ 0) × (zeros x ≡ true)
-  zeros-six z =
-      let ua = zeros-uncons a (b ∷ c ∷ d ∷ e ∷ f ∷ x) z in
-      let ub = zeros-uncons b (c ∷ d ∷ e ∷ f ∷ x) (ua .1) in
-      let uc = zeros-uncons c (d ∷ e ∷ f ∷ x) (ub .1) in
-      let ud = zeros-uncons d (e ∷ f ∷ x) (uc .1) in
-      let ue = zeros-uncons e (f ∷ x) (ud .1) in
-      let uf = zeros-uncons f x (ue .1) in
-      (ua .0, ub .0, uc .0, ud .0, ue .0, uf .0, uf .1)

@@ -1,20 +1,27 @@
 -- The first theorem: what was written is read back.
 use Prim.Native.Nat.{ℕ, zero, suc, _+_, _-_, _*_, _/_, _%_, _≤_, _<_}
 use mathlib.Core.Path.{_≡_, refl, sym, _∙_, ap}
-use mathlib.Core.Bool.{Bool, true, false, cond, not, _&&_, _||_}
+use mathlib.Core.Bool.{Bool, true, false, false≢true, cond, not, _&&_, _||_}
 use mathlib.Core.List.{List, [], _∷_, _++_, append-assoc, append-nil}
 use lib.Dec.{eqb, ltb, leb}
-use lib.ListN.{length, getD, take, drop, length-append}
+use lib.Seq.{getD-take, length-take-le}
+use lib.ListN.{length, getD, take, drop, replicate, length-append, List·getD-append}
+use native.Mathlib.Nat.{add-zero}
 use native.Mathlib.Omega.{arith}
-use borrow.Author.Tests.{eq-eqb, ne-eqb, le-ltb, lt-ltb, le-leb}
-use Rattle.octets.specs.Octets.{octetOf, be16, hi, lo}
+use borrow.Author.Tests.{eq-eqb, ne-eqb, eqb-true, eqb-false, not-false, le-ltb, lt-ltb, le-leb}
+use Rattle.octets.specs.Octets.{octetOf, be16, hi, lo, part, over, partOf}
+use Rattle.octets.proofs.Laws.{length-part, getD-part}
+use Rattle.octets.proofs.Said.{both-true}
 use Rattle.answers.specs.Verdicts.{acceptedWith, carryingBoth}
+use Rattle.forms.specs.declared.Form.{Form}
+use Rattle.forms.specs.Forms.{srv6Form, mplsForm, formOf, naiLength}
+use Rattle.forms.specs.Sized.{Sized}
 use Rattle.session.specs.declared.Session.{Session}
 use Rattle.session.specs.declared.Limit.the-variants.{Free}
 use Rattle.subobject.specs.declared.head.Head.{Head}
 use Rattle.subobject.specs.declared.segment.Segment.{Segment}
-use Rattle.subobject.specs.Layout.{srv6Kind, naiLength, sidLength, structureThere, structureLength, expectedLength, kindOf, headOf, headAt}
-use Rattle.subobject.specs.Rules.{rule7, rule8, rule9, rule10, rule11, flagF, hasStructure, sumAt, bitsAt}
+use Rattle.subobject.specs.Layout.{sidLength, structureThere, structureLength, expectedLength, kindOf, headOf, headAt}
+use Rattle.subobject.specs.Rules.{rule7, rule8, rule9, malformed, rule10, rule11, flagF, hasStructure, sumAt, bitsAt, labelAt, timeAt, hasLabel, rule29, rule30}
 use Rattle.subobject.specs.Segments.{segmentAt, noSegment, headOfSegment, fixedOctets, structureOctets, subobjectOf, bitsOf, bit}
 use Rattle.subobject.specs.Strays.{straysAt, noStrays, strayIn}
 use Rattle.frame.specs.Checks.{Check, check, firstBroken}
@@ -23,24 +30,27 @@ use Rattle.frame.proofs.Checks.{None, none-first, none-append}
 use Rattle.frame_rules.proofs.Laws.{headed-last}
 use Rattle.route.specs.declared.picking.Picked.{Picked}
 use Rattle.route_walk.specs.Walk.{checksAt, subobjectChecks}
-use Rattle.route.specs.Routes.{rule12, rule13, rule15, wholeChecks, lastChecks, checksOf, countOf, strayCount, acceptanceOf, judgeOf, pickOf, segmentOf}
-use Rattle.route.proofs.Strays.{none-stray}
+use Rattle.route.specs.Routes.{rule12, rule13, rule15, wholeChecks, lastChecks, checksOf, countOf, strayCount, acceptanceOf, judgeAs, pickOf, segmentAs, judgeOf, segmentOf}
+use Rattle.route.proofs.Answer.{accepted-none}
+use Rattle.route.proofs.Strays.{none-stray, refused-unstray}
 use Rattle.writer_spare.specs.Held.{Held}
-use Rattle.writer_layout.proofs.Laws.{nai-most, length-subobject}
+use Rattle.writer_spare.specs.Spare.{zeros}
+use Rattle.writer_layout.specs.Readable.{Readable}
+use Rattle.writer_layout.proofs.Laws.{length-subobject}
+use Rattle.forms.proofs.Laws.{sized-by}
+use Rattle.writer_layout.proofs.Forms.{readable-by}
 use Rattle.writer.specs.declared.state.Writer.{Writer}
 use Rattle.writer_rules.specs.Refusals.{unfit}
 use Rattle.writer_rules.proofs.Laws.{size-subobject}
 use Rattle.writer.specs.Writing.{headerOf}
 use Rattle.readback.specs.Runs.{Run, writeRun, Accepted, objectIn, bodyOf, objectOf, AllHeld, openSession}
-use Rattle.objects.specs.Objects.{srv6Setup}
 use Rattle.readback.specs.Runs.AllHeld.{more}
-use Rattle.writer_spare.specs.Spare.{zeros}
 use Rattle.readback.specs.Ignored.{ignoredAt, ignoredIn, ignoredOf}
 use Rattle.readback.proofs.Parts.{zeros-append, zeros-cons}
 use Rattle.readback.proofs.Images.AllFit.{also}
 use Rattle.readback.proofs.Images.{Fit, AllFit, Image, image, length-object}
 use Rattle.readback.proofs.Stands.{Stands, stands-octet, stands-first}
-use Rattle.readback.proofs.Segments.{Plain, plain, there, stands-fixed, stands-bits, head-back, segment-back, strays-back, ignored-back}
+use Rattle.readback.proofs.Segments.{Plain, plain, there, stands-four, stands-sid, stands-bits, head-back, segment-back, strays-back, ignored-back}
 
 -- the octets of a segment --------------------------------------------------------------------------------------
 
@@ -48,74 +58,124 @@ fours : (b : Bool) (n : ℕ) → n % 4 ≡ 0 → cond b n 0 % 4 ≡ 0
 fours true n e = e
 fours false n e = refl
 
-nai-fours : (nt : ℕ) → naiLength nt % 4 ≡ 0
-unfolding naiLength
-nai-fours nt = go (eqb nt 2) (eqb nt 4) (eqb nt 6)
+fixed-fours : {form : Form} → Sized form → (4 ≤ form .fixed) × (form .fixed % 4 ≡ 0)
+fixed-fours {form} z = go (form .behaves) (form .fixed) (z .fixed)
   where
-    go : (a b c : Bool) → cond a 16 (cond b 32 (cond c 40 0)) % 4 ≡ 0
-    go true b c = refl
-    go false true c = refl
-    go false false true = refl
-    go false false false = refl
+    go : (b : Bool) (n : ℕ) → n ≡ cond b 8 4 → (4 ≤ n) × (n % 4 ≡ 0)
+    go true n e = (omega arith, omega arith)
+    go false n e = (omega arith, omega arith)
 
-pub sub-fours : (g : Segment) → Held g → (8 ≤ length (subobjectOf g)) × (length (subobjectOf g) % 4 ≡ 0)
-sub-fours g h =
-    let e = length-subobject g h in
-    let a = fours (eqb (headOfSegment g .s) 0) 16 refl in
-    let b = nai-fours (g .nt) in
-    let c = fours (structureThere (headOfSegment g .s) (headOfSegment g .t)) 8 refl in
-    (omega arith, omega arith)
+pub sub-fours : {form : Form} → Sized form → Readable form → (g : Segment) → Held g → (4 ≤ length (subobjectOf form g)) × (length (subobjectOf form g) % 4 ≡ 0)
+sub-fours {form} z r g h =
+    let e = length-subobject z g h in
+    let f = fixed-fours z in
+    let a = fours (eqb (headOfSegment form g .s) 0) (form .sid) (r .sid) in
+    let b = r .nai (g .nt) in
+    let c = fours (structureThere (headOfSegment form g .s) (headOfSegment form g .t)) 8 refl in
+    (omega (arith, f .0), omega (arith, f .1))
 
 -- where segments stand -----------------------------------------------------------------------------------------
 
-abbrev placesFrom : ℕ → List Segment → List ℕ
-placesFrom at [] = []
-placesFrom at (g ∷ gs) = at ∷ placesFrom (at + length (subobjectOf g)) gs
+abbrev placesFrom : Form → ℕ → List Segment → List ℕ
+placesFrom form at [] = []
+placesFrom form at (g ∷ gs) = at ∷ placesFrom form (at + length (subobjectOf form g)) gs
 
-length-places : (at : ℕ) (gs : List Segment) → length (placesFrom at gs) ≡ length gs
-length-places at [] = refl
-length-places at (g ∷ gs) = ap suc (length-places (at + length (subobjectOf g)) gs)
+next-stands : (form : Form) (p : List ℕ) (g : Segment) (gs : List Segment) → Stands (p ++ (subobjectOf form g ++ bodyOf form gs)) (length p) (subobjectOf form g)
+next-stands form p g gs = record { before = p; behind = bodyOf form gs; whole = refl; place = refl }
 
-next-stands : (p : List ℕ) (g : Segment) (gs : List Segment) → Stands (p ++ (subobjectOf g ++ bodyOf gs)) (length p) (subobjectOf g)
-next-stands p g gs = record { before = p; behind = bodyOf gs; whole = refl; place = refl }
+size-at : {form : Form} → Sized form → Readable form → (p : List ℕ) (g : Segment) (gs : List Segment) → Held g
+    → octetOf (p ++ (subobjectOf form g ++ bodyOf form gs)) (length p + 1) ≡ length (subobjectOf form g)
+size-at {form} z r p g gs h = stands-octet _ (stands-four z r g (next-stands form p g gs)) 1 (omega arith) ∙ size-subobject z g h
 
-size-at : (p : List ℕ) (g : Segment) (gs : List Segment) → Held g → octetOf (p ++ (subobjectOf g ++ bodyOf gs)) (length p + 1) ≡ length (subobjectOf g)
-unfolding fixedOctets
-size-at p g gs h =
-    stands-octet (fixedOctets (headOfSegment g) (g .behaviour)) (stands-fixed g (next-stands p g gs)) 1 (omega arith) ∙ size-subobject g h
-
-fits : (len room : ℕ) → 8 ≤ len → len % 4 ≡ 0 → len ≤ room → fitsIn len room ≡ true
+fits : (len room : ℕ) → 4 ≤ len → len % 4 ≡ 0 → len ≤ room → fitsIn len room ≡ true
 unfolding fitsIn
-fits len room l f r = rw (le-ltb len 4 (omega arith), eq-eqb (len % 4) 0 f, le-leb len room r)
+fits len room l f r = rw (le-ltb len 4 l, eq-eqb (len % 4) 0 f, le-leb len room r)
 
-apart-body : (gs : List Segment) (p : List ℕ) (f : ℕ) → AllHeld gs → length gs < f
-    → apart (p ++ bodyOf gs) (length p) f ≡ record { whole = true; places = placesFrom (length p) gs }
+apart-body : {form : Form} → Sized form → Readable form → (gs : List Segment) (p : List ℕ) (f : ℕ) → AllHeld gs → length gs < f
+    → apart (p ++ bodyOf form gs) (length p) f ≡ record { whole = true; places = placesFrom form (length p) gs }
 unfolding apart
-apart-body gs p zero h k = absurd (omega arith)
-apart-body [] p (suc f) h k = rw (append-nil p, eq-eqb (length p) (length p) refl)
-apart-body (g ∷ gs) p (suc f) (more hg h) k =
-    let x = subobjectOf g in
-    let s = p ++ (x ++ bodyOf gs) in
-    let z = sub-fours g hg in
-    let l : length s ≡ length p + (length x + length (bodyOf gs)) = omega (arith, length-append p (x ++ bodyOf gs), length-append x (bodyOf gs)) in
+apart-body z r gs p zero h k = absurd (omega arith)
+apart-body z r [] p (suc f) h k = rw (append-nil p, eq-eqb (length p) (length p) refl)
+apart-body {form} z r (g ∷ gs) p (suc f) (more hg h) k =
+    let x = subobjectOf form g in
+    let s = p ++ (x ++ bodyOf form gs) in
+    let y = sub-fours z r g hg in
+    let l : length s ≡ length p + (length x + length (bodyOf form gs)) = omega (arith, length-append p (x ++ bodyOf form gs), length-append x (bodyOf form gs)) in
     let n : eqb (length p) (length s) ≡ false = ne-eqb (length p) (length s) (λ q. omega arith) in
-    let e = size-at p g gs hg in
-    let o : fitsIn (length x) (length s - length p) ≡ true = fits (length x) (length s - length p) (z .0) (z .1) (omega arith) in
-    let ih = apart-body gs (p ++ x) f h (omega arith) in
-    let ih' : apart s (length p + length x) f ≡ record { whole = true; places = placesFrom (length p + length x) gs }
+    let e = size-at z r p g gs hg in
+    let o : fitsIn (length x) (length s - length p) ≡ true = fits (length x) (length s - length p) (y .0) (y .1) (omega arith) in
+    let ih = apart-body z r gs (p ++ x) f h (omega arith) in
+    let ih' : apart s (length p + length x) f ≡ record { whole = true; places = placesFrom form (length p + length x) gs }
     = simp (append-assoc, length-append) at ih in
     rw (n, e, o, ih')
 
+-- labels -------------------------------------------------------------------------------------------------------
+
+-- An octet of an array that holds a part.
+octet-part : (s : List ℕ) (at n m i : ℕ) → at + n ≤ length s → i < n → octetOf (partOf s at n m) i ≡ octetOf s (at + i)
+unfolding octetOf partOf over
+octet-part s at n m i h k =
+    List·getD-append (part s at n) (drop (length (part s at n)) (replicate m 0)) 0 i (omega (arith, length-part s at n h)) ∙ getD-part s at n i k
+
+-- A label stack entry in such an array is the one in the octets.
+module _ (s : List ℕ) (at n m : ℕ) (inside : at + n ≤ length s) (long : 4 ≤ n) where
+  pub label-part : labelAt (partOf s at n m) 0 ≡ labelAt s at
+  unfolding labelAt
+  label-part =
+      let e0 = octet-part s at n m 0 inside (omega arith) ∙ ap (octetOf s) (add-zero at) in
+      let e1 = octet-part s at n m 1 inside (omega arith) in
+      let e2 = octet-part s at n m 2 inside (omega arith) in
+      rw (e0, e1, e2)
+
+  pub time-part : timeAt (partOf s at n m) 0 ≡ timeAt s at
+  unfolding timeAt
+  time-part = octet-part s at n m 3 inside (omega arith)
+
+-- Where no label is there, nothing is asked of it.
+pub label-off : (h : Head) (x : ℕ) → hasLabel h ≡ false → rule29 h x ≡ false
+unfolding rule29
+label-off h x e = rw e
+
+pub time-off : (h : Head) (x : ℕ) → hasLabel h ≡ false → rule30 h x ≡ false
+unfolding rule30
+time-off h x e = rw e
+
+-- Where one is there, the SID is.
+pub label-sid : (form : Form) (h : Head) → hasLabel h ≡ true → sidLength form (h .s) ≡ form .sid
+unfolding hasLabel
+label-sid form h e = ap (λ (b : Bool). cond {A = ℕ} b (form .sid) 0) (both-true (eqb (h .s) 0) (eqb (h .m) 1) e .0)
+
+-- The first octets of a SID that stands.
+module _ {s : List ℕ} {at : ℕ} (x : List ℕ) (n : ℕ) (t : Stands s at (take n x)) (l : length (take n x) ≡ n) (long : 4 ≤ n) where
+  first-octet : octetOf s at ≡ octetOf x 0
+  unfolding octetOf
+  first-octet = stands-first (take n x) t (omega arith) ∙ getD-take n x 0 0 (omega arith)
+
+  next-octet : (i : ℕ) → i < 4 → octetOf s (at + i) ≡ octetOf x i
+  unfolding octetOf
+  next-octet i h = stands-octet (take n x) t i (omega arith) ∙ getD-take n x i 0 (omega arith)
+
+  label-stands : labelAt s at ≡ labelAt x 0
+  unfolding labelAt
+  label-stands = rw (first-octet, next-octet 1 (omega arith), next-octet 2 (omega arith))
+
+  time-stands : timeAt s at ≡ timeAt x 0
+  unfolding timeAt
+  time-stands = next-octet 3 (omega arith)
+
 -- what stands at a place is what was written -------------------------------------------------------------------
 
-pub record Reads (ero : Bool) (s : List ℕ) (at : ℕ) (g : Segment) : Type 0 where
-  pub head : headAt s ero at ≡ headOfSegment g
-  pub segment : segmentAt s ero at ≡ g
-  pub r8 : rule8 (headOfSegment g) ≡ false
-  pub r9 : rule9 (headOfSegment g) ≡ false
-  pub r11 : rule11 (headOfSegment g) (bitsAt s at (headOfSegment g)) ≡ false
-  pub strays : straysAt s ero at ≡ noStrays
-  pub ignored : zeros (ignoredAt s ero at) ≡ true
+pub record Reads (form : Form) (ero : Bool) (s : List ℕ) (at : ℕ) (g : Segment) : Type 0 where
+  pub head : headAt form s ero at ≡ headOfSegment form g
+  pub segment : segmentAt form s ero at ≡ g
+  pub r8 : rule8 form (headOfSegment form g) ≡ false
+  pub r9 : rule9 (headOfSegment form g) ≡ false
+  pub formed : malformed (headOfSegment form g) ≡ false
+  pub r11 : rule11 (headOfSegment form g) (bitsAt form s at (headOfSegment form g)) ≡ false
+  pub r29 : rule29 (headOfSegment form g) (labelAt s (at + form .fixed)) ≡ false
+  pub r30 : rule30 (headOfSegment form g) (timeAt s (at + form .fixed)) ≡ false
+  pub strays : straysAt form s ero at ≡ noStrays
+  pub ignored : zeros (ignoredAt form s ero at) ≡ true
 
 -- Where no structure is there, nothing is summed.
 pub bits-off : (h : Head) (sum : ℕ) → hasStructure h ≡ false → rule11 h sum ≡ false
@@ -131,42 +191,64 @@ sum-back {s} {at} x t l =
     let e3 = stands-octet x t 3 (omega arith) in
     rw (e0, e1, e2, e3)
 
-bits-back : {s : List ℕ} {at : ℕ} (g : Segment) → Stands s at (subobjectOf g) → Held g → (g .structured && not (g .hassid)) ≡ false
-    → rule11 (headOfSegment g) (bitsOf g) ≡ false → (b : Bool) → g .structured ≡ b → rule11 (headOfSegment g) (bitsAt s at (headOfSegment g)) ≡ false
-unfolding bitsOf headOfSegment
-bits-back g t h n r true q = rw (sum-back (g .structure) (stands-bits g t h q n) (h .structure)) r
-bits-back {s} {at} g t h n r false q = bits-off (headOfSegment g) (bitsAt s at (headOfSegment g)) (there g n ∙ q)
+module _ {form : Form} (z : Sized form) (r : Readable form) {s : List ℕ} {at : ℕ} (g : Segment) (t : Stands s at (subobjectOf form g)) (h : Held g) where
+  bits-back : (g .structured && not (g .hassid)) ≡ false → rule11 (headOfSegment form g) (bitsOf g) ≡ false → (b : Bool) → g .structured ≡ b
+      → rule11 (headOfSegment form g) (bitsAt form s at (headOfSegment form g)) ≡ false
+  unfolding bitsOf headOfSegment
+  bits-back n e true q = rw (sum-back (g .structure) (stands-bits z r g t h q n) (h .structure)) e
+  bits-back n e false q = bits-off (headOfSegment form g) (bitsAt form s at (headOfSegment form g)) (there form g n ∙ q)
 
-pub reads : {s : List ℕ} {at : ℕ} (ero : Bool) (g : Segment) → Stands s at (subobjectOf g) → Held g → Fit ero g → Reads ero s at g
-reads ero g t h f =
-    let p = plain ero g (f .fit) in
-    record {
-      head = head-back g t ero (p .flags);
-      segment = segment-back g t ero h p;
-      r8 = f .r8;
-      r9 = f .r9;
-      r11 = bits-back g t h (p .sided) (f .r11) (g .structured) refl;
-      strays = strays-back g t ero h p;
-      ignored = ignored-back g t ero h p;
-    }
+  sid-stands : hasLabel (headOfSegment form g) ≡ true → Stands s (at + form .fixed) (take (form .sid) (g .sid))
+  sid-stands e = rw (label-sid form (headOfSegment form g) e) at (stands-sid z r g t)
 
-pub data AllRead (ero : Bool) (s : List ℕ) : List ℕ → List Segment → Type 0 where
-  none : AllRead ero s [] []
-  next : {p : ℕ} {ps : List ℕ} {g : Segment} {gs : List Segment} → Reads ero s p g → AllRead ero s ps gs → AllRead ero s (p ∷ ps) (g ∷ gs)
+  sid-long : length (take (form .sid) (g .sid)) ≡ form .sid
+  sid-long = length-take-le (form .sid) (g .sid) (omega (arith, z .sid, h .sid))
 
-all-read : (ero : Bool) (gs : List Segment) (p : List ℕ) → AllHeld gs → AllFit ero gs → AllRead ero (p ++ bodyOf gs) (placesFrom (length p) gs) gs
-all-read ero [] p h f = none
-all-read ero (g ∷ gs) p (more hg h) (also fg f) =
-    let ih = all-read ero gs (p ++ subobjectOf g) h f in
-    let ih' : AllRead ero (p ++ (subobjectOf g ++ bodyOf gs)) (placesFrom (length p + length (subobjectOf g)) gs) gs
-    = rw (append-assoc p (subobjectOf g) (bodyOf gs), length-append p (subobjectOf g)) at ih in
-    next (reads ero g (next-stands p g gs) hg fg) ih'
+  label-back : rule29 (headOfSegment form g) (labelAt (g .sid) 0) ≡ false → (b : Bool) → hasLabel (headOfSegment form g) ≡ b
+      → rule29 (headOfSegment form g) (labelAt s (at + form .fixed)) ≡ false
+  label-back e true q = rw (label-stands (g .sid) (form .sid) (sid-stands q) sid-long (r .label)) e
+  label-back e false q = label-off (headOfSegment form g) _ q
+
+  time-back : rule30 (headOfSegment form g) (timeAt (g .sid) 0) ≡ false → (b : Bool) → hasLabel (headOfSegment form g) ≡ b
+      → rule30 (headOfSegment form g) (timeAt s (at + form .fixed)) ≡ false
+  time-back e true q = rw (time-stands (g .sid) (form .sid) (sid-stands q) sid-long (r .label)) e
+  time-back e false q = time-off (headOfSegment form g) _ q
+
+  pub reads : (ero : Bool) → Fit form ero g → Reads form ero s at g
+  reads ero f =
+      let p = plain form ero g (f .fit) in
+      record {
+        head = head-back z r g t ero p;
+        segment = segment-back z r g t ero h p;
+        r8 = f .r8;
+        r9 = f .r9;
+        formed = p .formed;
+        r11 = bits-back (p .sided) (f .r11) (g .structured) refl;
+        r29 = label-back (f .r29) (hasLabel (headOfSegment form g)) refl;
+        r30 = time-back (f .r30) (hasLabel (headOfSegment form g)) refl;
+        strays = strays-back z r g t ero h p;
+        ignored = ignored-back z r g t ero h p;
+      }
+
+pub data AllRead (form : Form) (ero : Bool) (s : List ℕ) : List ℕ → List Segment → Type 0 where
+  none : AllRead form ero s [] []
+  next : {p : ℕ} {ps : List ℕ} {g : Segment} {gs : List Segment} → Reads form ero s p g → AllRead form ero s ps gs → AllRead form ero s (p ∷ ps) (g ∷ gs)
+
+all-read : {form : Form} → Sized form → Readable form → (ero : Bool) (gs : List Segment) (p : List ℕ) → AllHeld gs → AllFit form ero gs
+    → AllRead form ero (p ++ bodyOf form gs) (placesFrom form (length p) gs) gs
+all-read z r ero [] p h f = none
+all-read {form} z r ero (g ∷ gs) p (more hg h) (also fg f) =
+    let ih = all-read z r ero gs (p ++ subobjectOf form g) h f in
+    let ih' : AllRead form ero (p ++ (subobjectOf form g ++ bodyOf form gs)) (placesFrom form (length p + length (subobjectOf form g)) gs) gs
+    = rw (append-assoc p (subobjectOf form g) (bodyOf form gs), length-append p (subobjectOf form g)) at ih in
+    next (reads z r g (next-stands form p g gs) hg ero fg) ih'
 
 -- no rule is broken --------------------------------------------------------------------------------------------
 
-rule7-off : (g : Segment) → rule7 (headOfSegment g) ≡ false
+rule7-off : (form : Form) (g : Segment) → malformed (headOfSegment form g) ≡ false → rule7 form (headOfSegment form g) ≡ false
 unfolding rule7 headOfSegment
-rule7-off g = rw (eq-eqb (flagF (g .nt)) (flagF (g .nt)) refl, eq-eqb (expectedLength (g .nt) (bit (not (g .hassid))) (bit (g .structured))) _ refl)
+rule7-off form g e =
+    rw (eq-eqb (flagF (g .nt)) (flagF (g .nt)) refl, eq-eqb (expectedLength form (g .nt) (bit (not (g .hassid))) (bit (g .structured))) _ refl) e
 
 rule10-off : (ero : Bool) (h : Head) → rule10 h ero true ≡ false
 unfolding rule10
@@ -177,50 +259,58 @@ rule10-off ero h = go ero (eqb (h .s) 1)
     go true false = refl
     go false b = refl
 
-module _ {ero : Bool} {s : List ℕ} where
-  kind-read : {p : ℕ} {g : Segment} → Reads ero s p g → kindAt s ero p ≡ 40
+module _ {form : Form} {ero : Bool} {s : List ℕ} where
+  kind-read : {p : ℕ} {g : Segment} → Reads form ero s p g → kindAt s ero p ≡ form .kind
   unfolding headAt headOf headOfSegment
   kind-read r = ap (λ (h : Head). h .kind) (r .head)
 
-  others-none : {ps : List ℕ} {gs : List Segment} → AllRead ero s ps gs → otherThan (kindAt s ero) 40 ps ≡ 0
+  others-none : {ps : List ℕ} {gs : List Segment} → AllRead form ero s ps gs → otherThan (kindAt s ero) (form .kind) ps ≡ 0
   others-none none = refl
-  others-none (next r a) = rw (eq-eqb _ 40 (kind-read r)) (others-none a)
+  others-none (next r a) = rw (eq-eqb _ (form .kind) (kind-read r)) (others-none a)
 
-  checks-none : {p : ℕ} {g : Segment} → Reads ero s p g → None (checksAt s ero true p)
+  checks-none : {p : ℕ} {g : Segment} → Reads form ero s p g → None (checksAt form s ero true p)
   checks-none {p} {g} r =
-      rw (r .head) (r .r8, (r .r9, (rule7-off g, (rule10-off ero (headOfSegment g), (r .r11, tt)))))
+      rw (r .head) (r .r8, (r .r9, (rule7-off form g (r .formed), (rule10-off ero (headOfSegment form g), (r .r11, (r .r29, (r .r30, tt)))))))
 
-  subobjects-none : {ps : List ℕ} {gs : List Segment} → AllRead ero s ps gs → None (subobjectChecks s ero true ps)
+  subobjects-none : {ps : List ℕ} {gs : List Segment} → AllRead form ero s ps gs → None (subobjectChecks form s ero true ps)
   subobjects-none none = tt
   subobjects-none (next {p} {ps} r a) =
-      none-append (checksAt s ero true p) (subobjectChecks s ero true ps) (checks-none r) (subobjects-none a)
+      none-append (checksAt form s ero true p) (subobjectChecks form s ero true ps) (checks-none r) (subobjects-none a)
 
-  mixed-none : {ps : List ℕ} {gs : List Segment} → AllRead ero s ps gs → mixedAt (kindAt s ero) ps ≡ 0
+  mixed-none : {ps : List ℕ} {gs : List Segment} → AllRead form ero s ps gs → mixedAt (kindAt s ero) ps ≡ 0
   mixed-none none = refl
   mixed-none (next r a) = rw (kind-read r) (others-none a)
 
-  any-there : {ps : List ℕ} {gs : List Segment} → AllRead ero s ps gs → (length gs ≡ 0 → ⊥) → anyIs (kindAt s ero) 40 ps ≡ true
+  any-there : {ps : List ℕ} {gs : List Segment} → AllRead form ero s ps gs → (length gs ≡ 0 → ⊥) → anyIs (kindAt s ero) (form .kind) ps ≡ true
   any-there none h = absurd (h refl)
-  any-there (next {p} r a) h = rw (eq-eqb (kindAt s ero p) 40 (kind-read r))
+  any-there (next {p} r a) h = rw (eq-eqb (kindAt s ero p) (form .kind) (kind-read r))
 
-  read-length : {ps : List ℕ} {gs : List Segment} → AllRead ero s ps gs → length ps ≡ length gs
+  any-kind : {ps : List ℕ} {gs : List Segment} → AllRead form ero s ps gs → (k : ℕ) → anyIs (kindAt s ero) k ps ≡ true → k ≡ form .kind
+  any-kind none k e = absurd (false≢true e)
+  any-kind (next {p} {ps} r a) k e = go (eqb (kindAt s ero p) k) refl e (any-kind a k)
+    where
+      go : (b : Bool) → eqb (kindAt s ero p) k ≡ b → (b || anyIs (kindAt s ero) k ps) ≡ true → (anyIs (kindAt s ero) k ps ≡ true → k ≡ form .kind) → k ≡ form .kind
+      go true q e rest = sym (eqb-true (kindAt s ero p) k q) ∙ kind-read r
+      go false q e rest = rest e
+
+  read-length : {ps : List ℕ} {gs : List Segment} → AllRead form ero s ps gs → length ps ≡ length gs
   read-length none = refl
   read-length (next r a) = ap suc (read-length a)
 
-  clean-there : {ps : List ℕ} {gs : List Segment} → AllRead ero s ps gs → (i : ℕ) → i < length gs → straysAt s ero (getD ps i 0) ≡ noStrays
+  clean-there : {ps : List ℕ} {gs : List Segment} → AllRead form ero s ps gs → (i : ℕ) → i < length gs → straysAt form s ero (getD ps i 0) ≡ noStrays
   clean-there none i h = absurd (omega arith)
   clean-there (next r a) ℕ.zero h = r .strays
   clean-there (next r a) (ℕ.suc i) h = clean-there a i (omega arith)
 
-  ignored-all : {ps : List ℕ} {gs : List Segment} → AllRead ero s ps gs → zeros (ignoredIn s ero ps) ≡ true
+  ignored-all : {ps : List ℕ} {gs : List Segment} → AllRead form ero s ps gs → zeros (ignoredIn form s ero ps) ≡ true
   ignored-all none = refl
-  ignored-all (next {p} {ps} r a) = zeros-append (ignoredAt s ero p) (ignoredIn s ero ps) (r .ignored) (ignored-all a)
+  ignored-all (next {p} {ps} r a) = zeros-append (ignoredAt form s ero p) (ignoredIn form s ero ps) (r .ignored) (ignored-all a)
 
-  clean-all : {ps : List ℕ} {gs : List Segment} → AllRead ero s ps gs → strayIn s ero ps ≡ 0
+  clean-all : {ps : List ℕ} {gs : List Segment} → AllRead form ero s ps gs → strayIn form s ero ps ≡ 0
   clean-all none = refl
   clean-all (next r a) = rw (r .strays, clean-all a)
 
-  read-there : {ps : List ℕ} {gs : List Segment} → AllRead ero s ps gs → (i : ℕ) → i < length gs → segmentAt s ero (getD ps i 0) ≡ getD gs i noSegment
+  read-there : {ps : List ℕ} {gs : List Segment} → AllRead form ero s ps gs → (i : ℕ) → i < length gs → segmentAt form s ero (getD ps i 0) ≡ getD gs i noSegment
   read-there none i h = absurd (omega arith)
   read-there (next r a) ℕ.zero h = r .segment
   read-there (next r a) (ℕ.suc i) h = read-there a i (omega arith)
@@ -231,127 +321,172 @@ rule12-off true count = refl
 rule12-off false count = refl
 
 -- An object whose frame is whole and whose subobjects read as segments.
-module _ (s : List ℕ) (ero : Bool) (ps : List ℕ) (gs : List Segment) (hd : headed s ero ≡ true) (q : apartOf s ≡ record { whole = true; places = ps })
-    (a : AllRead ero s ps gs) (some : length gs ≡ 0 → ⊥) where
+module _ (form : Form) (s : List ℕ) (ero : Bool) (ps : List ℕ) (gs : List Segment) (hd : headed s ero ≡ true) (q : apartOf s ≡ record { whole = true; places = ps })
+    (a : AllRead form ero s ps gs) (some : length gs ≡ 0 → ⊥) where
   filled : apartOf s .whole ≡ true
   filled = λ i. q i .whole
 
   stand : placesOf s ≡ ps
   stand = λ i. q i .places
 
-  whole-none : None (wholeChecks s ero openSession srv6Setup)
+  whole-none : None (wholeChecks form s ero openSession (form .setup))
   unfolding rule4 rule5 rule6 rule6Place rule14 rule13
   whole-none =
       let r4 : rule4 s ero ≡ false = rw (hd, filled) in
       let r5 : rule5 s ≡ false = rw stand (ne-eqb (length ps) 0 (λ z. some (sym (read-length a) ∙ z))) in
-      let r6 : rule6 s ero srv6Kind ≡ false = rw stand (rw (any-there a some, mixed-none a)) in
-      let r14 : rule14 s ero srv6Kind ≡ false = rw stand (rw (any-there a some)) in
-      (r4, (r5, (r6, (r14, (refl, tt)))))
+      let r6 : rule6 s ero (form .kind) ≡ false = rw stand (rw (any-there a some, mixed-none a)) in
+      let r13 : rule13 form true (form .setup) ≡ false = rw (eq-eqb (form .setup) (form .setup) refl) in
+      let r14 : rule14 s ero (form .kind) ≡ false = rw stand (rw (any-there a some)) in
+      (r4, (r5, (r6, (r14, (r13, tt)))))
 
   last-none : None (lastChecks (placesOf s) ero Free (length (placesOf s)))
   last-none = (rule12-off ero (length (placesOf s)), tt)
 
-  inside-none : None (subobjectChecks s ero true (placesOf s))
+  inside-none : None (subobjectChecks form s ero true (placesOf s))
   inside-none = rw stand (subobjects-none a)
 
-  checks-all : None (checksOf s ero openSession srv6Setup)
+  checks-all : None (checksOf form s ero openSession (form .setup))
   checks-all =
-      none-append (wholeChecks s ero openSession srv6Setup) (subobjectChecks s ero true (placesOf s) ++ lastChecks (placesOf s) ero Free (length (placesOf s)))
+      none-append (wholeChecks form s ero openSession (form .setup)) (subobjectChecks form s ero true (placesOf s) ++ lastChecks (placesOf s) ero Free (length (placesOf s)))
       whole-none
-      (none-append (subobjectChecks s ero true (placesOf s)) (lastChecks (placesOf s) ero Free (length (placesOf s))) inside-none last-none)
+      (none-append (subobjectChecks form s ero true (placesOf s)) (lastChecks (placesOf s) ero Free (length (placesOf s))) inside-none last-none)
 
   count-read : countOf s ≡ length gs
   count-read = rw stand (read-length a)
 
-  pub unstray : strayCount s ero ≡ 0
+  pub unstray : strayCount form s ero ≡ 0
   unstray = rw stand (clean-all a)
 
-  accepting : acceptanceOf s ero ≡ acceptedWith (length gs)
+  accepting : acceptanceOf form s ero ≡ acceptedWith (length gs)
   accepting =
       let c = count-read in
       let z = unstray in
       λ i. carryingBoth (c i) (z i)
 
-  pub judged : judgeOf s ero openSession srv6Setup ≡ acceptedWith (length gs)
-  unfolding judgeOf
-  judged = none-first (checksOf s ero openSession srv6Setup) (acceptanceOf s ero) checks-all ∙ accepting
+  pub judged : judgeAs form s ero openSession (form .setup) ≡ acceptedWith (length gs)
+  unfolding judgeAs
+  judged = none-first (checksOf form s ero openSession (form .setup)) (acceptanceOf form s ero) checks-all ∙ accepting
 
-  picked : (i : ℕ) → i < length gs → pickOf s ero openSession srv6Setup i ≡ acceptedWith (length gs)
+  picked : (i : ℕ) → i < length gs → pickOf form s ero openSession (form .setup) i ≡ acceptedWith (length gs)
   unfolding pickOf rule15
   picked i h =
       let r15 : rule15 i (countOf s) ≡ false = rw (count-read, lt-ltb i (length gs) h) in
-      none-first (checksOf s ero openSession srv6Setup ++ (check 15 0 (rule15 i (countOf s)) ∷ [])) (acceptanceOf s ero)
-      (none-append (checksOf s ero openSession srv6Setup) (check 15 0 (rule15 i (countOf s)) ∷ []) checks-all (r15, tt)) ∙ accepting
+      none-first (checksOf form s ero openSession (form .setup) ++ (check 15 0 (rule15 i (countOf s)) ∷ [])) (acceptanceOf form s ero)
+      (none-append (checksOf form s ero openSession (form .setup)) (check 15 0 (rule15 i (countOf s)) ∷ []) checks-all (r15, tt)) ∙ accepting
 
   pub handed : (i : ℕ) → i < length gs
-      → segmentOf s ero openSession srv6Setup i ≡ record { verdict = acceptedWith (length gs); segment = getD gs i noSegment; strays = noStrays }
-  unfolding segmentOf
+      → segmentAs form s ero openSession (form .setup) i ≡ record { verdict = acceptedWith (length gs); segment = getD gs i noSegment; strays = noStrays }
+  unfolding segmentAs
   handed i h = rw (picked i h, stand, read-there a i h, clean-there a i h)
 
 -- the whole object ---------------------------------------------------------------------------------------------
 
--- The object's octets, as a header in front of a body.
-object-headed : (ero : Bool) (gs : List Segment) → 4 + length (bodyOf gs) ≤ 65532 → (4 + length (bodyOf gs)) % 4 ≡ 0 → headed (objectOf ero gs) ero ≡ true
-unfolding objectOf headerOf be16
-object-headed ero gs m f =
-    let l = length-object ero gs in
-    sym (headed-last ero (objectOf ero gs) (omega arith) refl refl (omega arith)) ∙ eq-eqb (length (objectOf ero gs) % 4) 0 (rw l f)
+module _ (form : Form) (ero : Bool) (gs : List Segment) where
+  -- The object's octets, as a header in front of a body.
+  object-headed : 4 + length (bodyOf form gs) ≤ 65532 → (4 + length (bodyOf form gs)) % 4 ≡ 0 → headed (objectOf form ero gs) ero ≡ true
+  unfolding objectOf headerOf be16
+  object-headed m f =
+      let l = length-object form ero gs in
+      sym (headed-last ero (objectOf form ero gs) (omega arith) refl refl (omega arith)) ∙ eq-eqb (length (objectOf form ero gs) % 4) 0 (rw l f)
 
-long-enough : (gs : List Segment) → AllHeld gs → length gs ≤ length (bodyOf gs)
-long-enough [] h = omega arith
-long-enough (g ∷ gs) (more hg h) =
-    let ih = long-enough gs h in
-    let l = length-append (subobjectOf g) (bodyOf gs) in
-    let z = sub-fours g hg in
+long-enough : {form : Form} → Sized form → Readable form → (gs : List Segment) → AllHeld gs → length gs ≤ length (bodyOf form gs)
+long-enough z r [] h = omega arith
+long-enough {form} z r (g ∷ gs) (more hg h) =
+    let ih = long-enough z r gs h in
+    let l = length-append (subobjectOf form g) (bodyOf form gs) in
+    let y = sub-fours z r g hg in
     omega arith
 
-object-apart : (ero : Bool) (gs : List Segment) → AllHeld gs → apartOf (objectOf ero gs) ≡ record { whole = true; places = placesFrom 4 gs }
+object-apart : {form : Form} → Sized form → Readable form → (ero : Bool) (gs : List Segment) → AllHeld gs
+    → apartOf (objectOf form ero gs) ≡ record { whole = true; places = placesFrom form 4 gs }
 unfolding apartOf objectOf headerOf
-object-apart ero gs h = apart-body gs (headerOf ero (4 + length (bodyOf gs))) (suc (length (objectOf ero gs))) h (omega (arith, long-enough gs h))
+object-apart {form} z r ero gs h =
+    apart-body z r gs (headerOf ero (4 + length (bodyOf form gs))) (suc (length (objectOf form ero gs))) h (omega (arith, long-enough z r gs h))
 
-object-read : (ero : Bool) (gs : List Segment) → AllHeld gs → AllFit ero gs → AllRead ero (objectOf ero gs) (placesFrom 4 gs) gs
+object-read : {form : Form} → Sized form → Readable form → (ero : Bool) (gs : List Segment) → AllHeld gs → AllFit form ero gs
+    → AllRead form ero (objectOf form ero gs) (placesFrom form 4 gs) gs
 unfolding objectOf headerOf
-object-read ero gs h f = all-read ero gs (headerOf ero (4 + length (bodyOf gs))) h f
+object-read {form} z r ero gs h f = all-read z r ero gs (headerOf ero (4 + length (bodyOf form gs))) h f
 
-some-there : (gs : List Segment) → (length (bodyOf gs) ≡ 0 → ⊥) → length gs ≡ 0 → ⊥
-some-there [] h e = h refl
-some-there (g ∷ gs) h e = absurd (omega arith)
+some-there : (form : Form) (gs : List Segment) → (length (bodyOf form gs) ≡ 0 → ⊥) → length gs ≡ 0 → ⊥
+some-there form [] h e = h refl
+some-there form (g ∷ gs) h e = absurd (omega arith)
 
 -- The header's low bits are 0.
-header-zero : (ero : Bool) (gs : List Segment) → octetOf (objectOf ero gs) 1 % 16 ≡ 0
+header-zero : (form : Form) (ero : Bool) (gs : List Segment) → octetOf (objectOf form ero gs) 1 % 16 ≡ 0
 unfolding octetOf objectOf headerOf
-header-zero ero gs = refl
+header-zero form ero gs = refl
+
+-- A form is known by the type of its subobjects.
+same-form : (a b : ℕ) → formOf a .kind ≡ formOf b .kind → formOf b ≡ formOf a
+same-form a b e = go (eqb a 1) (eqb b 1) e
+  where
+    go : (x y : Bool) → cond x mplsForm srv6Form .kind ≡ cond y mplsForm srv6Form .kind → cond y mplsForm srv6Form ≡ cond x mplsForm srv6Form
+    go true true e = refl
+    go false false e = refl
+    go true false e = absurd (omega arith)
+    go false true e = absurd (omega arith)
+
+-- Octets of which no segment is stray in the form that they are of: judged under any setup type none is. Under another form's they are refused.
+unstray-any : (pst : ℕ) (s : List ℕ) (ero : Bool) → ((k : ℕ) → anyIs (kindAt s ero) k (placesOf s) ≡ true → k ≡ formOf pst .kind)
+    → strayCount (formOf pst) s ero ≡ 0 → (session : Session) (any : ℕ) → judgeOf s ero session any .stray ≡ 0
+unfolding judgeOf rule14
+unstray-any pst s ero kinds e session any = go (eqb (judgeAs (formOf any) s ero session any .number) 0) refl
+  where
+    go : (b : Bool) → eqb (judgeAs (formOf any) s ero session any .number) 0 ≡ b → judgeAs (formOf any) s ero session any .stray ≡ 0
+    go true z =
+        let present = not-false _ (accepted-none (formOf any) s ero session any (eqb-true _ 0 z) .1 .1 .1 .0) in
+        let f : formOf pst ≡ formOf any = same-form any pst (kinds (formOf any .kind) present) in
+        none-stray (formOf any) s ero session any (ap (λ (x : Form). strayCount x s ero) (sym f) ∙ e)
+    go false z = refused-unstray (formOf any) s ero session any (eqb-false _ 0 z)
 
 -- Whatever list of segments begin, adds and finish accept, the finished object is accepted, with that number of segments,
--- in a session with SRv6 agreed, N set and no limit, under setup type 3; and segment i read is segment i given.
-module _ (ero : Bool) (gs : List Segment) (b : List ℕ) (w : Writer) (held : AllHeld gs) (accepted : Accepted (writeRun b w ero gs)) where
-  pub read-back : judgeOf (objectIn (writeRun b w ero gs)) ero openSession srv6Setup ≡ acceptedWith (length gs)
+-- in a session with the form agreed, N set and no limit, under its setup type; and segment i read is segment i given.
+module _ (ero : Bool) (pst : ℕ) (gs : List Segment) (b : List ℕ) (w : Writer) (held : AllHeld gs) (accepted : Accepted (writeRun b w ero pst gs)) where
+  m : Image (formOf pst) ero gs (writeRun b w ero pst gs)
+  m = image ero pst gs b w accepted
+
+  abbrev body : AllRead (formOf pst) ero (objectOf (formOf pst) ero gs) (placesFrom (formOf pst) 4 gs) gs
+  body = object-read (sized-by pst) (readable-by pst) ero gs held (m .fits)
+
+  abbrev setup : ℕ
+  setup = formOf pst .setup
+
+  -- The number that the form has names the form.
+  again : formOf setup ≡ formOf pst
+  again = readable-by pst .setup
+
+  pub read-back : judgeOf (objectIn (writeRun b w ero pst gs)) ero openSession setup ≡ acceptedWith (length gs)
+  unfolding judgeOf
   read-back =
-      let m = image ero gs b w accepted in
-      rw (m .object)
-      (judged (objectOf ero gs) ero (placesFrom 4 gs) gs (object-headed ero gs (m .most) (m .fours)) (object-apart ero gs held)
-      (object-read ero gs held (m .fits)) (some-there gs (m .filled)))
+      ap (λ (x : Form). judgeAs x (objectIn (writeRun b w ero pst gs)) ero openSession setup) again
+      ∙ rw (m .object)
+      (judged (formOf pst) (objectOf (formOf pst) ero gs) ero (placesFrom (formOf pst) 4 gs) gs (object-headed (formOf pst) ero gs (m .most) (m .fours))
+      (object-apart (sized-by pst) (readable-by pst) ero gs held) body (some-there (formOf pst) gs (m .filled)))
 
-  pub segments-back : (i : ℕ) → i < length gs → segmentOf (objectIn (writeRun b w ero gs)) ero openSession srv6Setup i
+  pub segments-back : (i : ℕ) → i < length gs → segmentOf (objectIn (writeRun b w ero pst gs)) ero openSession setup i
       ≡ record { verdict = acceptedWith (length gs); segment = getD gs i noSegment; strays = noStrays }
+  unfolding segmentOf
   segments-back i h =
-      let m = image ero gs b w accepted in
-      rw (m .object)
-      (handed (objectOf ero gs) ero (placesFrom 4 gs) gs (object-headed ero gs (m .most) (m .fours)) (object-apart ero gs held)
-      (object-read ero gs held (m .fits)) (some-there gs (m .filled)) i h)
+      ap (λ (x : Form). segmentAs x (objectIn (writeRun b w ero pst gs)) ero openSession setup i) again
+      ∙ rw (m .object)
+      (handed (formOf pst) (objectOf (formOf pst) ero gs) ero (placesFrom (formOf pst) 4 gs) gs (object-headed (formOf pst) ero gs (m .most) (m .fours))
+      (object-apart (sized-by pst) (readable-by pst) ero gs held) body (some-there (formOf pst) gs (m .filled)) i h)
 
-  -- In no session is one of them stray.
-  pub written-unstray : (session : Session) (pst : ℕ) → judgeOf (objectIn (writeRun b w ero gs)) ero session pst .stray ≡ 0
-  written-unstray session pst =
-      let m = image ero gs b w accepted in
-      rw (m .object)
-      (none-stray (objectOf ero gs) ero session pst
-      (unstray (objectOf ero gs) ero (placesFrom 4 gs) gs (object-headed ero gs (m .most) (m .fours)) (object-apart ero gs held)
-      (object-read ero gs held (m .fits)) (some-there gs (m .filled))))
+  places : placesOf (objectOf (formOf pst) ero gs) ≡ placesFrom (formOf pst) 4 gs
+  places = ap (λ (a : Apart). a .places) (object-apart (sized-by pst) (readable-by pst) ero gs held)
 
-  pub written-zero : zeros (ignoredOf (objectIn (writeRun b w ero gs)) ero) ≡ true
+  -- In no session is one of them stray,
+  pub written-unstray : (session : Session) (any : ℕ) → judgeOf (objectIn (writeRun b w ero pst gs)) ero session any .stray ≡ 0
+  written-unstray session any =
+      rw (m .object)
+      (unstray-any pst (objectOf (formOf pst) ero gs) ero (λ k e. any-kind body k (rw places at e))
+      (unstray (formOf pst) (objectOf (formOf pst) ero gs) ero (placesFrom (formOf pst) 4 gs) gs (object-headed (formOf pst) ero gs (m .most) (m .fours))
+      (object-apart (sized-by pst) (readable-by pst) ero gs held) body (some-there (formOf pst) gs (m .filled))) session any)
+
+  -- and every ignored bit is 0.
+  pub written-zero : zeros (ignoredOf (formOf pst) (objectIn (writeRun b w ero pst gs)) ero) ≡ true
   written-zero =
-      let m = image ero gs b w accepted in
-      let places : placesOf (objectOf ero gs) ≡ placesFrom 4 gs = ap (λ (a : Apart). a .places) (object-apart ero gs held) in
-      let inside : zeros (ignoredIn (objectOf ero gs) ero (placesOf (objectOf ero gs))) ≡ true = rw places (ignored-all (object-read ero gs held (m .fits))) in
-      rw (m .object) (zeros-cons (octetOf (objectOf ero gs) 1 % 16) (ignoredIn (objectOf ero gs) ero (placesOf (objectOf ero gs))) (header-zero ero gs) inside)
+      let s = objectOf (formOf pst) ero gs in
+      let inside : zeros (ignoredIn (formOf pst) s ero (placesOf s)) ≡ true = rw places (ignored-all body) in
+      rw (m .object) (zeros-cons (octetOf s 1 % 16) (ignoredIn (formOf pst) s ero (placesOf s)) (header-zero (formOf pst) ero gs) inside)

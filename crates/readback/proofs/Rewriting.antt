@@ -10,10 +10,13 @@ use native.Mathlib.Omega.{arith}
 use borrow.Author.Tests.{eqb-true, eqb-false, eq-eqb, ne-eqb, le-ltb, lt-ltb, not-true, not-false}
 use Rattle.octets.specs.Octets.{octetOf, be16, part, hi, lo, over, placed}
 use Rattle.octets.proofs.Laws.{length-part, getD-part, length-over, length-placed}
+use Rattle.forms.specs.declared.Form.{Form}
+use Rattle.forms.specs.Forms.{formOf}
+use Rattle.forms.specs.Sized.{Sized}
 use Rattle.session.specs.declared.Session.{Session}
 use Rattle.subobject.specs.declared.head.Head.{Head}
 use Rattle.subobject.specs.declared.segment.Segment.{Segment}
-use Rattle.subobject.specs.Layout.{srv6Kind, headAt}
+use Rattle.subobject.specs.Layout.{headAt}
 use Rattle.subobject.specs.Rules.{rule7, rule8, rule9, rule11, bitsAt}
 use Rattle.subobject.specs.Segments.{segmentAt, noSegment, subobjectOf}
 use Rattle.frame.specs.Checks.{check, firstBroken}
@@ -21,10 +24,13 @@ use Rattle.frame.specs.Frames.{classOf, headed, fitsIn, Apart, apart, apartOf, 
 use Rattle.frame.proofs.Checks.{None, none-first, none-append, none-split}
 use Rattle.frame.proofs.Laws.{fits-true, headed-sized}
 use Rattle.route_walk.specs.Walk.{checksAt, subobjectChecks}
-use Rattle.route.specs.Routes.{lastChecks, checksOf, countOf, acceptanceOf, judgeOf, pickOf, segmentOf, rule15}
+use Rattle.route.specs.Routes.{lastChecks, checksOf, countOf, acceptanceOf, judgeAs, pickOf, segmentAs, judgeOf, segmentOf, rule15}
 use Rattle.route.proofs.Answer.{accepted-none, accepted-count, accepted-frame}
 use Rattle.writer_spare.specs.Held.{Held}
 use Rattle.writer_spare.specs.Spare.{zeros}
+use Rattle.writer_layout.specs.Readable.{Readable}
+use Rattle.forms.proofs.Laws.{sized-by}
+use Rattle.writer_layout.proofs.Forms.{readable-by}
 use Rattle.writer.specs.declared.state.Writer.{Writer}
 use Rattle.writer_rules.specs.Refusals.{mostOctets, addNumber, finishNumber, unfit, noRoom, badPlace, passes}
 use Rattle.writer.specs.Writing.{headerOf, beginNumber}
@@ -115,57 +121,69 @@ all-kind kinds want (next {p} {ps} h b) e m =
 
 -- every subobject is sound -------------------------------------------------------------------------------------
 
-data AllSound (ero : Bool) (s : List ℕ) : List ℕ → Type 0 where
-  none : AllSound ero s []
-  next : {p : ℕ} {ps : List ℕ} → Sound ero s p → AllSound ero s ps → AllSound ero s (p ∷ ps)
+data AllSound (form : Form) (ero : Bool) (s : List ℕ) : List ℕ → Type 0 where
+  none : AllSound form ero s []
+  next : {p : ℕ} {ps : List ℕ} → Sound form ero s p → AllSound form ero s ps → AllSound form ero s (p ∷ ps)
 
-sound-at : (ero n : Bool) (s : List ℕ) (p : ℕ) → Octets s → kindAt s ero p ≡ 40 → p + octetOf s (p + 1) ≤ length s
-    → None (checksAt s ero n p) → Sound ero s p
-sound-at ero n s p o k i c = record { octets = o; kind = k; r8 = c .0; r9 = c .1 .0; r7 = c .1 .1 .0; r11 = c .1 .1 .1 .1 .0; inside = i }
+sound-at : (form : Form) (ero n : Bool) (s : List ℕ) (p : ℕ) → Octets s → kindAt s ero p ≡ form .kind → p + octetOf s (p + 1) ≤ length s
+    → None (checksAt form s ero n p) → Sound form ero s p
+sound-at form ero n s p o k i c =
+    record {
+      octets = o;
+      kind = k;
+      r8 = c .0;
+      r9 = c .1 .0;
+      r7 = c .1 .1 .0;
+      r11 = c .1 .1 .1 .1 .0;
+      r29 = c .1 .1 .1 .1 .1 .0;
+      r30 = c .1 .1 .1 .1 .1 .1 .0;
+      inside = i;
+    }
 
-all-sound : (ero n : Bool) (s : List ℕ) {at : ℕ} {ps : List ℕ} → Octets s → Chain s at ps → AllKind (kindAt s ero) 40 ps
-    → None (subobjectChecks s ero n ps) → AllSound ero s ps
-all-sound ero n s o (ends e) k c = none
-all-sound ero n s {at} o (links {ps = ps} l i r) (next q k) c =
-    let t = none-split (checksAt s ero n at) (subobjectChecks s ero n ps) c in
-    next (sound-at ero n s at o q i (t .0)) (all-sound ero n s o r k (t .1))
+all-sound : (form : Form) (ero n : Bool) (s : List ℕ) {at : ℕ} {ps : List ℕ} → Octets s → Chain s at ps → AllKind (kindAt s ero) (form .kind) ps
+    → None (subobjectChecks form s ero n ps) → AllSound form ero s ps
+all-sound form ero n s o (ends e) k c = none
+all-sound form ero n s {at} o (links {ps = ps} l i r) (next q k) c =
+    let t = none-split (checksAt form s ero n at) (subobjectChecks form s ero n ps) c in
+    next (sound-at form ero n s at o q i (t .0)) (all-sound form ero n s o r k (t .1))
 
 -- the segments read --------------------------------------------------------------------------------------------
 
-abbrev segmentsAt : Bool → List ℕ → List ℕ → List Segment
-segmentsAt ero s [] = []
-segmentsAt ero s (p ∷ ps) = segmentAt s ero p ∷ segmentsAt ero s ps
+abbrev segmentsAt : Form → Bool → List ℕ → List ℕ → List Segment
+segmentsAt form ero s [] = []
+segmentsAt form ero s (p ∷ ps) = segmentAt form s ero p ∷ segmentsAt form ero s ps
 
-all-held : {ero : Bool} {s ps : List ℕ} → AllSound ero s ps → AllHeld (segmentsAt ero s ps)
-all-held none = held-none
-all-held (next d a) = more (held d) (all-held a)
+module _ {form : Form} (z : Sized form) (r : Readable form) {ero : Bool} {s : List ℕ} where
+  all-held : {ps : List ℕ} → AllSound form ero s ps → AllHeld (segmentsAt form ero s ps)
+  all-held none = held-none
+  all-held (next d a) = more (held z r d) (all-held a)
 
-all-fit : {ero : Bool} {s ps : List ℕ} → AllSound ero s ps → AllFit ero (segmentsAt ero s ps)
-all-fit none = fit-none
-all-fit (next d a) = also (fit d) (all-fit a)
+  all-fit : {ps : List ℕ} → AllSound form ero s ps → AllFit form ero (segmentsAt form ero s ps)
+  all-fit none = fit-none
+  all-fit (next d a) = also (fit z r d) (all-fit a)
 
--- As many octets are written as were read.
-body-length : {ero : Bool} {s : List ℕ} {at : ℕ} {ps : List ℕ} → Chain s at ps → AllSound ero s ps → at + length (bodyOf (segmentsAt ero s ps)) ≡ length s
-body-length {at = at} (ends e) none = omega arith
-body-length {ero} {s} {at} (links {ps = ps} l i c) (next d a) =
-    let ih = body-length c a in
-    let n = length-written d in
-    let m = length-append (subobjectOf (segmentAt s ero at)) (bodyOf (segmentsAt ero s ps)) in
-    omega arith
+  -- As many octets are written as were read.
+  body-length : {at : ℕ} {ps : List ℕ} → Chain s at ps → AllSound form ero s ps → at + length (bodyOf form (segmentsAt form ero s ps)) ≡ length s
+  body-length {at} (ends e) none = omega arith
+  body-length {at} (links {ps = ps} l i c) (next d a) =
+      let ih = body-length c a in
+      let n = length-written z r d in
+      let m = length-append (subobjectOf form (segmentAt form s ero at)) (bodyOf form (segmentsAt form ero s ps)) in
+      omega arith
 
--- The same octets exactly if the ignored bits are 0, in all subobjects.
-body-same : {ero : Bool} {s ps : List ℕ} → AllSound ero s ps → zeros (ignoredIn s ero ps) ≡ true → bodyOf (segmentsAt ero s ps) ≡ partsOf s ps
-body-same none e = refl
-body-same {ero} {s} (next {p} {ps} d a) e =
-    let z = zeros-split (ignoredAt s ero p) (ignoredIn s ero ps) e in
-    rw (same-octets d (z .0), body-same a (z .1))
+  -- The same octets exactly if the ignored bits are 0, in all subobjects.
+  body-same : {ps : List ℕ} → AllSound form ero s ps → zeros (ignoredIn form s ero ps) ≡ true → bodyOf form (segmentsAt form ero s ps) ≡ partsOf s ps
+  body-same none e = refl
+  body-same (next {p} {ps} d a) e =
+      let y = zeros-split (ignoredAt form s ero p) (ignoredIn form s ero ps) e in
+      rw (same-octets z r d (y .0), body-same a (y .1))
 
-body-back : {ero : Bool} {s ps : List ℕ} → AllSound ero s ps → bodyOf (segmentsAt ero s ps) ≡ partsOf s ps → zeros (ignoredIn s ero ps) ≡ true
-body-back none e = refl
-body-back {ero} {s} (next {p} {ps} d a) e =
-    let l = length-written d ∙ sym (length-part s p (octetOf s (p + 1)) (d .inside)) in
-    let q = append-same (subobjectOf (segmentAt s ero p)) (part s p (octetOf s (p + 1))) (bodyOf (segmentsAt ero s ps)) (partsOf s ps) l e in
-    zeros-append (ignoredAt s ero p) (ignoredIn s ero ps) (ignored-zero d (q .0)) (body-back a (q .1))
+  body-back : {ps : List ℕ} → AllSound form ero s ps → bodyOf form (segmentsAt form ero s ps) ≡ partsOf s ps → zeros (ignoredIn form s ero ps) ≡ true
+  body-back none e = refl
+  body-back (next {p} {ps} d a) e =
+      let l = length-written z r d ∙ sym (length-part s p (octetOf s (p + 1)) (d .inside)) in
+      let q = append-same (subobjectOf form (segmentAt form s ero p)) (part s p (octetOf s (p + 1))) (bodyOf form (segmentsAt form ero s ps)) (partsOf s ps) l e in
+      zeros-append (ignoredAt form s ero p) (ignoredIn form s ero ps) (ignored-zero z r d (q .0)) (body-back a (q .1))
 
 -- a run that is accepted ---------------------------------------------------------------------------------------
 
@@ -177,28 +195,40 @@ proper : (at room : ℕ) → 4 ≤ at → at % 4 ≡ 0 → at ≤ room → at �
 unfolding badPlace
 proper at room l f h k = rw (le-ltb at 4 l, eq-eqb (at % 4) 0 f, within at room h k)
 
-add-taken : (ero : Bool) (room : ℕ) (w : Writer) (g : Segment) → w .ero ≡ ero → Fit ero g → 4 ≤ w .at → w .at % 4 ≡ 0
-    → w .at + length (subobjectOf g) ≤ room → w .at + length (subobjectOf g) ≤ 65532 → addNumber room (w .ero) (w .at) g ≡ 0
+add-taken : (form : Form) (ero : Bool) (room at : ℕ) (g : Segment) → Fit form ero g → 4 ≤ at → at % 4 ≡ 0
+    → at + length (subobjectOf form g) ≤ room → at + length (subobjectOf form g) ≤ 65532 → addNumber form room ero at g ≡ 0
 unfolding addNumber noRoom
-add-taken ero room w g e t l f h k =
-    rw (t .r8, t .r9, e, t .fit, t .r11, proper (w .at) room l f (omega arith) (omega arith), within (w .at + length (subobjectOf g)) room h k)
+add-taken form ero room at g t l f h k =
+    rw (
+      t .r8,
+      t .r9,
+      t .fit,
+      t .r11,
+      t .r29,
+      t .r30,
+      proper at room l f (omega arith) (omega arith),
+      within (at + length (subobjectOf form g)) room h k,
+    )
 
 finish-taken : (room : ℕ) (w : Writer) → 4 < w .at → w .at % 4 ≡ 0 → w .at ≤ room → w .at ≤ 65532 → finishNumber room (w .at) ≡ 0
 unfolding finishNumber
 finish-taken room w l f h k = rw (proper (w .at) room (omega arith) f h k, ne-eqb (w .at) 4 (λ z. omega arith))
 
-adds-taken : (ero : Bool) (gs : List Segment) (b : List ℕ) (w : Writer) → w .ero ≡ ero → AllHeld gs → AllFit ero gs → 4 ≤ w .at → w .at % 4 ≡ 0
-    → 4 < w .at + length (bodyOf gs) → w .at + length (bodyOf gs) ≤ length b → w .at + length (bodyOf gs) ≤ 65532 → Accepted (addsRun b w gs)
+adds-taken : (gs : List Segment) (b : List ℕ) (w : Writer) → AllHeld gs → AllFit (formOf (w .form)) (w .ero) gs → 4 ≤ w .at → w .at % 4 ≡ 0
+    → 4 < w .at + length (bodyOf (formOf (w .form)) gs) → w .at + length (bodyOf (formOf (w .form)) gs) ≤ length b
+    → w .at + length (bodyOf (formOf (w .form)) gs) ≤ 65532 → Accepted (addsRun b w gs)
 unfolding addsRun
-adds-taken ero [] b w e h t l f m r k = finish-number b w ∙ finish-taken (length b) w (omega arith) f (omega arith) (omega arith)
-adds-taken ero (g ∷ gs) b w e (more hg h) (also tg t) l f m r k =
-    let x = subobjectOf g in
-    let z = sub-fours g hg in
-    let n = length-append x (bodyOf gs) in
-    let a = add-taken ero (length b) w g e tg l f (omega arith) (omega arith) in
+adds-taken [] b w h t l f m r k = finish-number b w ∙ finish-taken (length b) w (omega arith) f (omega arith) (omega arith)
+adds-taken (g ∷ gs) b w (more hg h) (also tg t) l f m r k =
+    let form = formOf (w .form) in
+    let x = subobjectOf form g in
+    let z = sub-fours (sized-by (w .form)) (readable-by (w .form)) g hg in
+    let n = length-append x (bodyOf form gs) in
+    let a = add-taken form (w .ero) (length b) (w .at) g tg l f (omega arith) (omega arith) in
     let o = length-placed b (w .at) x (omega arith) in
     rw (add-onward b w g (λ b′ w′. addsRun b′ w′ gs) a)
-    (adds-taken ero gs (placed b (w .at) x) (record { ero = w .ero; at = w .at + length x }) e h t (omega arith) (omega arith) (omega arith) (omega arith) (omega arith))
+    (adds-taken gs (placed b (w .at) x) (record { ero = w .ero; at = w .at + length x; form = w .form }) h t (omega arith) (omega arith) (omega arith)
+    (omega arith) (omega arith))
 
 begin-taken : (room : ℕ) → 4 ≤ room → beginNumber room ≡ 0
 unfolding beginNumber
@@ -208,14 +238,21 @@ header-long : (ero : Bool) (n : ℕ) → length (headerOf ero n) ≡ 4
 unfolding headerOf
 header-long ero n = refl
 
-write-taken : (ero : Bool) (gs : List Segment) (b : List ℕ) (w : Writer) → AllHeld gs → AllFit ero gs → 0 < length (bodyOf gs)
-    → 4 + length (bodyOf gs) ≤ length b → 4 + length (bodyOf gs) ≤ 65532 → Accepted (writeRun b w ero gs)
+-- The same of a state that names a form.
+adds-in : (form : Form) (gs : List Segment) (b : List ℕ) (w : Writer) → formOf (w .form) ≡ form → AllHeld gs → AllFit form (w .ero) gs → 4 ≤ w .at
+    → w .at % 4 ≡ 0 → 4 < w .at + length (bodyOf form gs) → w .at + length (bodyOf form gs) ≤ length b → w .at + length (bodyOf form gs) ≤ 65532
+    → Accepted (addsRun b w gs)
+adds-in form gs b w e h t l f m r k = adds-taken gs b w h (rw (← e) at t) l f (rw (← e) at m) (rw (← e) at r) (rw (← e) at k)
+
+write-taken : (ero : Bool) (pst : ℕ) (gs : List Segment) (b : List ℕ) (w : Writer) → AllHeld gs → AllFit (formOf pst) ero gs → 0 < length (bodyOf (formOf pst) gs)
+    → 4 + length (bodyOf (formOf pst) gs) ≤ length b → 4 + length (bodyOf (formOf pst) gs) ≤ 65532 → Accepted (writeRun b w ero pst gs)
 unfolding writeRun
-write-taken ero gs b w h t m r k =
+write-taken ero pst gs b w h t m r k =
     let y = header-long ero 4 in
     let o = length-over (headerOf ero 4) b (omega arith) in
-    rw (begin-onward b w ero (λ b′ w′. addsRun b′ w′ gs) (begin-taken (length b) (omega arith)))
-    (adds-taken ero gs (over (headerOf ero 4) b) (record { ero = ero; at = 4 }) refl h t (omega arith) refl (omega arith) (omega arith) k)
+    rw (begin-onward b w ero pst (λ b′ w′. addsRun b′ w′ gs) (begin-taken (length b) (omega arith)))
+    (adds-in (formOf pst) gs (over (headerOf ero 4) b) (record { ero = ero; at = 4; form = formOf pst .setup }) (readable-by pst .setup) h t (omega arith) refl
+    (omega arith) (omega arith) k)
 
 -- the header ---------------------------------------------------------------------------------------------------
 
@@ -269,27 +306,31 @@ module _ {ero : Bool} {s : List ℕ} (h : Header ero s) (o : Octets s) where
 
 -- what the reader hands out ------------------------------------------------------------------------------------
 
-module _ (s : List ℕ) (ero : Bool) (session : Session) (pst : ℕ) (accepted : judgeOf s ero session pst .number ≡ 0) where
-  picked : (i : ℕ) → i < countOf s → pickOf s ero session pst i ≡ acceptanceOf s ero
+module _ (s : List ℕ) (ero : Bool) (session : Session) (pst : ℕ) (accepted : judgeAs (formOf pst) s ero session pst .number ≡ 0) where
+  abbrev form : Form
+  form = formOf pst
+
+  picked : (i : ℕ) → i < countOf s → pickOf form s ero session pst i ≡ acceptanceOf form s ero
   unfolding pickOf rule15
   picked i h =
       let r : rule15 i (countOf s) ≡ false = rw (lt-ltb i (countOf s) h) in
-      none-first (checksOf s ero session pst ++ (check 15 0 (rule15 i (countOf s)) ∷ [])) (acceptanceOf s ero)
-      (none-append (checksOf s ero session pst) (check 15 0 (rule15 i (countOf s)) ∷ []) (accepted-none s ero session pst accepted) (r, tt))
+      none-first (checksOf form s ero session pst ++ (check 15 0 (rule15 i (countOf s)) ∷ [])) (acceptanceOf form s ero)
+      (none-append (checksOf form s ero session pst) (check 15 0 (rule15 i (countOf s)) ∷ []) (accepted-none form s ero session pst accepted) (r, tt))
 
-  handed : (i : ℕ) → i < countOf s → segmentOf s ero session pst i .segment ≡ segmentAt s ero (getD (placesOf s) i 0)
-  unfolding segmentOf
+  handed : (i : ℕ) → i < countOf s → segmentOf s ero session pst i .segment ≡ segmentAt form s ero (getD (placesOf s) i 0)
+  unfolding segmentOf segmentAs
   handed i h = rw (picked i h)
 
-  asked : (n i : ℕ) → i + n ≡ countOf s → askedFrom s ero session pst i n ≡ segmentsAt ero s (drop i (placesOf s))
+  asked : (n i : ℕ) → i + n ≡ countOf s → askedFrom s ero session pst i n ≡ segmentsAt form ero s (drop i (placesOf s))
   asked ℕ.zero i e = let h : length (placesOf s) ≤ i = omega arith in rw (drop-of-length-le (placesOf s) h)
   asked (ℕ.suc n) i e =
       let h : i < length (placesOf s) = omega arith in
       rw (drop-cons (placesOf s) i 0 h, handed i h, asked n (suc i) (omega arith))
 
-  pub all-read : segmentsRead s ero session pst ≡ segmentsAt ero s (placesOf s)
+  pub all-read : segmentsRead s ero session pst ≡ segmentsAt form ero s (placesOf s)
+  unfolding judgeOf
   all-read =
-      let c = accepted-count s ero session pst accepted in
+      let c = accepted-count form s ero session pst accepted in
       rw c (asked (countOf s) 0 (omega arith))
 
 -- the theorem --------------------------------------------------------------------------------------------------
@@ -303,34 +344,41 @@ not-filled (ends e) h = absurd (h refl)
 not-filled (links l i c) h = omega arith
 
 -- An object of octets that was accepted, in any session and under any setup type.
-module _ (s : List ℕ) (ero : Bool) (session : Session) (pst : ℕ) (octets : Octets s) (accepted : judgeOf s ero session pst .number ≡ 0) where
+module _ (s : List ℕ) (ero : Bool) (session : Session) (pst : ℕ) (octets : Octets s) (taken : judgeOf s ero session pst .number ≡ 0) where
+  accepted : judgeAs (formOf pst) s ero session pst .number ≡ 0
+  unfolding judgeOf
+  accepted = taken
+
+  no-check : None (checksOf (formOf pst) s ero session pst)
+  no-check = accepted-none (formOf pst) s ero session pst accepted
+
   header : Header ero s
-  header = header-of ero s (accepted-frame s ero session pst accepted .0)
+  header = header-of ero s (accepted-frame (formOf pst) s ero session pst accepted .0)
 
   chain : Chain s 4 (placesOf s)
   unfolding apartOf
-  chain = chain-of (suc (length s)) s 4 (header .low) (accepted-frame s ero session pst accepted .1)
+  chain = chain-of (suc (length s)) s 4 (header .low) (accepted-frame (formOf pst) s ero session pst accepted .1)
 
-  present : anyIs (kindAt s ero) 40 (placesOf s) ≡ true
+  present : anyIs (kindAt s ero) (formOf pst .kind) (placesOf s) ≡ true
   unfolding rule14
-  present = not-false _ (accepted-none s ero session pst accepted .1 .1 .1 .0)
+  present = not-false _ (no-check .1 .1 .1 .0)
 
   unmixed : mixedAt (kindAt s ero) (placesOf s) ≡ 0
   unfolding rule6 rule6Place
-  unmixed = eqb-true _ 0 (not-false _ (and-rest (anyIs (kindAt s ero) 40 (placesOf s)) _ present (accepted-none s ero session pst accepted .1 .1 .0)))
+  unmixed = eqb-true _ 0 (not-false _ (and-rest (anyIs (kindAt s ero) (formOf pst .kind) (placesOf s)) _ present (no-check .1 .1 .0)))
 
-  sound : AllSound ero s (placesOf s)
+  sound : AllSound (formOf pst) ero s (placesOf s)
   sound =
-      all-sound ero (session .n) s octets chain (all-kind (kindAt s ero) 40 (behind (omega arith) chain) present unmixed)
-      (none-split (subobjectChecks s ero (session .n) (placesOf s)) (lastChecks (placesOf s) ero (session .limit) (countOf s))
-      (accepted-none s ero session pst accepted .1 .1 .1 .1 .1) .0)
+      all-sound (formOf pst) ero (session .n) s octets chain (all-kind (kindAt s ero) (formOf pst .kind) (behind (omega arith) chain) present unmixed)
+      (none-split (subobjectChecks (formOf pst) s ero (session .n) (placesOf s)) (lastChecks (placesOf s) ero (session .limit) (countOf s))
+      (no-check .1 .1 .1 .1 .1) .0)
 
   -- the segments read
   abbrev segments : List Segment
-  segments = segmentsAt ero s (placesOf s)
+  segments = segmentsAt (formOf pst) ero s (placesOf s)
 
-  length-same : 4 + length (bodyOf segments) ≡ length s
-  length-same = body-length chain sound
+  length-same : 4 + length (bodyOf (formOf pst) segments) ≡ length s
+  length-same = body-length (sized-by pst) (readable-by pst) chain sound
 
   short : length s ≤ 65532
   unfolding be16 octetOf
@@ -338,49 +386,51 @@ module _ (s : List ℕ) (ero : Bool) (session : Session) (pst : ℕ) (octets : O
       let a = octet-small s octets 2 in
       let b = octet-small s octets 3 in
       let r = header .read in
-      let f = headed-sized ero s (accepted-frame s ero session pst accepted .0) .four in
+      let f = headed-sized ero s (accepted-frame (formOf pst) s ero session pst accepted .0) .four in
       omega arith
 
-  some : 0 < length (bodyOf segments)
+  some : 0 < length (bodyOf (formOf pst) segments)
   unfolding rule5
   some =
-      let n = not-filled chain (λ z. eqb-false (length (placesOf s)) 0 (accepted-none s ero session pst accepted .1 .0) z) in
+      let n = not-filled chain (λ z. eqb-false (length (placesOf s)) 0 (no-check .1 .0) z) in
       let l = length-same in
       omega arith
 
   split : s ≡ take 4 s ++ partsOf s (placesOf s)
   split = sym (take-append-drop 4 s) ∙ rw (parts-all chain)
 
-  object-same : zeros (ignoredOf s ero) ≡ true → objectOf ero segments ≡ s
+  object-same : zeros (ignoredOf (formOf pst) s ero) ≡ true → objectOf (formOf pst) ero segments ≡ s
   unfolding objectOf
   object-same e =
-      let z = zeros-uncons (octetOf s 1 % 16) (ignoredIn s ero (placesOf s)) e in
-      rw (length-same, header-same header octets (z .0), body-same sound (z .1)) (sym split)
+      let z = zeros-uncons (octetOf s 1 % 16) (ignoredIn (formOf pst) s ero (placesOf s)) e in
+      rw (length-same, header-same header octets (z .0), body-same (sized-by pst) (readable-by pst) sound (z .1)) (sym split)
 
-  object-back : objectOf ero segments ≡ s → zeros (ignoredOf s ero) ≡ true
+  object-back : objectOf (formOf pst) ero segments ≡ s → zeros (ignoredOf (formOf pst) s ero) ≡ true
   unfolding objectOf
   object-back e =
-      let x : headerOf ero (length s) ++ bodyOf segments ≡ take 4 s ++ partsOf s (placesOf s) = (rw length-same at e) ∙ split in
-      let q = append-same (headerOf ero (length s)) (take 4 s) (bodyOf segments) (partsOf s (placesOf s))
+      let x : headerOf ero (length s) ++ bodyOf (formOf pst) segments ≡ take 4 s ++ partsOf s (placesOf s) = (rw length-same at e) ∙ split in
+      let q = append-same (headerOf ero (length s)) (take 4 s) (bodyOf (formOf pst) segments) (partsOf s (placesOf s))
       (header-long ero (length s) ∙ sym (length-take-le 4 s (header .low))) x in
-      zeros-cons (octetOf s 1 % 16) (ignoredIn s ero (placesOf s)) (header-back header octets (q .0)) (body-back sound (q .1))
+      zeros-cons (octetOf s 1 % 16) (ignoredIn (formOf pst) s ero (placesOf s)) (header-back header octets (q .0))
+      (body-back (sized-by pst) (readable-by pst) sound (q .1))
 
   -- Writing the segments read again: in any buffer with room for the object and with any state, every call accepts;
   module _ (b : List ℕ) (w : Writer) (room : length s ≤ length b) where
-    pub rewritten : Accepted (writeRun b w ero (segmentsRead s ero session pst))
+    pub rewritten : Accepted (writeRun b w ero pst (segmentsRead s ero session pst))
     rewritten =
         let l = length-same in
         let k = short in
         rw (all-read s ero session pst accepted)
-        (write-taken ero segments b w (all-held sound) (all-fit sound) some (omega arith) (omega arith))
+        (write-taken ero pst segments b w (all-held (sized-by pst) (readable-by pst) sound) (all-fit (sized-by pst) (readable-by pst) sound) some (omega arith)
+        (omega arith))
 
-    object-is : objectIn (writeRun b w ero (segmentsRead s ero session pst)) ≡ objectOf ero segments
-    object-is = image ero (segmentsRead s ero session pst) b w rewritten .object ∙ rw (all-read s ero session pst accepted)
+    object-is : objectIn (writeRun b w ero pst (segmentsRead s ero session pst)) ≡ objectOf (formOf pst) ero segments
+    object-is = image ero pst (segmentsRead s ero session pst) b w rewritten .object ∙ rw (all-read s ero session pst accepted)
 
     -- the finished object is the object read, if all ignored bits were 0,
-    pub rewritten-same : zeros (ignoredOf s ero) ≡ true → objectIn (writeRun b w ero (segmentsRead s ero session pst)) ≡ s
+    pub rewritten-same : zeros (ignoredOf (formOf pst) s ero) ≡ true → objectIn (writeRun b w ero pst (segmentsRead s ero session pst)) ≡ s
     rewritten-same e = object-is ∙ object-same e
 
     -- and only if they were.
-    pub rewritten-zero : objectIn (writeRun b w ero (segmentsRead s ero session pst)) ≡ s → zeros (ignoredOf s ero) ≡ true
+    pub rewritten-zero : objectIn (writeRun b w ero pst (segmentsRead s ero session pst)) ≡ s → zeros (ignoredOf (formOf pst) s ero) ≡ true
     rewritten-zero e = object-back (sym object-is ∙ e)

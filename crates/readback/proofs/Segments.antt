@@ -10,17 +10,22 @@ use native.Mathlib.Nat.{add-assoc}
 use native.Mathlib.Omega.{arith}
 use borrow.Author.Tests.{eqb-true, eq-eqb, ne-eqb, not-false}
 use Rattle.octets.specs.Octets.{octetOf, be16, part, over, partOf, hi, lo}
+use Rattle.forms.specs.declared.Form.{Form}
+use Rattle.forms.specs.Forms.{flagIn, naiLength}
+use Rattle.forms.specs.Sized.{Sized}
+use Rattle.forms.proofs.Laws.{nai-most}
 use Rattle.subobject.specs.declared.head.Head.{Head}
 use Rattle.subobject.specs.declared.segment.Segment.{Segment}
-use Rattle.subobject.specs.Layout.{srv6Kind, naiLength, sidLength, structureThere, structureLength, expectedLength, kindOf, headOf, headAt}
-use Rattle.subobject.specs.Rules.{rule8, rule9, rule11, flagF, hasStructure, sumAt, bitsAt}
-use Rattle.subobject.specs.Segments.{segmentBy, segmentAt, headOfSegment, fixedOctets, structureOctets, subobjectOf, bitsOf, bit}
-use Rattle.subobject.specs.Strays.{strayFlags, structureFlags, reservedOctets, straysBy, straysAt, noStrays}
+use Rattle.subobject.specs.Layout.{sidLength, structureThere, structureLength, expectedLength, kindOf, headOf, headAt}
+use Rattle.subobject.specs.Rules.{rule8, rule9, malformed, rule11, flagF, hasStructure, sumAt, bitsAt}
+use Rattle.subobject.specs.Segments.{segmentBy, segmentAt, outlineOf, headOfSegment, flagsOctet, fixedOctets, structureOctets, subobjectOf, bitsOf, bit}
+use Rattle.subobject.specs.Strays.{strayFlags, structureFlags, reservedOctets, anySet, straysBy, straysAt, noStrays}
 use Rattle.writer_spare.specs.Held.{Held}
 use Rattle.writer_spare.specs.Spare.{zeros, tidyOf}
-use Rattle.writer_layout.proofs.Laws.{nt-known, nai-most, length-subobject, part-there, length-there, length-structure, four}
+use Rattle.writer_layout.specs.Readable.{together, Marks, Apart, Readable}
+use Rattle.writer_layout.proofs.Laws.{length-fixed, length-sid, length-nai, length-subobject, length-structure, flags-small, bit-most, four}
 use Rattle.octets.proofs.Said.{both-true, either-false, cond-most}
-use Rattle.writer_rules.specs.Refusals.{unfit}
+use Rattle.writer_rules.specs.Refusals.{foreign, unfit}
 use Rattle.readback.specs.Ignored.{unassignedAt, assignedAt, endingAt, ignoredAt}
 use Rattle.readback.proofs.Parts.{zeros-append, zeros-cons}
 use Rattle.readback.proofs.Images.{Fit}
@@ -28,23 +33,38 @@ use Rattle.readback.proofs.Stands.{Stands, stands-octet, stands-first, 
 
 -- what a fit segment keeps to ----------------------------------------------------------------------------------
 
-pub record Plain (ero : Bool) (g : Segment) : Type 0 where
+pub record Plain (form : Form) (ero : Bool) (g : Segment) : Type 0 where
   pub sided : (g .structured && not (g .hassid)) ≡ false
   pub flags : (not ero && (g .loose || g .verify)) ≡ false
-  pub tidy : tidyOf g ≡ true
+  pub tidy : tidyOf form g ≡ true
+  pub no-m : (eqb (form .m) 0 && g .labelled) ≡ false
+  pub no-c : (eqb (form .c) 0 && g .complete) ≡ false
+  pub no-t : (eqb (form .t) 0 && g .structured) ≡ false
+  pub no-behaviour : (not (form .behaves) && not (eqb (g .behaviour) 0)) ≡ false
+  pub formed : malformed (headOfSegment form g) ≡ false
 
-pub plain : (ero : Bool) (g : Segment) → unfit ero g ≡ false → Plain ero g
-unfolding unfit
-plain ero g e =
+pub plain : (form : Form) (ero : Bool) (g : Segment) → unfit form ero g ≡ false → Plain form ero g
+unfolding unfit foreign
+plain form ero g e =
     let p = either-false (g .structured && not (g .hassid)) _ e in
     let q = either-false (not ero && (g .loose || g .verify)) _ (p .1) in
-    record { sided = p .0; flags = q .0; tidy = not-false (tidyOf g) (q .1) }
+    let r = either-false (not (tidyOf form g)) _ (q .1) in
+    let s = either-false (foreign form (outlineOf g)) (malformed (headOfSegment form g)) (r .1) in
+    let a = either-false (eqb (form .m) 0 && g .labelled) _ (s .0) in
+    let b = either-false (eqb (form .c) 0 && g .complete) _ (a .1) in
+    let c = either-false (eqb (form .t) 0 && g .structured) _ (b .1) in
+    record {
+      sided = p .0;
+      flags = q .0;
+      tidy = not-false (tidyOf form g) (r .0);
+      no-m = a .0;
+      no-c = b .0;
+      no-t = c .0;
+      no-behaviour = c .1;
+      formed = s .1;
+    }
 
 -- bits ---------------------------------------------------------------------------------------------------------
-
-pub bit-most : (b : Bool) → bit b ≤ 1
-bit-most true = omega arith
-bit-most false = omega arith
 
 pub bit-one : (b : Bool) → eqb (bit b) 1 ≡ b
 bit-one true = refl
@@ -54,24 +74,24 @@ pub bit-none : (b : Bool) → eqb (bit (not b)) 0 ≡ b
 bit-none true = refl
 bit-none false = refl
 
-module _ (v t f s : ℕ) (hv : v ≤ 1) (ht : t ≤ 1) (hf : f ≤ 1) (hs : s ≤ 1) where
-  pub flag-s : (v * 8 + t * 4 + f * 2 + s) % 2 ≡ s
-  flag-s = omega arith
+-- A flag that the form has not is 0.
+bit-off : (w : ℕ) (b : Bool) → (eqb w 0 && b) ≡ false → w ≡ 0 → bit b ≡ 0
+bit-off w b e z = ap bit (rw (eq-eqb w 0 z) at e)
 
-  pub flag-f : (v * 8 + t * 4 + f * 2 + s) / 2 % 2 ≡ f
-  flag-f = omega arith
-
-  pub flag-t : (v * 8 + t * 4 + f * 2 + s) / 4 % 2 ≡ t
-  flag-t = omega arith
-
-  pub flag-v : (v * 8 + t * 4 + f * 2 + s) / 8 % 2 ≡ v
-  flag-v = omega arith
-
--- No flag but V, T, F and S.
-flags-none : (nt v t f s : ℕ) → v ≤ 1 → t ≤ 1 → f ≤ 1 → s ≤ 1 → (nt * 16 * 256 + (v * 8 + t * 4 + f * 2 + s)) % 4096 / 16 * 16 ≡ 0
-flags-none nt v t f s hv ht hf hs =
-    let e : (nt * 16 * 256 + (v * 8 + t * 4 + f * 2 + s)) % 4096 ≡ v * 8 + t * 4 + f * 2 + s = omega arith in
-    rw e (omega arith)
+marks-of : (form : Form) (ero : Bool) (g : Segment) → Plain form ero g
+    → Marks form (bit (g .verify)) (bit (g .structured)) (flagF (g .nt)) (bit (not (g .hassid))) (bit (g .complete)) (bit (g .labelled))
+marks-of form ero g p =
+    record {
+      bit-v = bit-most (g .verify);
+      bit-t = bit-most (g .structured);
+      bit-f = bit-most (eqb (g .nt) 0);
+      bit-s = bit-most (not (g .hassid));
+      bit-c = bit-most (g .complete);
+      bit-m = bit-most (g .labelled);
+      no-t = bit-off (form .t) (g .structured) (p .no-t);
+      no-c = bit-off (form .c) (g .complete) (p .no-c);
+      no-m = bit-off (form .m) (g .labelled) (p .no-m);
+    }
 
 -- the head -----------------------------------------------------------------------------------------------------
 
@@ -82,75 +102,72 @@ flag-kept false false false e = (refl, refl)
 flag-kept false true v e = absurd (let z : _≡_ {A = ℕ} 0 1 = cc in omega arith)
 flag-kept false false true e = absurd (let z : _≡_ {A = ℕ} 0 1 = cc in omega arith)
 
-kind-kept : (ero loose verify : Bool) → (not ero && (loose || verify)) ≡ false → cond ero ((bit loose * 128 + 40) % 128) (bit loose * 128 + 40) ≡ 40
-kind-kept true true v e = refl
-kind-kept true false v e = refl
-kind-kept false false v e = refl
-kind-kept false true v e = absurd (let z : _≡_ {A = ℕ} 0 1 = cc in omega arith)
+kind-kept : (kind : ℕ) → kind < 128 → (ero loose verify : Bool) → (not ero && (loose || verify)) ≡ false
+    → cond ero ((bit loose * 128 + kind) % 128) (bit loose * 128 + kind) ≡ kind
+kind-kept kind k true true v e = omega arith
+kind-kept kind k true false v e = omega arith
+kind-kept kind k false false v e = omega arith
+kind-kept kind k false true v e = absurd (let z : _≡_ {A = ℕ} 0 1 = cc in omega arith)
 
-pub head-made : (ero : Bool) (g : Segment) → (not ero && (g .loose || g .verify)) ≡ false
-    → headOf (bit (g .loose) * 128 + 40) (headOfSegment g .size) (g .nt * 16) (bit (g .verify) * 8 + bit (g .structured) * 4 + flagF (g .nt) * 2 + bit (not (g .hassid)))
-    ero ≡ headOfSegment g
-unfolding headOf kindOf headOfSegment
-head-made ero g e =
-    let v = bit (g .verify) in
-    let t = bit (g .structured) in
-    let f = flagF (g .nt) in
-    let s = bit (not (g .hassid)) in
-    let hv = bit-most (g .verify) in
-    let ht = bit-most (g .structured) in
-    let hf = bit-most (eqb (g .nt) 0) in
-    let hs = bit-most (not (g .hassid)) in
-    let k = kind-kept ero (g .loose) (g .verify) e in
+head-made : {form : Form} → Readable form → (ero : Bool) (g : Segment) → Plain form ero g
+    → headOf form (bit (g .loose) * 128 + form .kind) (headOfSegment form g .size) (g .nt * 16) (flagsOctet form (headOfSegment form g)) ero ≡ headOfSegment form g
+unfolding headOf kindOf headOfSegment flagsOctet
+head-made {form} r ero g p =
+    let a = r .apart (bit (g .verify)) (bit (g .structured)) (flagF (g .nt)) (bit (not (g .hassid))) (bit (g .complete)) (bit (g .labelled)) (marks-of form ero g p) in
+    let k = kind-kept (form .kind) (r .kind) ero (g .loose) (g .verify) (p .flags) in
     let n : g .nt * 16 / 16 ≡ g .nt = omega arith in
-    let es = flag-s v t f s hv ht hf hs in
-    let ef = flag-f v t f s hv ht hf hs in
-    let et = flag-t v t f s hv ht hf hs in
-    let ev : cond ero ((v * 8 + t * 4 + f * 2 + s) / 8 % 2) 0 ≡ v = rw (flag-v v t f s hv ht hf hs) (flag-kept ero (g .loose) (g .verify) e .1) in
-    let d : (bit (g .loose) * 128 + 40) / 128 ≡ bit (g .loose) = omega (arith, bit-most (g .loose)) in
-    let el : cond ero ((bit (g .loose) * 128 + 40) / 128) 0 ≡ bit (g .loose) = rw d (flag-kept ero (g .loose) (g .verify) e .0) in
-    λ i. record { kind = k i; size = headOfSegment g .size; nt = n i; s = es i; f = ef i; t = et i; v = ev i; l = el i }
+    let es = a .back-s in
+    let ef = a .back-f in
+    let et = a .back-t in
+    let ec = a .back-c in
+    let em = a .back-m in
+    let ev = ap (λ (x : ℕ). cond ero x 0) (a .back-v) ∙ flag-kept ero (g .loose) (g .verify) (p .flags) .1 in
+    let d : (bit (g .loose) * 128 + form .kind) / 128 ≡ bit (g .loose) = omega (arith, bit-most (g .loose), r .kind) in
+    let el = ap (λ (x : ℕ). cond ero x 0) d ∙ flag-kept ero (g .loose) (g .verify) (p .flags) .0 in
+    λ i. record { kind = k i; size = headOfSegment form g .size; nt = n i; s = es i; f = ef i; t = et i; v = ev i; l = el i; c = ec i; m = em i }
 
 -- where the parts stand ----------------------------------------------------------------------------------------
 
-abbrev fixedPart : Segment → List ℕ
-fixedPart g = fixedOctets (headOfSegment g) (g .behaviour)
+abbrev fixedPart : Form → Segment → List ℕ
+fixedPart form g = fixedOctets form (headOfSegment form g) (g .behaviour)
 
-abbrev sidPart : Segment → List ℕ
-sidPart g = take (sidLength (headOfSegment g .s)) (g .sid)
+-- The first four octets, and the four behind them where the form has these.
+abbrev firstPart : Form → Segment → List ℕ
+firstPart form g =
+    (headOfSegment form g .l * 128 + form .kind) ∷ headOfSegment form g .size ∷ (g .nt * 16) ∷ flagsOctet form (headOfSegment form g) ∷ []
 
-abbrev naiPart : Segment → List ℕ
-naiPart g = take (naiLength (g .nt)) (g .nai)
+abbrev secondPart : Bool → ℕ → List ℕ
+secondPart b behaviour = cond b (0 ∷ 0 ∷ hi behaviour ∷ lo behaviour ∷ []) []
 
-abbrev lastPart : Segment → List ℕ
-lastPart g = cond (hasStructure (headOfSegment g)) (structureOctets (g .structure)) []
+abbrev sidPart : Form → Segment → List ℕ
+sidPart form g = take (sidLength form (headOfSegment form g .s)) (g .sid)
 
-pub length-sid : (g : Segment) → Held g → length (sidPart g) ≡ sidLength (headOfSegment g .s)
-length-sid g h = ap length (part-there (eqb (headOfSegment g .s) 0) (g .sid) 16 (h .sid)) ∙ length-there (eqb (headOfSegment g .s) 0) (g .sid) ∙ rw (h .sid)
+abbrev naiPart : Form → Segment → List ℕ
+naiPart form g = take (naiLength form (g .nt)) (g .nai)
 
-pub length-nai : (g : Segment) → Held g → length (naiPart g) ≡ naiLength (g .nt)
-length-nai g h = length-take-le (naiLength (g .nt)) (g .nai) (omega (arith, nai-most (g .nt), h .nai))
+abbrev lastPart : Form → Segment → List ℕ
+lastPart form g = cond (hasStructure (headOfSegment form g)) (structureOctets (g .structure)) []
 
 -- The octets kept for a part that is absent or shorter.
-record Tidied (g : Segment) : Type 0 where
-  sid : zeros (drop (cond (g .hassid) 16 0) (g .sid)) ≡ true
-  nai : zeros (drop (naiLength (g .nt)) (g .nai)) ≡ true
+record Tidied (form : Form) (g : Segment) : Type 0 where
+  sid : zeros (drop (cond (g .hassid) (form .sid) 0) (g .sid)) ≡ true
+  nai : zeros (drop (naiLength form (g .nt)) (g .nai)) ≡ true
   structure : zeros (drop (cond (g .structured) 4 0) (g .structure)) ≡ true
 
-tidied : (g : Segment) → tidyOf g ≡ true → Tidied g
+tidied : (form : Form) (g : Segment) → tidyOf form g ≡ true → Tidied form g
 unfolding tidyOf
-tidied g e =
-    let z = both-true (zeros (drop (cond (g .hassid) 16 0) (g .sid))) _ e in
-    let y = both-true (zeros (drop (naiLength (g .nt)) (g .nai))) _ (z .1) in
+tidied form g e =
+    let z = both-true (zeros (drop (cond (g .hassid) (form .sid) 0) (g .sid))) _ e in
+    let y = both-true (zeros (drop (naiLength form (g .nt)) (g .nai))) _ (z .1) in
     record { sid = z .0; nai = y .0; structure = y .1 }
 
-pub sid-there : (g : Segment) → sidLength (headOfSegment g .s) ≡ cond (g .hassid) 16 0
+pub sid-there : (form : Form) (g : Segment) → sidLength form (headOfSegment form g .s) ≡ cond (g .hassid) (form .sid) 0
 unfolding headOfSegment
-sid-there g = rw (bit-none (g .hassid))
+sid-there form g = rw (bit-none (g .hassid))
 
-pub there : (g : Segment) → (g .structured && not (g .hassid)) ≡ false → hasStructure (headOfSegment g) ≡ g .structured
+pub there : (form : Form) (g : Segment) → (g .structured && not (g .hassid)) ≡ false → hasStructure (headOfSegment form g) ≡ g .structured
 unfolding headOfSegment hasStructure
-there g e = go (g .structured) (g .hassid) e
+there form g e = go (g .structured) (g .hassid) e
   where
     go : (t k : Bool) → (t && not k) ≡ false → (eqb (bit (not k)) 0 && eqb (bit t) 1) ≡ t
     go true true e = refl
@@ -165,191 +182,248 @@ nothing : (s : List ℕ) (at : ℕ) → part s at 0 ≡ []
 unfolding part
 nothing s at = refl
 
-module _ {s : List ℕ} {at : ℕ} (g : Segment) (t : Stands s at (subobjectOf g)) where
-  pub stands-fixed : Stands s at (fixedPart g)
+-- A SID that is there, as long as the form has it.
+full-sid : (form : Form) (g : Segment) → g .hassid ≡ true → sidLength form (headOfSegment form g .s) ≡ form .sid
+full-sid form g e = sid-there form g ∙ ap (λ (b : Bool). cond {A = ℕ} b (form .sid) 0) e
+
+any-both : (x y : List ℕ) → anySet x ≡ false → anySet y ≡ false → anySet (x ++ y) ≡ false
+any-both [] y e f = f
+any-both (a ∷ x) y e f = let p = either-false (not (eqb a 0)) (anySet x) e in rw (p .0) (any-both x y (p .1) f)
+
+module _ {form : Form} (z : Sized form) (r : Readable form) {s : List ℕ} {at : ℕ} (g : Segment) (t : Stands s at (subobjectOf form g)) where
+  stands-fixed : Stands s at (fixedPart form g)
   unfolding subobjectOf
-  stands-fixed = stands-left (fixedPart g) _ t
+  stands-fixed = stands-left (fixedPart form g) _ t
 
-  stands-parts : Stands s (at + 8) (sidPart g ++ (naiPart g ++ lastPart g))
-  unfolding subobjectOf fixedOctets
-  stands-parts = stands-right (fixedPart g) _ t
+  pub stands-four : Stands s at (firstPart form g)
+  unfolding fixedOctets headOfSegment
+  stands-four = stands-left (firstPart form g) (secondPart (form .behaves) (g .behaviour)) stands-fixed
 
-  pub stands-sid : Stands s (at + 8) (sidPart g)
-  stands-sid = stands-left (sidPart g) _ stands-parts
+  stands-second : Stands s (at + 4) (secondPart (form .behaves) (g .behaviour))
+  unfolding fixedOctets headOfSegment
+  stands-second = stands-right (firstPart form g) (secondPart (form .behaves) (g .behaviour)) stands-fixed
 
-  stands-behind : Held g → Stands s (at + 8 + sidLength (headOfSegment g .s)) (naiPart g ++ lastPart g)
-  stands-behind h = rw (length-sid g h) at (stands-right (sidPart g) _ stands-parts)
+  stands-parts : Stands s (at + form .fixed) (sidPart form g ++ (naiPart form g ++ lastPart form g))
+  unfolding subobjectOf
+  stands-parts = rw (length-fixed z (headOfSegment form g) (g .behaviour)) at (stands-right (fixedPart form g) _ t)
 
-  pub stands-nai : Held g → Stands s (at + 8 + sidLength (headOfSegment g .s)) (naiPart g)
-  stands-nai h = stands-left (naiPart g) _ (stands-behind h)
+  pub stands-sid : Stands s (at + form .fixed) (sidPart form g)
+  stands-sid = stands-left (sidPart form g) _ stands-parts
 
-  pub stands-last : Held g → Stands s (at + 8 + sidLength (headOfSegment g .s) + naiLength (g .nt)) (lastPart g)
-  stands-last h = rw (length-nai g h) at (stands-right (naiPart g) _ (stands-behind h))
+  stands-behind : Held g → Stands s (at + form .fixed + sidLength form (headOfSegment form g .s)) (naiPart form g ++ lastPart form g)
+  stands-behind h = rw (length-sid z g h) at (stands-right (sidPart form g) _ stands-parts)
+
+  pub stands-nai : Held g → Stands s (at + form .fixed + sidLength form (headOfSegment form g .s)) (naiPart form g)
+  stands-nai h = stands-left (naiPart form g) _ (stands-behind h)
+
+  pub stands-last : Held g → Stands s (at + form .fixed + sidLength form (headOfSegment form g .s) + naiLength form (g .nt)) (lastPart form g)
+  stands-last h = rw (length-nai z g h) at (stands-right (naiPart form g) _ (stands-behind h))
 
   -- reading ------------------------------------------------------------------------------------------------------
 
-  pub head-back : (ero : Bool) → (not ero && (g .loose || g .verify)) ≡ false → headAt s ero at ≡ headOfSegment g
-  unfolding headAt fixedOctets headOfSegment
-  head-back ero e =
+  pub head-back : (ero : Bool) → Plain form ero g → headAt form s ero at ≡ headOfSegment form g
+  unfolding headAt headOfSegment
+  head-back ero p =
       rw (
-        stands-first (fixedPart g) stands-fixed (omega arith),
-        stands-octet (fixedPart g) stands-fixed 1 (omega arith),
-        stands-octet (fixedPart g) stands-fixed 2 (omega arith),
-        stands-octet (fixedPart g) stands-fixed 3 (omega arith),
-      ) (head-made ero g e)
+        stands-first (firstPart form g) stands-four (omega arith),
+        stands-octet (firstPart form g) stands-four 1 (omega arith),
+        stands-octet (firstPart form g) stands-four 2 (omega arith),
+        stands-octet (firstPart form g) stands-four 3 (omega arith),
+      ) (head-made r ero g p)
 
-  pub behaviour-back : Held g → be16 s (at + 6) ≡ g .behaviour
-  unfolding be16 fixedOctets octetOf
-  behaviour-back h =
-      let e6 = stands-octet (fixedPart g) stands-fixed 6 (omega arith) in
-      let e7 = stands-octet (fixedPart g) stands-fixed 7 (omega arith) in
+  behaviour-by : Held g → (b : Bool) → Stands s (at + 4) (secondPart b (g .behaviour)) → (not b && not (eqb (g .behaviour) 0)) ≡ false
+      → cond b (be16 s (at + 6)) 0 ≡ g .behaviour
+  unfolding be16 octetOf
+  behaviour-by h true u e =
+      let x : List ℕ = 0 ∷ 0 ∷ hi (g .behaviour) ∷ lo (g .behaviour) ∷ [] in
+      let e6 : octetOf s (at + 6) ≡ hi (g .behaviour) = ap (octetOf s) (sym (add-assoc at 4 2)) ∙ stands-octet x u 2 (omega arith) in
+      let e7 : octetOf s (at + 7) ≡ lo (g .behaviour) = ap (octetOf s) (sym (add-assoc at 4 3)) ∙ stands-octet x u 3 (omega arith) in
       let b = h .behaviour in
       rw (add-assoc at 6 1, e6, e7) (omega arith)
+  behaviour-by h false u e = sym (eqb-true (g .behaviour) 0 (not-false _ e))
 
-  pub sid-back : Held g → tidyOf g ≡ true → partOf s (at + 8) (sidLength (headOfSegment g .s)) 16 ≡ g .sid
+  pub behaviour-back : Held g → (not (form .behaves) && not (eqb (g .behaviour) 0)) ≡ false → cond (form .behaves) (be16 s (at + 6)) 0 ≡ g .behaviour
+  behaviour-back h e = behaviour-by h (form .behaves) stands-second e
+
+  pub sid-back : Held g → tidyOf form g ≡ true → partOf s (at + form .fixed) (sidLength form (headOfSegment form g .s)) 16 ≡ g .sid
   unfolding partOf
   sid-back h e =
-      let k = sidLength (headOfSegment g .s) in
-      let p : part s (at + 8) k ≡ sidPart g = rw (length-sid g h) at (stands-part (sidPart g) stands-sid) in
-      rw p (padded-back (g .sid) k 16 (h .sid) (cond-most (eqb (headOfSegment g .s) 0) 16) (rw (sid-there g) (tidied g e .sid)))
+      let k = sidLength form (headOfSegment form g .s) in
+      let p : part s (at + form .fixed) k ≡ sidPart form g = rw (length-sid z g h) at (stands-part (sidPart form g) stands-sid) in
+      rw p
+      (padded-back (g .sid) k 16 (h .sid) (omega (arith, z .sid, cond-most (eqb (headOfSegment form g .s) 0) (form .sid)))
+      (rw (sid-there form g) (tidied form g e .sid)))
 
-  pub nai-back : Held g → tidyOf g ≡ true → partOf s (at + 8 + sidLength (headOfSegment g .s)) (naiLength (g .nt)) 40 ≡ g .nai
+  pub nai-back : Held g → tidyOf form g ≡ true → partOf s (at + form .fixed + sidLength form (headOfSegment form g .s)) (naiLength form (g .nt)) 40 ≡ g .nai
   unfolding partOf
   nai-back h e =
-      let p : part s (at + 8 + sidLength (headOfSegment g .s)) (naiLength (g .nt)) ≡ naiPart g
-      = rw (length-nai g h) at (stands-part (naiPart g) (stands-nai h)) in
-      rw p (padded-back (g .nai) (naiLength (g .nt)) 40 (h .nai) (nai-most (g .nt)) (tidied g e .nai))
+      let p : part s (at + form .fixed + sidLength form (headOfSegment form g .s)) (naiLength form (g .nt)) ≡ naiPart form g
+      = rw (length-nai z g h) at (stands-part (naiPart form g) (stands-nai h)) in
+      rw p (padded-back (g .nai) (naiLength form (g .nt)) 40 (h .nai) (nai-most z (g .nt)) (tidied form g e .nai))
 
   -- The four bit lengths stand where a structure is looked for.
-  pub stands-bits : Held g → g .structured ≡ true → (g .structured && not (g .hassid)) ≡ false → Stands s (at + 8 + 16 + naiLength (g .nt)) (g .structure)
+  stands-structure : Held g → g .structured ≡ true → (g .structured && not (g .hassid)) ≡ false
+      → Stands s (at + form .fixed + form .sid + naiLength form (g .nt)) (structureOctets (g .structure))
+  stands-structure h e n =
+      let l : lastPart form g ≡ structureOctets (g .structure) = ap (λ (b : Bool). cond b (structureOctets (g .structure)) []) (there form g n ∙ e) in
+      let k = full-sid form g (sided g e n) in
+      rw (l, k) at (stands-last h)
+
+  pub stands-bits : Held g → g .structured ≡ true → (g .structured && not (g .hassid)) ≡ false
+      → Stands s (at + form .fixed + form .sid + naiLength form (g .nt)) (g .structure)
   stands-bits h e n =
-      let l : lastPart g ≡ structureOctets (g .structure) = rw (there g n, e) in
-      let k : sidLength (headOfSegment g .s) ≡ 16 = sid-there g ∙ rw (sided g e n) in
       let t4 : take 4 (g .structure) ≡ g .structure = take-all 4 (g .structure) (omega (arith, h .structure)) in
-      rw t4 at (stands-left (take 4 (g .structure)) _ (rw (l, k) at (stands-last h)))
+      rw t4 at (stands-left (take 4 (g .structure)) _ (stands-structure h e n))
 
   bits-part : Held g → (g .structured && not (g .hassid)) ≡ false → (b : Bool) → g .structured ≡ b
-      → part s (at + 8 + 16 + naiLength (g .nt)) (cond (g .structured) 4 0) ≡ take (cond (g .structured) 4 0) (g .structure)
+      → part s (at + form .fixed + form .sid + naiLength form (g .nt)) (cond (g .structured) 4 0) ≡ take (cond (g .structured) 4 0) (g .structure)
   bits-part h n true q =
       let p = stands-part (g .structure) (stands-bits h q n) in
       rw q ((rw (h .structure) at p) ∙ sym (take-all 4 (g .structure) (omega (arith, h .structure))))
-  bits-part h n false q = rw q (nothing s (at + 8 + 16 + naiLength (g .nt)))
+  bits-part h n false q = rw q (nothing s (at + form .fixed + form .sid + naiLength form (g .nt)))
 
-  pub structure-back : Held g → tidyOf g ≡ true → (g .structured && not (g .hassid)) ≡ false
-      → partOf s (at + 8 + 16 + naiLength (g .nt)) (cond (g .structured) 4 0) 4 ≡ g .structure
+  pub structure-back : Held g → tidyOf form g ≡ true → (g .structured && not (g .hassid)) ≡ false
+      → partOf s (at + form .fixed + form .sid + naiLength form (g .nt)) (cond (g .structured) 4 0) 4 ≡ g .structure
   unfolding partOf
   structure-back h e n =
       rw (bits-part h n (g .structured) refl)
-      (padded-back (g .structure) (cond (g .structured) 4 0) 4 (h .structure) (cond-most (g .structured) 4) (tidied g e .structure))
+      (padded-back (g .structure) (cond (g .structured) 4 0) 4 (h .structure) (cond-most (g .structured) 4) (tidied form g e .structure))
 
-  segment-by : Held g → (g .structured && not (g .hassid)) ≡ false → tidyOf g ≡ true → segmentBy (headOfSegment g) s at ≡ g
+  segment-by : {ero : Bool} → Held g → Plain form ero g → segmentBy form (headOfSegment form g) s at ≡ g
   unfolding headOfSegment
-  segment-by h n e =
+  segment-by h p =
       let el = bit-one (g .loose) in
       let ev = bit-one (g .verify) in
-      let eb = behaviour-back h in
+      let eb = behaviour-back h (p .no-behaviour) in
       let es = bit-none (g .hassid) in
-      let ei = sid-back h e in
-      let en = nai-back h e in
-      let et = there g n in
-      let ec = (rw (← et) at (structure-back h e n)) in
-      λ i. record { loose = el i; verify = ev i; nt = g .nt; behaviour = eb i; hassid = es i; sid = ei i; nai = en i; structured = et i; structure = ec i }
+      let ei = sid-back h (p .tidy) in
+      let en = nai-back h (p .tidy) in
+      let et = there form g (p .sided) in
+      let ec = (rw (← et) at (structure-back h (p .tidy) (p .sided))) in
+      let em = bit-one (g .labelled) in
+      let eo = bit-one (g .complete) in
+      λ i. record {
+        loose = el i;
+        verify = ev i;
+        nt = g .nt;
+        behaviour = eb i;
+        hassid = es i;
+        sid = ei i;
+        nai = en i;
+        structured = et i;
+        structure = ec i;
+        labelled = em i;
+        complete = eo i;
+      }
 
   -- What the octets say is the segment.
-  pub segment-back : (ero : Bool) → Held g → Plain ero g → segmentAt s ero at ≡ g
+  pub segment-back : (ero : Bool) → Held g → Plain form ero g → segmentAt form s ero at ≡ g
   unfolding segmentAt
-  segment-back ero h p = rw (head-back ero (p .flags)) (segment-by h (p .sided) (p .tidy))
+  segment-back ero h p = rw (head-back ero p) (segment-by h p)
 
   -- what is set and ought to be 0 --------------------------------------------------------------------------------
 
-  flags-clean : strayFlags s at ≡ 0
-  unfolding strayFlags be16 fixedOctets octetOf headOfSegment
-  flags-clean =
-      let e2 = stands-octet (fixedPart g) stands-fixed 2 (omega arith) in
-      let e3 = stands-octet (fixedPart g) stands-fixed 3 (omega arith) in
-      rw (add-assoc at 2 1, e2, e3)
-      (flags-none (g .nt) (bit (g .verify)) (bit (g .structured)) (flagF (g .nt)) (bit (not (g .hassid))) (bit-most (g .verify)) (bit-most (g .structured))
-      (bit-most (eqb (g .nt) 0)) (bit-most (not (g .hassid))))
+  flags-clean : {ero : Bool} → Plain form ero g → strayFlags form s at ≡ 0
+  unfolding strayFlags be16 octetOf headOfSegment flagsOctet
+  flags-clean {ero} p =
+      let h = headOfSegment form g in
+      let x = flagsOctet form h in
+      let e2 = stands-octet (firstPart form g) stands-four 2 (omega arith) in
+      let e3 = stands-octet (firstPart form g) stands-four 3 (omega arith) in
+      let k = marks-of form ero g p in
+      let a = r .apart (bit (g .verify)) (bit (g .structured)) (flagF (g .nt)) (bit (not (g .hassid))) (bit (g .complete)) (bit (g .labelled)) k in
+      let f : x < 256 = flags-small r h (k .bit-v) (k .bit-t) (k .bit-f) (k .bit-s) (k .bit-c) (k .bit-m) in
+      let q = r .strays (g .nt * 16) x f in
+      let n : g .nt * 16 % 16 ≡ 0 = omega arith in
+      rw (add-assoc at 2 1, e2, e3) (q ∙ rw (n, a .none) (omega arith))
 
-  fixed-clean : (octetOf s (at + 4) ≡ 0) × (octetOf s (at + 4 + 1) ≡ 0)
-  unfolding fixedOctets
-  fixed-clean = (
-    stands-octet (fixedPart g) stands-fixed 4 (omega arith),
-    ap (octetOf s) (add-assoc at 4 1) ∙ stands-octet (fixedPart g) stands-fixed 5 (omega arith),
-  )
+  fixed-clean : (b : Bool) → Stands s (at + 4) (secondPart b (g .behaviour)) → anySet (cond b (octetOf s (at + 4) ∷ octetOf s (at + 4 + 1) ∷ []) []) ≡ false
+  fixed-clean true u =
+      let x : List ℕ = 0 ∷ 0 ∷ hi (g .behaviour) ∷ lo (g .behaviour) ∷ [] in
+      rw (stands-first x u (omega arith), stands-octet x u 1 (omega arith))
+  fixed-clean false u = refl
 
   -- The last four octets of the structure stand behind the bit lengths.
   stands-spare : Held g → g .structured ≡ true → (g .structured && not (g .hassid)) ≡ false
-      → Stands s (at + 8 + 16 + naiLength (g .nt) + 4) (0 ∷ 0 ∷ 0 ∷ 0 ∷ [])
+      → Stands s (at + form .fixed + form .sid + naiLength form (g .nt) + 4) (0 ∷ 0 ∷ 0 ∷ 0 ∷ [])
   stands-spare h e n =
-      let l : lastPart g ≡ structureOctets (g .structure) = rw (there g n, e) in
-      let k : sidLength (headOfSegment g .s) ≡ 16 = sid-there g ∙ rw (sided g e n) in
       let f : length (take 4 (g .structure)) ≡ 4 = length-take-le 4 (g .structure) (omega (arith, h .structure)) in
-      rw f at (stands-right (take 4 (g .structure)) _ (rw (l, k) at (stands-last h)))
+      rw f at (stands-right (take 4 (g .structure)) _ (stands-structure h e n))
 
-  strays-by : Held g → (g .structured && not (g .hassid)) ≡ false → (b : Bool) → g .structured ≡ b → straysBy (headOfSegment g) s at ≡ noStrays
-  unfolding structureFlags reservedOctets headOfSegment
-  strays-by h n true e =
-      let t = stands-spare h e n in
+  reserved-clean : (b : Bool) (p : ℕ) → (b ≡ true → Stands s p (0 ∷ 0 ∷ 0 ∷ 0 ∷ []))
+      → (anySet (cond b (octetOf s p ∷ octetOf s (p + 1) ∷ octetOf s (p + 2) ∷ []) []) ≡ false) × (cond b (octetOf s (p + 3)) 0 ≡ 0)
+  reserved-clean true p u =
+      let t = u refl in
       let x : List ℕ = 0 ∷ 0 ∷ 0 ∷ 0 ∷ [] in
-      let there-now : hasStructure (headOfSegment g) ≡ true = there g n ∙ e in
-      let c = fixed-clean in
-      rw (there-now, flags-clean, c .0, c .1, stands-first x t (omega arith), stands-octet x t 1 (omega arith), stands-octet x t 2 (omega arith), stands-octet x t 3 (omega arith))
-  strays-by h n false e =
-      let there-now : hasStructure (headOfSegment g) ≡ false = there g n ∙ e in
-      let c = fixed-clean in
-      rw (there-now, flags-clean, c .0, c .1)
+      (rw (stands-first x t (omega arith), stands-octet x t 1 (omega arith), stands-octet x t 2 (omega arith)), stands-octet x t 3 (omega arith))
+  reserved-clean false p u = (refl, refl)
+
+  strays-by : {ero : Bool} → Held g → Plain form ero g → straysBy form (headOfSegment form g) s at ≡ noStrays
+  unfolding structureFlags reservedOctets headOfSegment
+  strays-by h p =
+      let b = hasStructure (headOfSegment form g) in
+      let q = at + form .fixed + form .sid + naiLength form (g .nt) + 4 in
+      let c = reserved-clean b q (λ e. stands-spare h (sym (there form g (p .sided)) ∙ e) (p .sided)) in
+      let ef = flags-clean p in
+      let es = c .1 in
+      let er = any-both (cond (form .behaves) (octetOf s (at + 4) ∷ octetOf s (at + 4 + 1) ∷ []) []) (cond b (octetOf s q ∷ octetOf s (q + 1) ∷ octetOf s (q + 2) ∷ []) [])
+      (fixed-clean (form .behaves) stands-second) (c .0) in
+      λ i. record { flags = ef i; structure = es i; reserved = er i }
 
   -- "Writing knows none: what is written has none."
-  pub strays-back : (ero : Bool) → Held g → Plain ero g → straysAt s ero at ≡ noStrays
+  pub strays-back : (ero : Bool) → Held g → Plain form ero g → straysAt form s ero at ≡ noStrays
   unfolding straysAt
-  strays-back ero h p = rw (head-back ero (p .flags)) (strays-by h (p .sided) (g .structured) refl)
+  strays-back ero h p = rw (head-back ero p) (strays-by h p)
 
   -- Every ignored bit of a segment that was written is 0: those, V in an RRO, and T where there is no SID.
-  flags-octet : octetOf s (at + 3) ≡ bit (g .verify) * 8 + bit (g .structured) * 4 + flagF (g .nt) * 2 + bit (not (g .hassid))
-  unfolding fixedOctets headOfSegment
-  flags-octet = stands-octet (fixedPart g) stands-fixed 3 (omega arith)
+  apart-of : {ero : Bool} → Plain form ero g
+      → Apart form (bit (g .verify)) (bit (g .structured)) (flagF (g .nt)) (bit (not (g .hassid))) (bit (g .complete)) (bit (g .labelled))
+  apart-of {ero} p =
+      r .apart (bit (g .verify)) (bit (g .structured)) (flagF (g .nt)) (bit (not (g .hassid))) (bit (g .complete)) (bit (g .labelled)) (marks-of form ero g p)
 
-  unassigned-zero : zeros (unassignedAt s at) ≡ true
-  unfolding fixedOctets headOfSegment
-  unassigned-zero =
-      let e2 = stands-octet (fixedPart g) stands-fixed 2 (omega arith) in
-      let e4 = stands-octet (fixedPart g) stands-fixed 4 (omega arith) in
-      let e5 = stands-octet (fixedPart g) stands-fixed 5 (omega arith) in
-      let a = bit-most (g .verify) in
-      let b = bit-most (g .structured) in
-      let c = bit-most (eqb (g .nt) 0) in
-      let d = bit-most (not (g .hassid)) in
-      let low : octetOf s (at + 2) % 16 ≡ 0 = rw e2 (omega arith) in
-      let high : octetOf s (at + 3) / 16 ≡ 0 = rw flags-octet (omega (arith, a, b, c, d)) in
-      rw (low, high, e4, e5)
+  flags-octet : octetOf s (at + 3)
+      ≡ together form (bit (g .verify)) (bit (g .structured)) (flagF (g .nt)) (bit (not (g .hassid))) (bit (g .complete)) (bit (g .labelled))
+  unfolding headOfSegment flagsOctet
+  flags-octet = stands-octet (firstPart form g) stands-four 3 (omega arith)
 
-  assigned-zero : (ero : Bool) → Plain ero g → zeros (assignedAt s ero at) ≡ true
+  second-zero : (b : Bool) → Stands s (at + 4) (secondPart b (g .behaviour)) → zeros (cond b (octetOf s (at + 4) ∷ octetOf s (at + 5) ∷ []) []) ≡ true
+  second-zero true u =
+      let x : List ℕ = 0 ∷ 0 ∷ hi (g .behaviour) ∷ lo (g .behaviour) ∷ [] in
+      let e5 : octetOf s (at + 5) ≡ 0 = ap (octetOf s) (sym (add-assoc at 4 1)) ∙ stands-octet x u 1 (omega arith) in
+      rw (stands-first x u (omega arith), e5)
+  second-zero false u = refl
+
+  unassigned-zero : {ero : Bool} → Plain form ero g → zeros (unassignedAt form s at) ≡ true
+  unassigned-zero p =
+      let low : octetOf s (at + 2) % 16 ≡ 0 = rw (stands-octet (firstPart form g) stands-four 2 (omega arith)) (omega arith) in
+      let high : octetOf s (at + 3) / form .free ≡ 0 = rw flags-octet (apart-of p .none) in
+      let rest : List ℕ = cond (form .behaves) (octetOf s (at + 4) ∷ octetOf s (at + 5) ∷ []) [] in
+      zeros-cons (octetOf s (at + 2) % 16) (octetOf s (at + 3) / form .free ∷ rest) low
+      (zeros-cons (octetOf s (at + 3) / form .free) rest high (second-zero (form .behaves) stands-second))
+
+  assigned-zero : (ero : Bool) → Plain form ero g → zeros (assignedAt form s ero at) ≡ true
   unfolding headOfSegment
-  assigned-zero ero p = rw (head-back ero (p .flags), verified ero (p .flags), unstructured (g .hassid) (g .structured) (p .sided))
+  assigned-zero ero p = rw (head-back ero p, verified ero (p .flags), unstructured (g .hassid) (g .structured) (p .sided))
     where
-      verified : (e : Bool) → (not e && (g .loose || g .verify)) ≡ false → cond e 0 (octetOf s (at + 3) / 8 % 2) ≡ 0
+      verified : (e : Bool) → (not e && (g .loose || g .verify)) ≡ false → cond e 0 (flagIn (octetOf s (at + 3)) (form .v)) ≡ 0
       verified true q = refl
-      verified false q =
-          let v : g .verify ≡ false = either-false (g .loose) (g .verify) q .1 in
-          let o : octetOf s (at + 3) ≡ 0 * 8 + bit (g .structured) * 4 + flagF (g .nt) * 2 + bit (not (g .hassid)) = flags-octet ∙ rw v in
-          rw o (omega (arith, bit-most (g .structured), bit-most (eqb (g .nt) 0), bit-most (not (g .hassid))))
+      verified false q = ap (λ (x : ℕ). flagIn x (form .v)) flags-octet ∙ apart-of p .back-v ∙ ap bit (either-false (g .loose) (g .verify) q .1)
 
       unstructured : (h t : Bool) → (t && not h) ≡ false → cond (eqb (bit (not h)) 0) 0 (bit t) ≡ 0
       unstructured true t q = refl
       unstructured false false q = refl
       unstructured false true q = absurd (let w : _≡_ {A = ℕ} 0 1 = cc in omega arith)
 
-  ending-zero : (ero : Bool) → Held g → Plain ero g → (b : Bool) → g .structured ≡ b → zeros (endingAt s ero at) ≡ true
+  ending-zero : (ero : Bool) → Held g → Plain form ero g → (b : Bool) → g .structured ≡ b → zeros (endingAt form s ero at) ≡ true
   unfolding headOfSegment
   ending-zero ero h p true e =
-      let there-now : hasStructure (headOfSegment g) ≡ true = there g (p .sided) ∙ e in
-      rw (head-back ero (p .flags), there-now, stands-part (0 ∷ 0 ∷ 0 ∷ 0 ∷ []) (stands-spare h e (p .sided)))
+      let there-now : hasStructure (headOfSegment form g) ≡ true = there form g (p .sided) ∙ e in
+      rw (head-back ero p, there-now, stands-part (0 ∷ 0 ∷ 0 ∷ 0 ∷ []) (stands-spare h e (p .sided)))
   ending-zero ero h p false e =
-      let there-now : hasStructure (headOfSegment g) ≡ false = there g (p .sided) ∙ e in
-      rw (head-back ero (p .flags), there-now)
+      let there-now : hasStructure (headOfSegment form g) ≡ false = there form g (p .sided) ∙ e in
+      rw (head-back ero p, there-now)
 
-  pub ignored-back : (ero : Bool) → Held g → Plain ero g → zeros (ignoredAt s ero at) ≡ true
+  pub ignored-back : (ero : Bool) → Held g → Plain form ero g → zeros (ignoredAt form s ero at) ≡ true
   ignored-back ero h p =
-      zeros-append (unassignedAt s at) (assignedAt s ero at ++ endingAt s ero at) unassigned-zero
-      (zeros-append (assignedAt s ero at) (endingAt s ero at) (assigned-zero ero p) (ending-zero ero h p (g .structured) refl))
+      zeros-append (unassignedAt form s at) (assignedAt form s ero at ++ endingAt form s ero at) (unassigned-zero p)
+      (zeros-append (assignedAt form s ero at) (endingAt form s ero at) (assigned-zero ero p) (ending-zero ero h p (g .structured) refl))

@@ -6,16 +6,18 @@ use mathlib.Core.List.{List, [], _∷_, _++_}
 use lib.Dec.{eqb}
 use lib.ListN.{getD, take, drop}
 use lib.Seq.{getD-drop}
-use native.Mathlib.Nat.{add-assoc, add-zero, zero-add}
+use native.Mathlib.Nat.{add-assoc, add-zero, zero-add, suc-mul}
 use native.Mathlib.Omega.{arith}
 use borrow.Author.Tests.{eqb-true, eq-eqb, ne-eqb}
 use Rattle.octets.specs.Octets.{octetOf, be16, part}
-use Rattle.octets.proofs.Said.{both-true}
+use Rattle.forms.specs.declared.Form.{Form}
+use Rattle.forms.specs.Sized.{Sized}
 use Rattle.subobject.specs.Layout.{headAt}
 use Rattle.subobject.specs.Rules.{hasStructure}
-use Rattle.subobject.specs.Strays.{strayFlags, structureReserved, structureFlags, reservedOctets, straysAt, isStray, strayIn}
+use Rattle.subobject.specs.Strays.{strayFlags, structureReserved, structureFlags, reservedOctets, anySet, straysAt, isStray, strayIn}
 use Rattle.frame.specs.Frames.{placesOf}
 use Rattle.writer_spare.specs.Spare.{zeros}
+use Rattle.writer_layout.specs.Readable.{Readable}
 use Rattle.readback.specs.Ignored.{Octets, unassignedAt, endingAt, assignedAt, ignoredAt, strayBitsAt, ignoredIn, strayBitsIn, assignedIn, ignoredOf}
 use Rattle.readback.proofs.Parts.{octet-small}
 
@@ -29,22 +31,18 @@ zeros-both (a ∷ x) y = rw (zeros-both x y) (go (eqb a 0))
 
 -- one subobject ------------------------------------------------------------------------------------------------
 
--- The 12 flags without the last four: four bits of one octet and four of the next.
-flag-bits : (a b : ℕ) → b < 256 → (a * 256 + b) % 4096 / 16 * 16 ≡ a % 16 * 256 + b / 16 * 16
-flag-bits a b h =
-    let e : (a * 256 + b) % 4096 ≡ a % 16 * 256 + b = omega arith in
-    rw e (omega arith)
+sum-zero : (x y w : ℕ) → 0 < w → eqb (x * 256 + y * w) 0 ≡ (eqb x 0 && eqb y 0)
+sum-zero zero zero w h = eq-eqb (zero * 256 + zero * w) 0 (omega arith)
+sum-zero zero (suc y) w h = ne-eqb (zero * 256 + suc y * w) 0 (λ e. let q = suc-mul y w in omega arith) ∙ sym (ne-eqb (suc y) 0 (λ e. omega arith))
+sum-zero (suc x) y w h = ne-eqb (suc x * 256 + y * w) 0 (λ e. omega arith) ∙ sym (ap (λ (b : Bool). b && eqb y 0) (ne-eqb (suc x) 0 (λ e. omega arith)))
 
-sum-zero : (x y : ℕ) → eqb (x * 256 + y * 16) 0 ≡ (eqb x 0 && eqb y 0)
-sum-zero zero zero = refl
-sum-zero zero (suc y) = rw (ne-eqb (zero * 256 + suc y * 16) 0 (λ e. omega arith), ne-eqb (suc y) 0 (λ e. omega arith))
-sum-zero (suc x) y = rw (ne-eqb (suc x * 256 + y * 16) 0 (λ e. omega arith), ne-eqb (suc x) 0 (λ e. omega arith))
-
-flags-zero : (s : List ℕ) (at : ℕ) → Octets s → eqb (strayFlags s at) 0 ≡ (eqb (octetOf s (at + 2) % 16) 0 && eqb (octetOf s (at + 3) / 16) 0)
+-- The 12 flags without those that are assigned: four bits of one octet and some of the next.
+flags-zero : {form : Form} → Sized form → Readable form → (s : List ℕ) (at : ℕ) → Octets s
+    → eqb (strayFlags form s at) 0 ≡ (eqb (octetOf s (at + 2) % 16) 0 && eqb (octetOf s (at + 3) / form .free) 0)
 unfolding strayFlags be16 octetOf
-flags-zero s at o =
+flags-zero {form} z r s at o =
     let h : getD s (at + 3) 0 < 256 = octet-small s o (at + 3) in
-    rw (add-assoc at 2 1, flag-bits (getD s (at + 2) 0) (getD s (at + 3) 0) h) (sum-zero (getD s (at + 2) 0 % 16) (getD s (at + 3) 0 / 16))
+    rw (add-assoc at 2 1, r .strays (getD s (at + 2) 0) (getD s (at + 3) 0) h) (sum-zero (getD s (at + 2) 0 % 16) (getD s (at + 3) 0 / form .free) (form .free) (z .free))
 
 four-zero : (x : List ℕ) → zeros (take 4 x) ≡ (eqb (getD x 0 0) 0 && (eqb (getD x 1 0) 0 && (eqb (getD x 2 0) 0 && (eqb (getD x 3 0) 0 && true))))
 four-zero [] = refl
@@ -60,46 +58,57 @@ part-zero s p =
     let e0 : getD (drop p s) 0 0 ≡ getD s p 0 = getD-drop p s 0 0 ∙ ap (λ (i : ℕ). getD s i 0) (add-zero p) in
     four-zero (drop p s) ∙ rw (e0, getD-drop p s 1 0, getD-drop p s 2 0, getD-drop p s 3 0)
 
--- In any of the three ways: one of the numbers is not 0.
-any-plain : (a b c d : Bool) → (not (a && b) || (false || (not c || (not d || false)))) ≡ not (a && (b && (c && (d && true))))
-any-plain false b c d = refl
-any-plain true false c d = refl
-any-plain true true false d = refl
-any-plain true true true false = refl
-any-plain true true true true = refl
+-- Octets of which one is set are not all 0.
+any-zeros : (x : List ℕ) → anySet x ≡ not (zeros x)
+any-zeros [] = refl
+any-zeros (a ∷ x) = rw (any-zeros x) (go (eqb a 0))
+  where
+    go : (b : Bool) → (not b || not (zeros x)) ≡ not (b && zeros x)
+    go true = refl
+    go false = refl
 
-any-structured : (a b c d p q r f : Bool)
-    → (not (a && b) || (not f || (not c || (not d || (not p || (not q || (not r || false)))))))
-    ≡ not (a && (b && (c && (d && (p && (q && (r && (f && true))))))))
-any-structured false b c d p q r f = refl
-any-structured true false c d p q r f = refl
-any-structured true true false d p q r true = refl
-any-structured true true false d p q r false = refl
-any-structured true true true false p q r true = refl
-any-structured true true true false p q r false = refl
-any-structured true true true true false q r true = refl
-any-structured true true true true false q r false = refl
-any-structured true true true true true false r true = refl
-any-structured true true true true true false r false = refl
-any-structured true true true true true true false true = refl
-any-structured true true true true true true false false = refl
-any-structured true true true true true true true true = refl
-any-structured true true true true true true true false = refl
+-- The reserved octets and the flags of a structure, where it is there.
+ending-zero : (s : List ℕ) (p : ℕ) (b : Bool)
+    → zeros (cond b (part s p 4) [])
+    ≡ (zeros (cond b (octetOf s p ∷ octetOf s (p + 1) ∷ octetOf s (p + 2) ∷ []) []) && eqb (cond b (octetOf s (p + 3)) 0) 0)
+ending-zero s p true = part-zero s p ∙ go (eqb (octetOf s p) 0) (eqb (octetOf s (p + 1)) 0) (eqb (octetOf s (p + 2)) 0) (eqb (octetOf s (p + 3)) 0)
+  where
+    go : (a b c d : Bool) → (a && (b && (c && (d && true)))) ≡ ((a && (b && (c && true))) && d)
+    go false b c d = refl
+    go true false c d = refl
+    go true true false d = refl
+    go true true true true = refl
+    go true true true false = refl
+ending-zero s p false = refl
+
+-- In any of the three ways: one of the numbers is not 0.
+any-way : (a b f x y : Bool) → (not (a && b) || (not f || not (x && y))) ≡ not ((a && (b && x)) && (y && f))
+any-way false b f x y = refl
+any-way true false f x y = refl
+any-way true true true true true = refl
+any-way true true true true false = refl
+any-way true true true false y = refl
+any-way true true false true true = refl
+any-way true true false true false = refl
+any-way true true false false y = refl
 
 -- A segment is stray exactly if one of these bits is set.
-pub stray-bits : (s : List ℕ) (ero : Bool) (at : ℕ) → Octets s → isStray (straysAt s ero at) ≡ not (zeros (strayBitsAt s ero at))
+pub stray-bits : {form : Form} → Sized form → Readable form → (s : List ℕ) (ero : Bool) (at : ℕ) → Octets s
+    → isStray (straysAt form s ero at) ≡ not (zeros (strayBitsAt form s ero at))
 unfolding straysAt structureFlags reservedOctets
-stray-bits s ero at o =
-    go (eqb (octetOf s (at + 2) % 16) 0) (eqb (octetOf s (at + 3) / 16) 0) (eqb (octetOf s (at + 4)) 0) (eqb (octetOf s (at + 5)) 0) refl refl refl refl
-    (hasStructure (headAt s ero at)) refl
-  where
-    go : (a b c d : Bool) → eqb (octetOf s (at + 2) % 16) 0 ≡ a → eqb (octetOf s (at + 3) / 16) 0 ≡ b → eqb (octetOf s (at + 4)) 0 ≡ c
-        → eqb (octetOf s (at + 5)) 0 ≡ d → (t : Bool) → hasStructure (headAt s ero at) ≡ t → isStray (straysAt s ero at) ≡ not (zeros (strayBitsAt s ero at))
-    go a b c d ea eb ec ed false e = rw (e, flags-zero s at o, add-assoc at 4 1, ea, eb, ec, ed) (any-plain a b c d)
-    go a b c d ea eb ec ed true e =
-        let p = structureReserved (headAt s ero at) at in
-        rw (e, flags-zero s at o, add-assoc at 4 1, part-zero s p, ea, eb, ec, ed)
-        (any-structured a b c d (eqb (octetOf s p) 0) (eqb (octetOf s (p + 1)) 0) (eqb (octetOf s (p + 2)) 0) (eqb (octetOf s (p + 3)) 0))
+stray-bits {form} z r s ero at o =
+    let h = headAt form s ero at in
+    let p = structureReserved form h at in
+    let x : List ℕ = cond (form .behaves) (octetOf s (at + 4) ∷ octetOf s (at + 4 + 1) ∷ []) [] in
+    let y : List ℕ = cond (hasStructure h) (octetOf s p ∷ octetOf s (p + 1) ∷ octetOf s (p + 2) ∷ []) [] in
+    let a = eqb (octetOf s (at + 2) % 16) 0 in
+    let b = eqb (octetOf s (at + 3) / form .free) 0 in
+    let f = eqb (cond (hasStructure h) (octetOf s (p + 3)) 0) 0 in
+    let e1 : isStray (straysAt form s ero at) ≡ (not (a && b) || (not f || not (zeros x && zeros y)))
+    = rw (flags-zero z r s at o, any-zeros (x ++ y), zeros-both x y) in
+    let e2 : zeros (strayBitsAt form s ero at) ≡ ((a && (b && zeros x)) && (zeros y && f))
+    = zeros-both (unassignedAt form s at) (endingAt form s ero at) ∙ rw (ending-zero s p (hasStructure h), ← add-assoc at 4 1) in
+    e1 ∙ any-way a b f (zeros x) (zeros y) ∙ sym (ap not e2)
 
 -- all of them --------------------------------------------------------------------------------------------------
 
@@ -107,11 +116,11 @@ one-more : (b : Bool) (n : ℕ) → eqb (cond {A = ℕ} (not b) 1 0 + n) 0 ≡ (
 one-more true n = rw (zero-add n)
 one-more false n = ne-eqb (1 + n) 0 (λ e. omega arith)
 
-pub strays-none : (s : List ℕ) (ero : Bool) (ps : List ℕ) → Octets s → eqb (strayIn s ero ps) 0 ≡ zeros (strayBitsIn s ero ps)
-strays-none s ero [] o = refl
-strays-none s ero (p ∷ ps) o =
-    rw (stray-bits s ero p o, zeros-both (strayBitsAt s ero p) (strayBitsIn s ero ps), ← strays-none s ero ps o)
-    (one-more (zeros (strayBitsAt s ero p)) (strayIn s ero ps))
+pub strays-none : {form : Form} → Sized form → Readable form → (s : List ℕ) (ero : Bool) (ps : List ℕ) → Octets s → eqb (strayIn form s ero ps) 0 ≡ zeros (strayBitsIn form s ero ps)
+strays-none z r s ero [] o = refl
+strays-none {form} z r s ero (p ∷ ps) o =
+    rw (stray-bits z r s ero p o, zeros-both (strayBitsAt form s ero p) (strayBitsIn form s ero ps), ← strays-none z r s ero ps o)
+    (one-more (zeros (strayBitsAt form s ero p)) (strayIn form s ero ps))
 
 -- The ignored bits are the strays, the assigned flags that are ignored, and the header's low bits.
 sorted : (u a e s t : Bool) → ((u && (a && e)) && (s && t)) ≡ (((u && e) && s) && (a && t))
@@ -122,31 +131,23 @@ sorted true false true true t = refl
 sorted true false true false t = refl
 sorted true false false s t = refl
 
-ignored-sorted : (s : List ℕ) (ero : Bool) (ps : List ℕ) → zeros (ignoredIn s ero ps) ≡ (zeros (strayBitsIn s ero ps) && zeros (assignedIn s ero ps))
-ignored-sorted s ero [] = refl
-ignored-sorted s ero (p ∷ ps) =
-    let u = unassignedAt s p in
-    let a = assignedAt s ero p in
-    let e = endingAt s ero p in
+ignored-sorted : (form : Form) (s : List ℕ) (ero : Bool) (ps : List ℕ) → zeros (ignoredIn form s ero ps) ≡ (zeros (strayBitsIn form s ero ps) && zeros (assignedIn form s ero ps))
+ignored-sorted form s ero [] = refl
+ignored-sorted form s ero (p ∷ ps) =
+    let u = unassignedAt form s p in
+    let a = assignedAt form s ero p in
+    let e = endingAt form s ero p in
     rw (
-      zeros-both (u ++ (a ++ e)) (ignoredIn s ero ps),
+      zeros-both (u ++ (a ++ e)) (ignoredIn form s ero ps),
       zeros-both u (a ++ e),
       zeros-both a e,
-      zeros-both (u ++ e) (strayBitsIn s ero ps),
+      zeros-both (u ++ e) (strayBitsIn form s ero ps),
       zeros-both u e,
-      zeros-both a (assignedIn s ero ps),
-      ignored-sorted s ero ps,
+      zeros-both a (assignedIn form s ero ps),
+      ignored-sorted form s ero ps,
     )
-    (sorted (zeros u) (zeros a) (zeros e) (zeros (strayBitsIn s ero ps)) (zeros (assignedIn s ero ps)))
+    (sorted (zeros u) (zeros a) (zeros e) (zeros (strayBitsIn form s ero ps)) (zeros (assignedIn form s ero ps)))
 
-pub ignored-are : (s : List ℕ) (ero : Bool)
-    → zeros (ignoredOf s ero) ≡ (eqb (octetOf s 1 % 16) 0 && (zeros (strayBitsIn s ero (placesOf s)) && zeros (assignedIn s ero (placesOf s))))
-ignored-are s ero = rw (ignored-sorted s ero (placesOf s))
-
--- Where all ignored bits are 0 no segment is stray.
-pub ignored-none : (s : List ℕ) (ero : Bool) → Octets s → zeros (ignoredOf s ero) ≡ true → strayIn s ero (placesOf s) ≡ 0
-ignored-none s ero o e =
-    let strays = zeros (strayBitsIn s ero (placesOf s)) in
-    let others = zeros (assignedIn s ero (placesOf s)) in
-    let both = both-true (eqb (octetOf s 1 % 16) 0) (strays && others) (sym (ignored-are s ero) ∙ e) .1 in
-    eqb-true (strayIn s ero (placesOf s)) 0 (strays-none s ero (placesOf s) o ∙ both-true strays others both .0)
+pub ignored-are : (form : Form) (s : List ℕ) (ero : Bool)
+    → zeros (ignoredOf form s ero) ≡ (eqb (octetOf s 1 % 16) 0 && (zeros (strayBitsIn form s ero (placesOf s)) && zeros (assignedIn form s ero (placesOf s))))
+ignored-are form s ero = rw (ignored-sorted form s ero (placesOf s))

@@ -1,5 +1,5 @@
 -- An object written whole: begin, an add for each segment, finish, by the definitions that the writer's contracts cite
--- (document 01, "Writing a route").
+-- (document 01, "Writing a route"; document 02, C-16).
 use Prim.Native.Nat.{ℕ, _+_}
 use mathlib.Core.Path.{_≡_}
 use mathlib.Core.Bool.{Bool, true, false}
@@ -9,6 +9,7 @@ use Rattle.answers.specs.Verdicts.{kept}
 use Rattle.msd.specs.Msd.{absent}
 use Rattle.session.specs.declared.Limit.the-variants.{Free}
 use Rattle.session.specs.declared.Session.{Session}
+use Rattle.forms.specs.declared.Form.{Form}
 use Rattle.subobject.specs.declared.segment.Segment.{Segment}
 use Rattle.subobject.specs.Segments.{subobjectOf}
 use Rattle.objects.specs.Objects.{header}
@@ -28,8 +29,8 @@ pub record Run : Type 0 where
 abbrev pub onward : Run → (List ℕ → Writer → Run) → Run
 onward r next = kept (r .written .verdict .number) r (next (r .buffer) (r .written .writer))
 
-abbrev pub beginRun : List ℕ → Writer → Bool → Run
-beginRun b w ero = record { written = beginAnswer b w ero; buffer = beginBuffer b w ero }
+abbrev pub beginRun : List ℕ → Writer → Bool → ℕ → Run
+beginRun b w ero pst = record { written = beginAnswer b w ero pst; buffer = beginBuffer b w ero }
 
 abbrev pub addRun : List ℕ → Writer → Segment → Run
 addRun b w g = record { written = addAnswer b w g; buffer = addBuffer b w g }
@@ -42,9 +43,9 @@ unfoldable pub addsRun : List ℕ → Writer → List Segment → Run
 addsRun b w [] = finishRun b w
 addsRun b w (g ∷ gs) = onward (addRun b w g) (λ b′ w′. addsRun b′ w′ gs)
 
--- Begin in any buffer with any state, an add for each segment, then finish.
-unfoldable pub writeRun : List ℕ → Writer → Bool → List Segment → Run
-writeRun b w ero gs = onward (beginRun b w ero) (λ b′ w′. addsRun b′ w′ gs)
+-- Begin in any buffer with any state and for any setup type, an add for each segment, then finish.
+unfoldable pub writeRun : List ℕ → Writer → Bool → ℕ → List Segment → Run
+writeRun b w ero pst gs = onward (beginRun b w ero pst) (λ b′ w′. addsRun b′ w′ gs)
 
 -- Every call accepted.
 abbrev pub Accepted : Run → Type 0
@@ -65,8 +66,8 @@ actsRun b w [] = finishRun b w
 actsRun b w (adding g ∷ cs) = actsRun (addBuffer b w g) (addAnswer b w g .writer) cs
 actsRun b w (finishing ∷ cs) = actsRun (finishBuffer b w) (finishAnswer b w .writer) cs
 
-unfoldable pub anyRun : List ℕ → Writer → Bool → List Act → Run
-anyRun b w ero cs = onward (beginRun b w ero) (λ b′ w′. actsRun b′ w′ cs)
+unfoldable pub anyRun : List ℕ → Writer → Bool → ℕ → List Act → Run
+anyRun b w ero pst cs = onward (beginRun b w ero pst) (λ b′ w′. actsRun b′ w′ cs)
 
 -- The segments of the adds that were accepted.
 unfoldable pub takenFrom : List ℕ → Writer → List Act → List Segment
@@ -76,24 +77,24 @@ takenFrom b w (adding g ∷ cs) =
     (g ∷ takenFrom (addBuffer b w g) (addAnswer b w g .writer) cs)
 takenFrom b w (finishing ∷ cs) = takenFrom (finishBuffer b w) (finishAnswer b w .writer) cs
 
-unfoldable pub takenIn : List ℕ → Writer → Bool → List Act → List Segment
-takenIn b w ero cs = takenFrom (beginBuffer b w ero) (beginAnswer b w ero .writer) cs
+unfoldable pub takenIn : List ℕ → Writer → Bool → ℕ → List Act → List Segment
+takenIn b w ero pst cs = takenFrom (beginBuffer b w ero) (beginAnswer b w ero pst .writer) cs
 
 -- what stands in it --------------------------------------------------------------------------------------------
 
--- The octets of segments, one behind the other, and the object that holds them.
-abbrev pub bodyOf : List Segment → List ℕ
-bodyOf [] = []
-bodyOf (g ∷ gs) = subobjectOf g ++ bodyOf gs
+-- The octets of segments of a form, one behind the other, and the object that holds them.
+abbrev pub bodyOf : Form → List Segment → List ℕ
+bodyOf form [] = []
+bodyOf form (g ∷ gs) = subobjectOf form g ++ bodyOf form gs
 
-unfoldable pub objectOf : Bool → List Segment → List ℕ
-objectOf ero gs = headerOf ero (header + length (bodyOf gs)) ++ bodyOf gs
+unfoldable pub objectOf : Form → Bool → List Segment → List ℕ
+objectOf form ero gs = headerOf ero (header + length (bodyOf form gs)) ++ bodyOf form gs
 
 -- Segments as the code holds them.
 pub data AllHeld : List Segment → Type 0 where
   none : AllHeld []
   more : {g : Segment} {gs : List Segment} → Held g → AllHeld gs → AllHeld (g ∷ gs)
 
--- The session in which everything that can be written is read: SRv6 agreed, N set, no limit; neither flag, nor v or m.
+-- The session in which everything that can be written is read: the form agreed, N set, no limit; neither flag, nor v or m.
 abbrev pub openSession : Session
 openSession = record { agreed = true; n = true; limit = Free; a = false; r = false; v = absent; m = absent }

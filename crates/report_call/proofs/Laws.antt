@@ -8,9 +8,11 @@ use Rattle.answers.specs.declared.verdict.Verdict.{Verdict}
 use Rattle.answers.specs.Numbers.{notUsable}
 use Rattle.answers.specs.Verdicts.{refusedBy}
 use Rattle.session.specs.declared.Session.{Session}
+use Rattle.session.specs.declared.Sessions.{Sessions}
+use Rattle.session.specs.Sessions.{sessionUnder}
 use Rattle.head_end.specs.Addresses.{usableList}
 use Rattle.route_limit.specs.FirstOff.{sessionFor}
-use Rattle.route_call.specs.Called.{rule28, judgedFor}
+use Rattle.route_call.specs.Called.{rule28, judgedIn, judgedFor}
 use Rattle.board_record.specs.declared.record.Board.{Board}
 use Rattle.board_record.specs.Table.{Table}
 use Rattle.board_rules.specs.Rules.{Outcome, outcomeOf}
@@ -19,44 +21,46 @@ use Rattle.board_rules.specs.OnRecord.{Result, resultOf, reportOn, reportStoreO
 use Rattle.board_rules.proofs.OnRecord.{results-same}
 use Rattle.report_call.specs.Reported.{reportFor, reportStoreFor, reportForOn, reportStoreForOn}
 
-module _ (b : Board) (store : List ℕ) (k : ℕ) (ero : List ℕ) (session : Session) (pst : ℕ) (addresses : List ℕ) where
+module _ (b : Board) (store : List ℕ) (k : ℕ) (ero : List ℕ) (both : Sessions) (pst : ℕ) (addresses : List ℕ) where
   pub reported-28 : {x : Bool} {v : Verdict} → x ≡ usableList addresses → x ≡ false → v ≡ refusedBy notUsable 0
-      → (resultOf v b ≡ reportForOn b store k ero session pst addresses) × (store ≡ reportStoreForOn b store k ero session pst addresses)
+      → (resultOf v b ≡ reportForOn b store k ero both pst addresses) × (store ≡ reportStoreForOn b store k ero both pst addresses)
   unfolding reportForOn reportStoreForOn rule28
   reported-28 e f g = (rw (g, sym e ∙ f), rw (sym e ∙ f))
 
-  pub reported-under : {x : Bool} {g : Session} {o : Result} {after : List ℕ} → x ≡ usableList addresses → x ≡ true → g ≡ sessionFor ero true session addresses
+  pub reported-under : {x : Bool} {own g : Session} {o : Result} {after : List ℕ} → x ≡ usableList addresses → x ≡ true → own ≡ sessionUnder both pst
+      → g ≡ sessionFor ero true own addresses
       → o ≡ reportOn b store k ero g pst → after ≡ reportStoreOn b store k ero g pst
-      → (o ≡ reportForOn b store k ero session pst addresses) × (after ≡ reportStoreForOn b store k ero session pst addresses)
+      → (o ≡ reportForOn b store k ero both pst addresses) × (after ≡ reportStoreForOn b store k ero both pst addresses)
   unfolding reportForOn reportStoreForOn rule28
-  reported-under e f h o a = (
-    o ∙ ap (λ (x : Session). reportOn b store k ero x pst) h ∙ rw (sym e ∙ f),
-    a ∙ ap (λ (x : Session). reportStoreOn b store k ero x pst) h ∙ rw (sym e ∙ f),
-  )
+  reported-under e f u h o a =
+      let q = h ∙ ap (λ (x : Session). sessionFor ero true x addresses) u in (
+        o ∙ ap (λ (x : Session). reportOn b store k ero x pst) q ∙ rw (sym e ∙ f),
+        a ∙ ap (λ (x : Session). reportStoreOn b store k ero x pst) q ∙ rw (sym e ∙ f),
+      )
 
-module _ (b : Table) (store : List ℕ) (k : ℕ) (ero : List ℕ) (session : Session) (pst : ℕ) (addresses : List ℕ) where
+module _ (b : Table) (store : List ℕ) (k : ℕ) (ero : List ℕ) (both : Sessions) (pst : ℕ) (addresses : List ℕ) where
   -- A usable list: the report under the limit for this route.
   pub usable-reported : rule28 addresses ≡ false
-      → (reportFor b store k ero session pst addresses ≡ reportAnswer b store k ero (sessionFor ero true session addresses) pst)
-      × (reportStoreFor b store k ero session pst addresses ≡ reportStore b store k ero (sessionFor ero true session addresses) pst)
+      → (reportFor b store k ero both pst addresses ≡ reportAnswer b store k ero (sessionFor ero true (sessionUnder both pst) addresses) pst)
+      × (reportStoreFor b store k ero both pst addresses ≡ reportStore b store k ero (sessionFor ero true (sessionUnder both pst) addresses) pst)
   unfolding reportFor reportStoreFor
   usable-reported e = (rw e, rw e)
 
   -- Its route checks are those of the call that judges a route.
-  pub judged-alike : rule28 addresses ≡ false → reportFor b store k ero session pst addresses ≡ reportWith b store k ero (judgedFor ero true session pst addresses)
-  unfolding reportFor reportAnswer judgedFor
+  pub judged-alike : rule28 addresses ≡ false → reportFor b store k ero both pst addresses ≡ reportWith b store k ero (judgedFor ero true both pst addresses) pst
+  unfolding reportFor reportAnswer judgedIn
   judged-alike e = rw e
 
   -- 28 changes nothing.
   pub unusable-reported : rule28 addresses ≡ true
-      → (reportFor b store k ero session pst addresses ≡ outcomeOf (refusedBy notUsable 0) b) × (reportStoreFor b store k ero session pst addresses ≡ store)
+      → (reportFor b store k ero both pst addresses ≡ outcomeOf (refusedBy notUsable 0) b) × (reportStoreFor b store k ero both pst addresses ≡ store)
   unfolding reportFor reportStoreFor
   unusable-reported e = (rw e, rw e)
 
-pub report-determined : (b : Board) (store : List ℕ) (k : ℕ) (ero : List ℕ) (session : Session) (pst : ℕ) (addresses : List ℕ) (v w : Verdict) (c d : Board) (x y : List ℕ)
-    → resultOf v c ≡ reportForOn b store k ero session pst addresses
-    → resultOf w d ≡ reportForOn b store k ero session pst addresses
-    → x ≡ reportStoreForOn b store k ero session pst addresses
-    → y ≡ reportStoreForOn b store k ero session pst addresses
+pub report-determined : (b : Board) (store : List ℕ) (k : ℕ) (ero : List ℕ) (both : Sessions) (pst : ℕ) (addresses : List ℕ) (v w : Verdict) (c d : Board) (x y : List ℕ)
+    → resultOf v c ≡ reportForOn b store k ero both pst addresses
+    → resultOf w d ≡ reportForOn b store k ero both pst addresses
+    → x ≡ reportStoreForOn b store k ero both pst addresses
+    → y ≡ reportStoreForOn b store k ero both pst addresses
     → ((v ≡ w) × (c ≡ d)) × (x ≡ y)
-report-determined b store k ero session pst addresses v w c d x y p q r t = (results-same (reportForOn b store k ero session pst addresses) v w c d p q, r ∙ sym t)
+report-determined b store k ero both pst addresses v w c d x y p q r t = (results-same (reportForOn b store k ero both pst addresses) v w c d p q, r ∙ sym t)

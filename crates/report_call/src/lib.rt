@@ -1,5 +1,5 @@
-// Report on a record whose parts are lent, for a head end whose addresses are lent (document 02, C-15): 28, then the report
-// under the limit that holds for this route. A refusal writes nothing.
+// Report on a record whose parts are lent, for a head end whose addresses are lent (document 02, C-15 and C-16): 28, then the
+// report in the session of the form that the PST names, under the limit that holds for this route. A refusal writes nothing.
 ghost use mathlib.Core.Path.{_≡_};
 ghost use Rattle.board_record.specs.Table.{tableOf};
 ghost use Rattle.board_record.specs.Record.{withRows};
@@ -8,9 +8,9 @@ ghost use Rattle.report_call.specs.Reported.{reportForOn, reportStoreFor
 use answers::NOT_USABLE;
 use answers::Verdict;
 use answers::refused;
-use session::Session;
+use session::Sessions;
 
-// Report (key, ERO, session, PST, addresses).
+// Report (key, ERO, the two sessions, PST, addresses).
 pub fn report(
     keys: &mut [u32; 128],
     versions: &mut [u64; 128],
@@ -19,25 +19,27 @@ pub fn report(
     floor: &mut u64,
     order: &mut [u8; 128],
     tops: &mut [u64; 16],
+    forms: &mut [u8; 128],
     store: &mut [u8],
     key: u64,
     ero: &[u8],
-    session: Session,
+    both: Sessions,
     pst: u64,
     addresses: &[u8],
 ) -> Verdict
     ensures answer { λ r.
-        let before = tableOf (now (keys .entry)) (now (versions .entry)) (now (lengths .entry)) (now (version .entry)) (now (floor .entry)) in
-        let after = tableOf (now (keys .exit)) (now (versions .exit)) (now (lengths .exit)) (now (version .exit)) (now (floor .exit)) in
-        ⌜ resultOf r (withRows after (now (order .exit)) (now (tops .exit))) ≡ reportForOn (withRows before (now (order .entry)) (now (tops .entry))) (now (store .entry)) key (now (ero .entry)) session pst (now (addresses .entry)) ⌝ }
+        let before = tableOf (now (keys .entry)) (now (versions .entry)) (now (lengths .entry)) (now (version .entry)) (now (floor .entry)) (now (forms .entry)) in
+        let after = tableOf (now (keys .exit)) (now (versions .exit)) (now (lengths .exit)) (now (version .exit)) (now (floor .exit)) (now (forms .exit)) in
+        ⌜ resultOf r (withRows after (now (order .exit)) (now (tops .exit))) ≡ reportForOn (withRows before (now (order .entry)) (now (tops .entry))) (now (store .entry)) key (now (ero .entry)) both pst (now (addresses .entry)) ⌝ }
     ensures octets { λ r.
-        let before = tableOf (now (keys .entry)) (now (versions .entry)) (now (lengths .entry)) (now (version .entry)) (now (floor .entry)) in
-        ⌜ now (store .exit) ≡ reportStoreForOn (withRows before (now (order .entry)) (now (tops .entry))) (now (store .entry)) key (now (ero .entry)) session pst (now (addresses .entry)) ⌝ }
+        let before = tableOf (now (keys .entry)) (now (versions .entry)) (now (lengths .entry)) (now (version .entry)) (now (floor .entry)) (now (forms .entry)) in
+        ⌜ now (store .exit) ≡ reportStoreForOn (withRows before (now (order .entry)) (now (tops .entry))) (now (store .entry)) key (now (ero .entry)) both pst (now (addresses .entry)) ⌝ }
 {
     if !head_end::usable(addresses) {
         return refused(NOT_USABLE, 0);
     }
-    let under = route_limit::session_for(ero, true, session, addresses);
+    let own = session::under(both, pst);
+    let here = route_limit::session_for(ero, true, own, addresses);
     board_report::report(
         keys,
         versions,
@@ -46,10 +48,11 @@ pub fn report(
         floor,
         order,
         tops,
+        forms,
         store,
         key,
         ero,
-        under,
+        here,
         pst,
     )
 }

@@ -8,6 +8,9 @@ use lib.Dec.{ltb, eqb}
 use lib.ListN.{length, getD, drop, length-drop}
 use native.Mathlib.Omega.{arith}
 use borrow.Author.Tests.{eq-eqb, ne-eqb, lt-ltb, le-ltb, eqb-true, eqb-false, not-false}
+use Rattle.forms.specs.declared.Form.{Form}
+use Rattle.forms.specs.Sized.{Shortest}
+use Rattle.forms.proofs.Laws.{flag-most}
 use Rattle.answers.specs.declared.verdict.Verdict.{Verdict}
 use Rattle.answers.specs.Numbers.{notAgreed, noSuchSegment}
 use Rattle.answers.specs.Verdicts.{refusedBy, acceptedWith, carryingBoth}
@@ -17,7 +20,7 @@ use Rattle.octets.specs.Octets.{octetOf, be16}
 use Rattle.subobject.specs.declared.head.Head.{Head}
 use Rattle.subobject.specs.declared.segment.Segment.{Segment}
 use Rattle.objects.specs.Objects.{header, unit}
-use Rattle.subobject.specs.Layout.{srv6Kind, headOf, headAt, expectedAt}
+use Rattle.subobject.specs.Layout.{headOf, headAt, expectedAt}
 use Rattle.subobject.specs.Rules.{rule7, rule8, rule9}
 use Rattle.subobject.specs.Segments.{segmentAt, noSegment}
 use Rattle.subobject.specs.declared.strays.Strays.{Strays}
@@ -35,23 +38,23 @@ use Rattle.route.specs.declared.picking.Picked.{Picked}
 use Rattle.route_walk.specs.Walk.{checksAt, subobjectChecks, walkOf}
 use Rattle.route_walk.proofs.Laws.{head-size}
 use Rattle.route.specs.Parts.{limitedOf, nothingWith}
-use Rattle.route.specs.Routes.{rule13, wholeChecks, lastChecks, checksOf, countOf, strayCount, acceptanceOf, judgeOf, rule15, pickOf, segmentOf}
+use Rattle.route.specs.Routes.{rule13, wholeChecks, lastChecks, checksOf, countOf, strayCount, acceptanceOf, judgeAs, rule15, pickOf, segmentAs}
 
 -- every check has a number -------------------------------------------------------------------------------------
 
-pub numbered-subobjects : (s : List ℕ) (ero n : Bool) (ps : List ℕ) → Numbered (subobjectChecks s ero n ps)
-numbered-subobjects s ero n [] = tt
-numbered-subobjects s ero n (p ∷ ps) =
-    (omega arith, (omega arith, (omega arith, (omega arith, (omega arith, numbered-subobjects s ero n ps)))))
+pub numbered-subobjects : (form : Form) (s : List ℕ) (ero n : Bool) (ps : List ℕ) → Numbered (subobjectChecks form s ero n ps)
+numbered-subobjects form s ero n [] = tt
+numbered-subobjects form s ero n (p ∷ ps) =
+    (omega arith, (omega arith, (omega arith, (omega arith, (omega arith, (omega arith, (omega arith, numbered-subobjects form s ero n ps)))))))
 
-pub numbered-frame : (ero : Bool) (s : List ℕ) → Numbered (frameChecks s ero srv6Kind)
-numbered-frame ero s = (omega arith, (omega arith, (omega arith, (omega arith, tt))))
+pub numbered-frame : (form : Form) (ero : Bool) (s : List ℕ) → Numbered (frameChecks s ero (form .kind))
+numbered-frame form ero s = (omega arith, (omega arith, (omega arith, (omega arith, tt))))
 
-pub numbered-all : (s : List ℕ) (ero : Bool) (session : Session) (pst : ℕ) → Numbered (checksOf s ero session pst)
-numbered-all s ero session pst =
+pub numbered-all : (form : Form) (s : List ℕ) (ero : Bool) (session : Session) (pst : ℕ) → Numbered (checksOf form s ero session pst)
+numbered-all form s ero session pst =
     let rest =
-    numbered-append (subobjectChecks s ero (session .n) (placesOf s)) (lastChecks (placesOf s) ero (session .limit) (countOf s))
-    (numbered-subobjects s ero (session .n) (placesOf s)) (omega arith, tt) in
+    numbered-append (subobjectChecks form s ero (session .n) (placesOf s)) (lastChecks (placesOf s) ero (session .limit) (countOf s))
+    (numbered-subobjects form s ero (session .n) (placesOf s)) (omega arith, tt) in
     (omega arith, (omega arith, (omega arith, (omega arith, (omega arith, rest)))))
 
 -- the frame ----------------------------------------------------------------------------------------------------
@@ -70,89 +73,89 @@ frame-bounds ero s e h l =
     let n = headed-sized ero s (f .0) in
     (n .low, omega (arith, n .read), f .1)
 
-module _ (s : List ℕ) (ero : Bool) (session : Session) (pst : ℕ) (f : Verdict) (e : f ≡ frameOf s ero srv6Kind) where
-  pub frame-stops : (f .number ≡ 0 → ⊥) → f ≡ judgeOf s ero session pst
-  unfolding frameOf judgeOf
+module _ (form : Form) (s : List ℕ) (ero : Bool) (session : Session) (pst : ℕ) (f : Verdict) (e : f ≡ frameOf s ero (form .kind)) where
+  pub frame-stops : (f .number ≡ 0 → ⊥) → f ≡ judgeAs form s ero session pst
+  unfolding frameOf judgeAs
   frame-stops n =
       e
-      ∙ first-some (frameChecks s ero srv6Kind) (acceptedWith (countOf s))
+      ∙ first-some (frameChecks s ero (form .kind)) (acceptedWith (countOf s))
       (firstBroken
-      (check notAgreed 0 (rule13 (session .agreed) pst)
-      ∷ (subobjectChecks s ero (session .n) (placesOf s) ++ lastChecks (placesOf s) ero (session .limit) (countOf s)))
-      (acceptanceOf s ero))
+      (check notAgreed 0 (rule13 form (session .agreed) pst)
+      ∷ (subobjectChecks form s ero (session .n) (placesOf s) ++ lastChecks (placesOf s) ero (session .limit) (countOf s)))
+      (acceptanceOf form s ero))
       refl (λ z. n (rw e z))
 
-  pub frame-none : f .number ≡ 0 → None (frameChecks s ero srv6Kind)
+  pub frame-none : f .number ≡ 0 → None (frameChecks s ero (form .kind))
   unfolding frameOf
-  frame-none z = first-none (frameChecks s ero srv6Kind) (acceptedWith (countOf s)) (numbered-frame ero s) (rw e at z)
+  frame-none z = first-none (frameChecks s ero (form .kind)) (acceptedWith (countOf s)) (numbered-frame form ero s) (rw e at z)
 
   pub frame-count : f .number ≡ 0 → f .count ≡ countOf s
   unfolding frameOf
-  frame-count z = ap (λ (v : Verdict). v .count) (e ∙ none-first (frameChecks s ero srv6Kind) (acceptedWith (countOf s)) (frame-none z))
+  frame-count z = ap (λ (v : Verdict). v .count) (e ∙ none-first (frameChecks s ero (form .kind)) (acceptedWith (countOf s)) (frame-none z))
 
 -- the rest of the answer ---------------------------------------------------------------------------------------
 
-module _ (s : List ℕ) (ero : Bool) (session : Session) (pst : ℕ) (h : None (frameChecks s ero srv6Kind)) where
-  pub agreed-stops : rule13 (session .agreed) pst ≡ true → refusedBy notAgreed 0 ≡ judgeOf s ero session pst
-  unfolding judgeOf
+module _ (form : Form) (s : List ℕ) (ero : Bool) (session : Session) (pst : ℕ) (h : None (frameChecks s ero (form .kind))) where
+  pub agreed-stops : rule13 form (session .agreed) pst ≡ true → refusedBy notAgreed 0 ≡ judgeAs form s ero session pst
+  unfolding judgeAs
   agreed-stops e =
       sym
-      (none-first (frameChecks s ero srv6Kind)
+      (none-first (frameChecks s ero (form .kind))
       (firstBroken
-      (check notAgreed 0 (rule13 (session .agreed) pst)
-      ∷ (subobjectChecks s ero (session .n) (placesOf s) ++ lastChecks (placesOf s) ero (session .limit) (countOf s)))
-      (acceptanceOf s ero))
+      (check notAgreed 0 (rule13 form (session .agreed) pst)
+      ∷ (subobjectChecks form s ero (session .n) (placesOf s) ++ lastChecks (placesOf s) ero (session .limit) (countOf s)))
+      (acceptanceOf form s ero))
       h
       ∙ rw e)
 
-  pub after-whole : rule13 (session .agreed) pst ≡ false
-      → firstBroken (subobjectChecks s ero (session .n) (placesOf s))
-      (firstBroken (lastChecks (placesOf s) ero (session .limit) (countOf s)) (acceptanceOf s ero))
-      ≡ judgeOf s ero session pst
-  unfolding judgeOf
+  pub after-whole : rule13 form (session .agreed) pst ≡ false
+      → firstBroken (subobjectChecks form s ero (session .n) (placesOf s))
+      (firstBroken (lastChecks (placesOf s) ero (session .limit) (countOf s)) (acceptanceOf form s ero))
+      ≡ judgeAs form s ero session pst
+  unfolding judgeAs
   after-whole e =
       sym
-      (none-first (frameChecks s ero srv6Kind)
+      (none-first (frameChecks s ero (form .kind))
       (firstBroken
-      (check notAgreed 0 (rule13 (session .agreed) pst)
-      ∷ (subobjectChecks s ero (session .n) (placesOf s) ++ lastChecks (placesOf s) ero (session .limit) (countOf s)))
-      (acceptanceOf s ero))
+      (check notAgreed 0 (rule13 form (session .agreed) pst)
+      ∷ (subobjectChecks form s ero (session .n) (placesOf s) ++ lastChecks (placesOf s) ero (session .limit) (countOf s)))
+      (acceptanceOf form s ero))
       h
       ∙ rw e
-      (first-append (subobjectChecks s ero (session .n) (placesOf s)) (lastChecks (placesOf s) ero (session .limit) (countOf s)) (acceptanceOf s ero)))
+      (first-append (subobjectChecks form s ero (session .n) (placesOf s)) (lastChecks (placesOf s) ero (session .limit) (countOf s)) (acceptanceOf form s ero)))
 
   -- The walk's answer if it refuses,
-  walk-stops : (w : Verdict) (count : ℕ) → rule13 (session .agreed) pst ≡ false → w ≡ walkOf s ero (session .n) count → (w .number ≡ 0 → ⊥)
-      → w ≡ judgeOf s ero session pst
+  walk-stops : (w : Verdict) (count : ℕ) → rule13 form (session .agreed) pst ≡ false → w ≡ walkOf form s ero (session .n) count → (w .number ≡ 0 → ⊥)
+      → w ≡ judgeAs form s ero session pst
   unfolding walkOf
   walk-stops w count e q n =
       q
-      ∙ first-some (subobjectChecks s ero (session .n) (placesOf s)) (carryingBoth count (strayCount s ero))
-      (firstBroken (lastChecks (placesOf s) ero (session .limit) (countOf s)) (acceptanceOf s ero)) refl (λ z. n (rw q z))
+      ∙ first-some (subobjectChecks form s ero (session .n) (placesOf s)) (carryingBoth count (strayCount form s ero))
+      (firstBroken (lastChecks (placesOf s) ero (session .limit) (countOf s)) (acceptanceOf form s ero)) refl (λ z. n (rw q z))
       ∙ after-whole e
 
   -- else 12's: "last 12".
-  limit-ends : (w : Verdict) (count : ℕ) → rule13 (session .agreed) pst ≡ false → w ≡ walkOf s ero (session .n) count → w .number ≡ 0 → count ≡ countOf s
-      → firstBroken (lastChecks (placesOf s) ero (session .limit) (w .count)) w ≡ judgeOf s ero session pst
+  limit-ends : (w : Verdict) (count : ℕ) → rule13 form (session .agreed) pst ≡ false → w ≡ walkOf form s ero (session .n) count → w .number ≡ 0 → count ≡ countOf s
+      → firstBroken (lastChecks (placesOf s) ero (session .limit) (w .count)) w ≡ judgeAs form s ero session pst
   unfolding walkOf
   limit-ends w count e q z c =
       let passed =
-      first-none (subobjectChecks s ero (session .n) (placesOf s)) (carryingBoth count (strayCount s ero))
-      (numbered-subobjects s ero (session .n) (placesOf s)) (rw q at z) in
-      let v : w ≡ acceptanceOf s ero =
-      q ∙ none-first (subobjectChecks s ero (session .n) (placesOf s)) (carryingBoth count (strayCount s ero)) passed ∙ ap (λ (x : ℕ). carryingBoth x (strayCount s ero)) c in
+      first-none (subobjectChecks form s ero (session .n) (placesOf s)) (carryingBoth count (strayCount form s ero))
+      (numbered-subobjects form s ero (session .n) (placesOf s)) (rw q at z) in
+      let v : w ≡ acceptanceOf form s ero =
+      q ∙ none-first (subobjectChecks form s ero (session .n) (placesOf s)) (carryingBoth count (strayCount form s ero)) passed ∙ ap (λ (x : ℕ). carryingBoth x (strayCount form s ero)) c in
       rw v
       (sym
-      (none-first (subobjectChecks s ero (session .n) (placesOf s))
-      (firstBroken (lastChecks (placesOf s) ero (session .limit) (countOf s)) (acceptanceOf s ero)) passed)
+      (none-first (subobjectChecks form s ero (session .n) (placesOf s))
+      (firstBroken (lastChecks (placesOf s) ero (session .limit) (countOf s)) (acceptanceOf form s ero)) passed)
       ∙ after-whole e)
 
-  pub walk-then-limit : (w r : Verdict) (count : ℕ) → rule13 (session .agreed) pst ≡ false → w ≡ walkOf s ero (session .n) count → count ≡ countOf s
-      → r ≡ limitedOf s ero (session .limit) w → r ≡ judgeOf s ero session pst
+  pub walk-then-limit : (w r : Verdict) (count : ℕ) → rule13 form (session .agreed) pst ≡ false → w ≡ walkOf form s ero (session .n) count → count ≡ countOf s
+      → r ≡ limitedOf s ero (session .limit) w → r ≡ judgeAs form s ero session pst
   unfolding limitedOf
   walk-then-limit w r count e q c p = p ∙ go (eqb (w .number) 0) refl
     where
-      go : (b : Bool) → eqb (w .number) 0 ≡ b → cond b (firstBroken (lastChecks (placesOf s) ero (session .limit) (w .count)) w) w ≡ judgeOf s ero session pst
+      go : (b : Bool) → eqb (w .number) 0 ≡ b → cond b (firstBroken (lastChecks (placesOf s) ero (session .limit) (w .count)) w) w ≡ judgeAs form s ero session pst
       go true z = limit-ends w count e q (eqb-true (w .number) 0 z) c
       go false z = walk-stops w count e q (eqb-false (w .number) 0 z)
 
@@ -164,33 +167,33 @@ never-past false = refl
 -- an acceptance ------------------------------------------------------------------------------------------------
 
 -- No check is broken, and the count is that of the subobjects.
-pub accepted-none : (s : List ℕ) (ero : Bool) (session : Session) (pst : ℕ) → judgeOf s ero session pst .number ≡ 0 → None (checksOf s ero session pst)
-unfolding judgeOf
-accepted-none s ero session pst z = first-none (checksOf s ero session pst) (acceptanceOf s ero) (numbered-all s ero session pst) z
+pub accepted-none : (form : Form) (s : List ℕ) (ero : Bool) (session : Session) (pst : ℕ) → judgeAs form s ero session pst .number ≡ 0 → None (checksOf form s ero session pst)
+unfolding judgeAs
+accepted-none form s ero session pst z = first-none (checksOf form s ero session pst) (acceptanceOf form s ero) (numbered-all form s ero session pst) z
 
-pub accepted-count : (s : List ℕ) (ero : Bool) (session : Session) (pst : ℕ) → judgeOf s ero session pst .number ≡ 0
-    → judgeOf s ero session pst ≡ acceptanceOf s ero
-unfolding judgeOf
-accepted-count s ero session pst z = none-first (checksOf s ero session pst) (acceptanceOf s ero) (accepted-none s ero session pst z)
+pub accepted-count : (form : Form) (s : List ℕ) (ero : Bool) (session : Session) (pst : ℕ) → judgeAs form s ero session pst .number ≡ 0
+    → judgeAs form s ero session pst ≡ acceptanceOf form s ero
+unfolding judgeAs
+accepted-count form s ero session pst z = none-first (checksOf form s ero session pst) (acceptanceOf form s ero) (accepted-none form s ero session pst z)
 
-pub accepted-frame : (s : List ℕ) (ero : Bool) (session : Session) (pst : ℕ) → judgeOf s ero session pst .number ≡ 0
+pub accepted-frame : (form : Form) (s : List ℕ) (ero : Bool) (session : Session) (pst : ℕ) → judgeAs form s ero session pst .number ≡ 0
     → (headed s ero ≡ true) × (apartOf s .whole ≡ true)
-accepted-frame s ero session pst z = frame-sound ero s (accepted-none s ero session pst z .0)
+accepted-frame form s ero session pst z = frame-sound ero s (accepted-none form s ero session pst z .0)
 
 -- No check of any subobject is broken.
-subobject-none : (s : List ℕ) (ero n : Bool) (ps : List ℕ) (i : ℕ) → i < length ps → None (subobjectChecks s ero n ps)
-    → None (checksAt s ero n (getD ps i 0))
-subobject-none s ero n [] i l h = absurd (omega arith)
-subobject-none s ero n (p ∷ ps) zero l h = none-split (checksAt s ero n p) (subobjectChecks s ero n ps) h .0
-subobject-none s ero n (p ∷ ps) (suc i) l h =
-    subobject-none s ero n ps i (omega arith) (none-split (checksAt s ero n p) (subobjectChecks s ero n ps) h .1)
+subobject-none : (form : Form) (s : List ℕ) (ero n : Bool) (ps : List ℕ) (i : ℕ) → i < length ps → None (subobjectChecks form s ero n ps)
+    → None (checksAt form s ero n (getD ps i 0))
+subobject-none form s ero n [] i l h = absurd (omega arith)
+subobject-none form s ero n (p ∷ ps) zero l h = none-split (checksAt form s ero n p) (subobjectChecks form s ero n ps) h .0
+subobject-none form s ero n (p ∷ ps) (suc i) l h =
+    subobject-none form s ero n ps i (omega arith) (none-split (checksAt form s ero n p) (subobjectChecks form s ero n ps) h .1)
 
-pub accepted-subobject : (s : List ℕ) (ero : Bool) (session : Session) (pst i : ℕ) → judgeOf s ero session pst .number ≡ 0 → i < countOf s
-    → None (checksAt s ero (session .n) (getD (placesOf s) i 0))
-accepted-subobject s ero session pst i z l =
-    subobject-none s ero (session .n) (placesOf s) i l
-    (none-split (subobjectChecks s ero (session .n) (placesOf s)) (lastChecks (placesOf s) ero (session .limit) (countOf s))
-    (accepted-none s ero session pst z .1 .1 .1 .1 .1) .0)
+pub accepted-subobject : (form : Form) (s : List ℕ) (ero : Bool) (session : Session) (pst i : ℕ) → judgeAs form s ero session pst .number ≡ 0 → i < countOf s
+    → None (checksAt form s ero (session .n) (getD (placesOf s) i 0))
+accepted-subobject form s ero session pst i z l =
+    subobject-none form s ero (session .n) (placesOf s) i l
+    (none-split (subobjectChecks form s ero (session .n) (placesOf s)) (lastChecks (placesOf s) ero (session .limit) (countOf s))
+    (accepted-none form s ero session pst z .1 .1 .1 .1 .1) .0)
 
 -- Every place of a frame holds a subobject that fits.
 place-fits : (f : ℕ) (s : List ℕ) (at i : ℕ) → i < length (apart s at f .places)
@@ -221,97 +224,99 @@ first-place (suc f) s at l = go (eqb at (length s)) (fitsIn (octetOf s (at + 1))
     go false false l = absurd (omega arith)
     go false true l = refl
 
--- What an acceptance says of subobject i: it has its expected length, at least 24, and lies inside the octets given.
-pub record Lying (s : List ℕ) (ero : Bool) (at : ℕ) : Type 0 where
-  pub inside : at + expectedAt s ero at ≤ length s
-  pub least : at + 24 ≤ length s
+-- What an acceptance says of subobject i: it has its expected length, with a SID or an NAI in it, and lies inside the octets given.
+pub record Lying (form : Form) (s : List ℕ) (ero : Bool) (at : ℕ) : Type 0 where
+  pub inside : at + expectedAt form s ero at ≤ length s
+  pub least : (l : ℕ) → Shortest form l → at + form .fixed + l ≤ length s
 
-flag-small : (ero : Bool) (s : List ℕ) (at : ℕ) → headAt s ero at .s ≤ 1
+flag-small : (form : Form) (ero : Bool) (s : List ℕ) (at : ℕ) → headAt form s ero at .s ≤ 1
 unfolding headAt headOf
-flag-small ero s at = omega arith
+flag-small form ero s at = flag-most (octetOf s (at + 3)) (form .s)
 
-pub accepted-lying : (s : List ℕ) (ero : Bool) (session : Session) (pst i : ℕ) → judgeOf s ero session pst .number ≡ 0 → i < countOf s
-    → Lying s ero (getD (placesOf s) i 0)
+pub accepted-lying : (form : Form) (s : List ℕ) (ero : Bool) (session : Session) (pst i : ℕ) → judgeAs form s ero session pst .number ≡ 0 → i < countOf s
+    → Lying form s ero (getD (placesOf s) i 0)
 unfolding apartOf octetOf expectedAt
-accepted-lying s ero session pst i z l =
-    let h = headAt s ero (getD (placesOf s) i 0) in
-    let n = accepted-subobject s ero session pst i z l in
-    let e8 : rule8 h ≡ false = n .0 in
+accepted-lying form s ero session pst i z l =
+    let h = headAt form s ero (getD (placesOf s) i 0) in
+    let n = accepted-subobject form s ero session pst i z l in
+    let e8 : rule8 form h ≡ false = n .0 in
     let e9 : rule9 h ≡ false = n .1 .0 in
-    let e7 : rule7 h ≡ false = n .1 .1 .0 in
-    let size = sound-length h e7 in
-    let more = sound-least h e8 e9 e7 (flag-small ero s (getD (placesOf s) i 0)) in
-    let o = head-size ero s (getD (placesOf s) i 0) h refl in
+    let e7 : rule7 form h ≡ false = n .1 .1 .0 in
+    let size = sound-length form h e7 in
+    let o = head-size form ero s (getD (placesOf s) i 0) h refl in
     let fit = fits-true (octetOf s (getD (placesOf s) i 0 + 1)) (length s - getD (placesOf s) i 0) (place-fits (suc (length s)) s header i l) in
-    record { inside = omega arith; least = omega arith }
+    record {
+      inside = omega arith;
+      least = λ k short. let more = sound-least form h k short e8 e9 e7 (flag-small form ero s (getD (placesOf s) i 0)) in omega arith;
+    }
 
--- "A body is a multiple of 4 and at least 24 octets": what the board keeps of an accepted route, the octets after its header.
-pub accepted-body : (s : List ℕ) (ero : Bool) (session : Session) (pst : ℕ) → judgeOf s ero session pst .number ≡ 0
-    → (24 ≤ length (drop header s)) × (length (drop header s) % unit ≡ 0)
+-- "A body is a multiple of 4 and at least 24 octets", for MPLS at least 8: what the board keeps of an accepted route, the octets after its header.
+pub accepted-body : (form : Form) (s : List ℕ) (ero : Bool) (session : Session) (pst : ℕ) (l : ℕ) → Shortest form l → judgeAs form s ero session pst .number ≡ 0
+    → (form .fixed + l ≤ length (drop header s)) × (length (drop header s) % unit ≡ 0)
 unfolding rule5 apartOf
-accepted-body s ero session pst z =
-    let some : 0 < countOf s = omega (arith, eqb-false (countOf s) 0 (accepted-none s ero session pst z .1 .0)) in
-    let lies = accepted-lying s ero session pst 0 z some in
+accepted-body form s ero session pst l short z =
+    let some : 0 < countOf s = omega (arith, eqb-false (countOf s) 0 (accepted-none form s ero session pst z .1 .0)) in
+    let lies = accepted-lying form s ero session pst 0 z some in
     let four : getD (placesOf s) 0 0 ≡ header = first-place (suc (length s)) s header some in
-    let sized = headed-sized ero s (accepted-frame s ero session pst z .0) in
-    let low = lies .least in
+    let sized = headed-sized ero s (accepted-frame form s ero session pst z .0) in
+    let low = lies .least l short in
     (rw (length-drop header s) (omega arith), rw (length-drop header s) (omega (arith, sized .four, sized .low)))
 
 -- a segment ----------------------------------------------------------------------------------------------------
 
-module _ (s : List ℕ) (ero : Bool) (session : Session) (pst i : ℕ) (v : Verdict) (e : v ≡ judgeOf s ero session pst) where
-  picks : pickOf s ero session pst i
-      ≡ firstBroken (checksOf s ero session pst) (firstBroken (check noSuchSegment 0 (rule15 i (countOf s)) ∷ []) (acceptanceOf s ero))
+module _ (form : Form) (s : List ℕ) (ero : Bool) (session : Session) (pst i : ℕ) (v : Verdict) (e : v ≡ judgeAs form s ero session pst) where
+  picks : pickOf form s ero session pst i
+      ≡ firstBroken (checksOf form s ero session pst) (firstBroken (check noSuchSegment 0 (rule15 i (countOf s)) ∷ []) (acceptanceOf form s ero))
   unfolding pickOf
-  picks = first-append (checksOf s ero session pst) (check noSuchSegment 0 (rule15 i (countOf s)) ∷ []) (acceptanceOf s ero)
+  picks = first-append (checksOf form s ero session pst) (check noSuchSegment 0 (rule15 i (countOf s)) ∷ []) (acceptanceOf form s ero)
 
-  pub pick-stops : {p : Picked} → (v .number ≡ 0 → ⊥) → p ≡ nothingWith v → p ≡ segmentOf s ero session pst i
-  unfolding segmentOf judgeOf
+  pub pick-stops : {p : Picked} → (v .number ≡ 0 → ⊥) → p ≡ nothingWith v → p ≡ segmentAs form s ero session pst i
+  unfolding segmentAs judgeAs
   pick-stops n q =
-      let p : pickOf s ero session pst i ≡ v =
+      let p : pickOf form s ero session pst i ≡ v =
       picks
       ∙ sym
       (e
-      ∙ first-some (checksOf s ero session pst) (acceptanceOf s ero)
-      (firstBroken (check noSuchSegment 0 (rule15 i (countOf s)) ∷ []) (acceptanceOf s ero)) refl (λ y. n (rw e y))) in
+      ∙ first-some (checksOf form s ero session pst) (acceptanceOf form s ero)
+      (firstBroken (check noSuchSegment 0 (rule15 i (countOf s)) ∷ []) (acceptanceOf form s ero)) refl (λ y. n (rw e y))) in
       rw (p, ne-eqb (v .number) 0 n) q
 
   passing : v .number ≡ 0
-      → pickOf s ero session pst i ≡ firstBroken (check noSuchSegment 0 (rule15 i (countOf s)) ∷ []) (acceptanceOf s ero)
+      → pickOf form s ero session pst i ≡ firstBroken (check noSuchSegment 0 (rule15 i (countOf s)) ∷ []) (acceptanceOf form s ero)
   passing z =
       picks
-      ∙ none-first (checksOf s ero session pst) (firstBroken (check noSuchSegment 0 (rule15 i (countOf s)) ∷ []) (acceptanceOf s ero))
-      (accepted-none s ero session pst (rw e at z))
+      ∙ none-first (checksOf form s ero session pst) (firstBroken (check noSuchSegment 0 (rule15 i (countOf s)) ∷ []) (acceptanceOf form s ero))
+      (accepted-none form s ero session pst (rw e at z))
 
   pub pick-count : v .number ≡ 0 → v .count ≡ countOf s
-  pick-count z = ap (λ (x : Verdict). x .count) (e ∙ accepted-count s ero session pst (rw e at z))
+  pick-count z = ap (λ (x : Verdict). x .count) (e ∙ accepted-count form s ero session pst (rw e at z))
 
   pub pick-beyond : {r : Verdict} {p : Picked} → v .number ≡ 0 → v .count ≤ i → r ≡ refusedBy noSuchSegment 0 → p ≡ nothingWith r
-      → p ≡ segmentOf s ero session pst i
-  unfolding segmentOf rule15
+      → p ≡ segmentAs form s ero session pst i
+  unfolding segmentAs rule15
   pick-beyond z l d q =
       let m : countOf s ≤ i = rw (pick-count z) at l in
-      let o : pickOf s ero session pst i ≡ refusedBy noSuchSegment 0 = passing z ∙ rw (le-ltb i (countOf s) m) in
+      let o : pickOf form s ero session pst i ≡ refusedBy noSuchSegment 0 = passing z ∙ rw (le-ltb i (countOf s) m) in
       rw o (rw d at q)
 
-  pub pick-there : {at : ℕ} {g : Segment} {x : Strays} → v .number ≡ 0 → i < v .count → at ≡ getD (placesOf s) i 0 → g ≡ segmentAt s ero at
-      → x ≡ straysAt s ero at → _≡_ {A = Picked} (record { verdict = v; segment = g; strays = x }) (segmentOf s ero session pst i)
-  unfolding segmentOf rule15
+  pub pick-there : {at : ℕ} {g : Segment} {x : Strays} → v .number ≡ 0 → i < v .count → at ≡ getD (placesOf s) i 0 → g ≡ segmentAt form s ero at
+      → x ≡ straysAt form s ero at → _≡_ {A = Picked} (record { verdict = v; segment = g; strays = x }) (segmentAs form s ero session pst i)
+  unfolding segmentAs rule15
   pick-there z l a q y =
       let m : i < countOf s = rw (pick-count z) at l in
-      let o : pickOf s ero session pst i ≡ acceptanceOf s ero = passing z ∙ rw (lt-ltb i (countOf s) m) in
-      let w : v ≡ acceptanceOf s ero = e ∙ accepted-count s ero session pst (rw e at z) in
+      let o : pickOf form s ero session pst i ≡ acceptanceOf form s ero = passing z ∙ rw (lt-ltb i (countOf s) m) in
+      let w : v ≡ acceptanceOf form s ero = e ∙ accepted-count form s ero session pst (rw e at z) in
       let r = rw a at q in
       let t = rw a at y in
       rw o (λ k. record { verdict = w k; segment = r k; strays = t k })
 
 -- The subobject reader's answer, where the route was accepted: the subobject is there whole.
-pub picked-whole : (s : List ℕ) (ero : Bool) (session : Session) (pst i at : ℕ) (r : Reading) → judgeOf s ero session pst .number ≡ 0 → i < countOf s
-    → at ≡ getD (placesOf s) i 0 → r ≡ readOf s ero at → r ≡ Whole (straysAt s ero at)
+pub picked-whole : (form : Form) (s : List ℕ) (ero : Bool) (session : Session) (pst i at : ℕ) (r : Reading) → judgeAs form s ero session pst .number ≡ 0 → i < countOf s
+    → at ≡ getD (placesOf s) i 0 → r ≡ readOf form s ero at → r ≡ Whole (straysAt form s ero at)
 unfolding readOf
-picked-whole s ero session pst i at r z l a e =
-    let lies = accepted-lying s ero session pst i z l .inside in
-    e ∙ rw (a, le-ltb (length s - getD (placesOf s) i 0) (expectedAt s ero (getD (placesOf s) i 0)) (omega arith))
+picked-whole form s ero session pst i at r z l a e =
+    let lies = accepted-lying form s ero session pst i z l .inside in
+    e ∙ rw (a, le-ltb (length s - getD (placesOf s) i 0) (expectedAt form s ero (getD (placesOf s) i 0)) (omega arith))
 
 abbrev whole? : Reading → Bool
 whole? (Whole x) = true

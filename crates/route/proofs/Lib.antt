@@ -3,3 +3,5 @@ pub mod Numbers
 pub mod Order
 pub mod Theorems
 pub mod Strays
+pub mod Setups
+pub mod Alone

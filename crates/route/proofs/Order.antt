@@ -9,6 +9,7 @@ use lib.Dec.{ltb, eqb}
 use lib.ListN.{length, getD}
 use native.Mathlib.Omega.{arith}
 use borrow.Author.Tests.{ltb-true, ltb-false, eqb-true, eqb-false}
+use Rattle.forms.specs.declared.Form.{Form}
 use Rattle.session.specs.declared.Session.{Session}
 use Rattle.frame.specs.Checks.{Check, check}
 use Rattle.frame.specs.Frames.{placesOf}
@@ -82,46 +83,48 @@ standing n (suc (suc (suc (suc (suc m))))) h = go (eqb m (ruleCount * n)) refl
 
 -- the checks by rank -------------------------------------------------------------------------------------------
 
-sub-rank : (s : List ℕ) (ero n : Bool) (ps : List ℕ) (rest : List Check) (i k : ℕ) → i < length ps → k < ruleCount
-    → checkOf (subobjectChecks s ero n ps ++ rest) (ruleCount * i + k) ≡ checkOf (checksAt s ero n (getD ps i 0)) k
-sub-rank s ero n [] rest i k h l = absurd (omega arith)
-sub-rank s ero n (p ∷ ps) rest zero k h l =
+sub-rank : (form : Form) (s : List ℕ) (ero n : Bool) (ps : List ℕ) (rest : List Check) (i k : ℕ) → i < length ps → k < ruleCount
+    → checkOf (subobjectChecks form s ero n ps ++ rest) (ruleCount * i + k) ≡ checkOf (checksAt form s ero n (getD ps i 0)) k
+sub-rank form s ero n [] rest i k h l = absurd (omega arith)
+sub-rank form s ero n (p ∷ ps) rest zero k h l =
     let q : ruleCount * 0 + k ≡ k = omega arith in
-    ap (λ (x : ℕ). checkOf (subobjectChecks s ero n (p ∷ ps) ++ rest) x) q ∙ go k l
+    ap (λ (x : ℕ). checkOf (subobjectChecks form s ero n (p ∷ ps) ++ rest) x) q ∙ go k l
   where
-    go : (k : ℕ) → k < ruleCount → checkOf (subobjectChecks s ero n (p ∷ ps) ++ rest) k ≡ checkOf (checksAt s ero n p) k
+    go : (k : ℕ) → k < ruleCount → checkOf (subobjectChecks form s ero n (p ∷ ps) ++ rest) k ≡ checkOf (checksAt form s ero n p) k
     go zero l = refl
     go (suc zero) l = refl
     go (suc (suc zero)) l = refl
     go (suc (suc (suc zero))) l = refl
     go (suc (suc (suc (suc zero)))) l = refl
-    go (suc (suc (suc (suc (suc k))))) l = absurd (omega arith)
-sub-rank s ero n (p ∷ ps) rest (suc i) k h l =
-    let q : ruleCount * suc i + k ≡ suc (suc (suc (suc (suc (ruleCount * i + k))))) = omega arith in
-    ap (λ (x : ℕ). checkOf (subobjectChecks s ero n (p ∷ ps) ++ rest) x) q ∙ sub-rank s ero n ps rest i k (omega arith) l
+    go (suc (suc (suc (suc (suc zero))))) l = refl
+    go (suc (suc (suc (suc (suc (suc zero)))))) l = refl
+    go (suc (suc (suc (suc (suc (suc (suc k))))))) l = absurd (omega arith)
+sub-rank form s ero n (p ∷ ps) rest (suc i) k h l =
+    let q : ruleCount * suc i + k ≡ suc (suc (suc (suc (suc (suc (suc (ruleCount * i + k))))))) = omega arith in
+    ap (λ (x : ℕ). checkOf (subobjectChecks form s ero n (p ∷ ps) ++ rest) x) q ∙ sub-rank form s ero n ps rest i k (omega arith) l
 
-last-rank : (s : List ℕ) (ero n : Bool) (ps : List ℕ) (c : Check) → checkOf (subobjectChecks s ero n ps ++ c ∷ []) (ruleCount * length ps) ≡ c
-last-rank s ero n [] c = refl
-last-rank s ero n (p ∷ ps) c =
-    let q : ruleCount * suc (length ps) ≡ suc (suc (suc (suc (suc (ruleCount * length ps))))) = omega arith in
-    ap (λ (x : ℕ). checkOf (subobjectChecks s ero n (p ∷ ps) ++ c ∷ []) x) q ∙ last-rank s ero n ps c
+last-rank : (form : Form) (s : List ℕ) (ero n : Bool) (ps : List ℕ) (c : Check) → checkOf (subobjectChecks form s ero n ps ++ c ∷ []) (ruleCount * length ps) ≡ c
+last-rank form s ero n [] c = refl
+last-rank form s ero n (p ∷ ps) c =
+    let q : ruleCount * suc (length ps) ≡ suc (suc (suc (suc (suc (suc (suc (ruleCount * length ps))))))) = omega arith in
+    ap (λ (x : ℕ). checkOf (subobjectChecks form s ero n (p ∷ ps) ++ c ∷ []) x) q ∙ last-rank form s ero n ps c
 
-sub-length : (s : List ℕ) (ero n : Bool) (ps : List ℕ) (c : Check) → length (subobjectChecks s ero n ps ++ c ∷ []) ≡ ruleCount * length ps + 1
-sub-length s ero n [] c = refl
-sub-length s ero n (p ∷ ps) c =
-    let q = sub-length s ero n ps c in
+sub-length : (form : Form) (s : List ℕ) (ero n : Bool) (ps : List ℕ) (c : Check) → length (subobjectChecks form s ero n ps ++ c ∷ []) ≡ ruleCount * length ps + 1
+sub-length form s ero n [] c = refl
+sub-length form s ero n (p ∷ ps) c =
+    let q = sub-length form s ero n ps c in
     omega arith
 
-module _ (s : List ℕ) (ero : Bool) (session : Session) (pst : ℕ) where
-  pub checks-length : length (checksOf s ero session pst) ≡ suc wholeCount + ruleCount * countOf s
+module _ (form : Form) (s : List ℕ) (ero : Bool) (session : Session) (pst : ℕ) where
+  pub checks-length : length (checksOf form s ero session pst) ≡ suc wholeCount + ruleCount * countOf s
   checks-length =
-      let q = sub-length s ero (session .n) (placesOf s) (getD (lastChecks (placesOf s) ero (session .limit) (countOf s)) 0 (check 0 0 false)) in
+      let q = sub-length form s ero (session .n) (placesOf s) (getD (lastChecks (placesOf s) ero (session .limit) (countOf s)) 0 (check 0 0 false)) in
       omega arith
 
-  pub rank-check : (w : Where) → Among (countOf s) w → checkOf (checksOf s ero session pst) (rank (countOf s) w) ≡ checkAt s ero session pst w
+  pub rank-check : (w : Where) → Among (countOf s) w → checkOf (checksOf form s ero session pst) (rank (countOf s) w) ≡ checkAt form s ero session pst w
   rank-check (whole k) h = go k h
     where
-      go : (k : ℕ) → k < wholeCount → checkOf (checksOf s ero session pst) k ≡ checkAt s ero session pst (whole k)
+      go : (k : ℕ) → k < wholeCount → checkOf (checksOf form s ero session pst) k ≡ checkAt form s ero session pst (whole k)
       go zero l = refl
       go (suc zero) l = refl
       go (suc (suc zero)) l = refl
@@ -129,6 +132,6 @@ module _ (s : List ℕ) (ero : Bool) (session : Session) (pst : ℕ) where
       go (suc (suc (suc (suc zero)))) l = refl
       go (suc (suc (suc (suc (suc k))))) l = absurd (omega arith)
   rank-check (inside i k) h =
-      sub-rank s ero (session .n) (placesOf s) (lastChecks (placesOf s) ero (session .limit) (countOf s)) i k (h .0) (h .1)
+      sub-rank form s ero (session .n) (placesOf s) (lastChecks (placesOf s) ero (session .limit) (countOf s)) i k (h .0) (h .1)
   rank-check last h =
-      last-rank s ero (session .n) (placesOf s) (getD (lastChecks (placesOf s) ero (session .limit) (countOf s)) 0 (check 0 0 false))
+      last-rank form s ero (session .n) (placesOf s) (getD (lastChecks (placesOf s) ero (session .limit) (countOf s)) 0 (check 0 0 false))

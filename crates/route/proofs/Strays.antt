@@ -7,6 +7,7 @@ use mathlib.Core.Bool.{Bool, true, false, cond}
 use lib.ListN.{length, getD, drop, drop-of-length-le}
 use lib.Seq.{drop-cons}
 use native.Mathlib.Omega.{arith}
+use Rattle.forms.specs.declared.Form.{Form}
 use Rattle.answers.specs.declared.verdict.Verdict.{Verdict}
 use Rattle.answers.specs.Verdicts.{refusedBy}
 use Rattle.octets.proofs.Said.{cond-most}
@@ -15,30 +16,30 @@ use Rattle.subobject.specs.Strays.{straysAt, isStray, strayIn}
 use Rattle.frame.specs.Checks.{Check, firstBroken}
 use Rattle.frame.specs.Frames.{placesOf}
 use Rattle.route.specs.declared.picking.Picked.{Picked}
-use Rattle.route.specs.Routes.{checksOf, countOf, strayCount, acceptanceOf, judgeOf, segmentOf}
+use Rattle.route.specs.Routes.{checksOf, countOf, strayCount, acceptanceOf, judgeAs, segmentAs}
 use Rattle.route.specs.Asked.{strayAsked}
 use Rattle.route.proofs.Answer.{accepted-count, pick-there}
 
 -- The count of an accepted route is that of the segments found stray when each is asked for.
-module _ (s : List ℕ) (ero : Bool) (session : Session) (pst : ℕ) (z : judgeOf s ero session pst .number ≡ 0) where
-  handed : (i : ℕ) → i < countOf s → segmentOf s ero session pst i .strays ≡ straysAt s ero (getD (placesOf s) i 0)
+module _ (form : Form) (s : List ℕ) (ero : Bool) (session : Session) (pst : ℕ) (z : judgeAs form s ero session pst .number ≡ 0) where
+  handed : (i : ℕ) → i < countOf s → segmentAs form s ero session pst i .strays ≡ straysAt form s ero (getD (placesOf s) i 0)
   handed i h =
-      let l : i < judgeOf s ero session pst .count = rw (accepted-count s ero session pst z) h in
-      sym (ap (λ (x : Picked). x .strays) (pick-there s ero session pst i (judgeOf s ero session pst) refl z l refl refl refl))
+      let l : i < judgeAs form s ero session pst .count = rw (accepted-count form s ero session pst z) h in
+      sym (ap (λ (x : Picked). x .strays) (pick-there form s ero session pst i (judgeAs form s ero session pst) refl z l refl refl refl))
 
-  asked : (n i : ℕ) → i + n ≡ countOf s → strayAsked s ero session pst i n ≡ strayIn s ero (drop i (placesOf s))
+  asked : (n i : ℕ) → i + n ≡ countOf s → strayAsked form s ero session pst i n ≡ strayIn form s ero (drop i (placesOf s))
   asked zero i e = let h : length (placesOf s) ≤ i = omega arith in rw (drop-of-length-le (placesOf s) h)
   asked (suc n) i e =
       let h : i < length (placesOf s) = omega arith in
       rw (drop-cons (placesOf s) i 0 h, handed i h, asked n (suc i) (omega arith))
 
-  pub stray-asked : judgeOf s ero session pst .stray ≡ strayAsked s ero session pst 0 (judgeOf s ero session pst .count)
-  stray-asked = rw (accepted-count s ero session pst z) (sym (asked (countOf s) 0 (omega arith)))
+  pub stray-asked : judgeAs form s ero session pst .stray ≡ strayAsked form s ero session pst 0 (judgeAs form s ero session pst .count)
+  stray-asked = rw (accepted-count form s ero session pst z) (sym (asked (countOf s) 0 (omega arith)))
 
 -- At most the number of segments,
-stray-places : (s : List ℕ) (ero : Bool) (ps : List ℕ) → strayIn s ero ps ≤ length ps
-stray-places s ero [] = omega arith
-stray-places s ero (p ∷ ps) = omega (arith, cond-most (isStray (straysAt s ero p)) 1, stray-places s ero ps)
+stray-places : (form : Form) (s : List ℕ) (ero : Bool) (ps : List ℕ) → strayIn form s ero ps ≤ length ps
+stray-places form s ero [] = omega arith
+stray-places form s ero (p ∷ ps) = omega (arith, cond-most (isStray (straysAt form s ero p)) 1, stray-places form s ero ps)
 
 within : (cs : List Check) (v : Verdict) → v .stray ≤ v .count → firstBroken cs v .stray ≤ firstBroken cs v .count
 within [] v h = h
@@ -49,9 +50,9 @@ within (c ∷ cs) v h = go (c .broken) (within cs v h)
     go true k = omega arith
     go false k = k
 
-pub stray-within : (s : List ℕ) (ero : Bool) (session : Session) (pst : ℕ) → judgeOf s ero session pst .stray ≤ judgeOf s ero session pst .count
-unfolding judgeOf
-stray-within s ero session pst = within (checksOf s ero session pst) (acceptanceOf s ero) (stray-places s ero (placesOf s))
+pub stray-within : (form : Form) (s : List ℕ) (ero : Bool) (session : Session) (pst : ℕ) → judgeAs form s ero session pst .stray ≤ judgeAs form s ero session pst .count
+unfolding judgeAs
+stray-within form s ero session pst = within (checksOf form s ero session pst) (acceptanceOf form s ero) (stray-places form s ero (placesOf s))
 
 -- and 0 after a refusal,
 refusing : (cs : List Check) (v : Verdict) → v .number ≡ 0 → (firstBroken cs v .number ≡ 0 → ⊥) → firstBroken cs v .stray ≡ 0
@@ -64,10 +65,10 @@ refusing (c ∷ cs) v z n = go (c .broken) (refusing cs v z) n
     go true k m = refl
     go false k m = k m
 
-pub refused-unstray : (s : List ℕ) (ero : Bool) (session : Session) (pst : ℕ) → (judgeOf s ero session pst .number ≡ 0 → ⊥)
-    → judgeOf s ero session pst .stray ≡ 0
-unfolding judgeOf
-refused-unstray s ero session pst n = refusing (checksOf s ero session pst) (acceptanceOf s ero) refl n
+pub refused-unstray : (form : Form) (s : List ℕ) (ero : Bool) (session : Session) (pst : ℕ) → (judgeAs form s ero session pst .number ≡ 0 → ⊥)
+    → judgeAs form s ero session pst .stray ≡ 0
+unfolding judgeAs
+refused-unstray form s ero session pst n = refusing (checksOf form s ero session pst) (acceptanceOf form s ero) refl n
 
 -- and where no subobject is stray.
 clean : (cs : List Check) (v : Verdict) → v .stray ≡ 0 → firstBroken cs v .stray ≡ 0
@@ -78,6 +79,6 @@ clean (c ∷ cs) v h = go (c .broken) (clean cs v h)
     go true k = refl
     go false k = k
 
-pub none-stray : (s : List ℕ) (ero : Bool) (session : Session) (pst : ℕ) → strayCount s ero ≡ 0 → judgeOf s ero session pst .stray ≡ 0
-unfolding judgeOf
-none-stray s ero session pst e = clean (checksOf s ero session pst) (acceptanceOf s ero) e
+pub none-stray : (form : Form) (s : List ℕ) (ero : Bool) (session : Session) (pst : ℕ) → strayCount form s ero ≡ 0 → judgeAs form s ero session pst .stray ≡ 0
+unfolding judgeAs
+none-stray form s ero session pst e = clean (checksOf form s ero session pst) (acceptanceOf form s ero) e

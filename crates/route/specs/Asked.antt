@@ -3,10 +3,11 @@
 use Prim.Native.Nat.{ℕ, zero, suc, _+_}
 use mathlib.Core.Bool.{Bool, cond}
 use mathlib.Core.List.{List}
+use Rattle.forms.specs.declared.Form.{Form}
 use Rattle.session.specs.declared.Session.{Session}
 use Rattle.subobject.specs.Strays.{isStray}
-use Rattle.route.specs.Routes.{segmentOf}
+use Rattle.route.specs.Routes.{segmentAs}
 
-abbrev pub strayAsked : List ℕ → Bool → Session → ℕ → ℕ → ℕ → ℕ
-strayAsked s ero session pst i zero = 0
-strayAsked s ero session pst i (suc n) = cond (isStray (segmentOf s ero session pst i .strays)) 1 0 + strayAsked s ero session pst (suc i) n
+abbrev pub strayAsked : Form → List ℕ → Bool → Session → ℕ → ℕ → ℕ → ℕ
+strayAsked form s ero session pst i zero = 0
+strayAsked form s ero session pst i (suc n) = cond (isStray (segmentAs form s ero session pst i .strays)) 1 0 + strayAsked form s ero session pst (suc i) n

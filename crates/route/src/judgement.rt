@@ -5,18 +5,21 @@ ghost use Prim.Native.Nat.{_≤_, _<_};
 ghost use lib.Dec.{ltb};
 ghost use lib.ListN.{length};
 ghost use Rattle.frame.specs.Frames.{apartOf};
+ghost use Rattle.forms.specs.Forms.{formOf};
+ghost use Rattle.forms.specs.Sized.{Sized};
 ghost use Rattle.objects.specs.Objects.{header};
 ghost use Rattle.route.specs.Parts.{limitedOf};
-ghost use Rattle.route.specs.Routes.{judgeOf, rule13};
+ghost use Rattle.route.specs.Routes.{judgeAs, judgeOf, rule13};
 use answers::Verdict;
+use forms::Form;
 use session::Limit;
 use session::Session;
 
-// 13: PST isn't 3 or SRv6 isn't agreed.
-fn not_agreed(agreed: bool, pst: u64) -> bool
-    ensures broken { λ r. ⌜ r ≡ rule13 agreed pst ⌝ }
+// 13: PST isn't the form's or the form isn't agreed.
+fn not_agreed(form: Form, agreed: bool, pst: u64) -> bool
+    ensures broken { λ r. ⌜ r ≡ rule13 form agreed pst ⌝ }
 {
-    !octets::both(pst == objects::SRV6_SETUP, agreed)
+    !octets::both(pst == form.setup as u64, agreed)
 }
 
 // Whether there are more segments than `most`; not asked in RRO.
@@ -45,18 +48,26 @@ fn limited(s: &[u8], ero: bool, limit: Limit, w: Verdict) -> Verdict
     }
 }
 
-// The verdict on a route under a session and a setup type.
-pub fn judge(s: &[u8], ero: bool, session: Session, pst: u64) -> Verdict
-    ensures judged { λ r. ⌜ r ≡ judgeOf (now (s .entry)) ero session pst ⌝ }
+// The verdict on a route of a form, under the form's session and a setup type.
+pub fn judge_as(form: Form, s: &[u8], ero: bool, session: Session, pst: u64) -> Verdict
+    requires { ⌜ (Sized form) × (formOf (form .setup) ≡ form) ⌝ }
+    ensures judged { λ r. ⌜ r ≡ judgeAs form (now (s .entry)) ero session pst ⌝ }
 {
-    let f = frame_rules::framed(s, ero, subobject::SRV6);
+    let f = frame_rules::framed(s, ero, octets::wide(form.kind));
     if f.number != 0 {
         return f;
     }
-    if not_agreed(session.agreed, pst) {
+    if not_agreed(form, session.agreed, pst) {
         return answers::refused(answers::NOT_AGREED, 0);
     }
-    let w = route_walk::walk(s, ero, session.n, f.count);
+    let w = route_walk::walk(form, s, ero, session.n, f.count);
     let limit = session.limit;
     limited(s, ero, limit, w)
+}
+
+// The same, of the form that the setup type names, SRv6's if it names none.
+pub fn judge(s: &[u8], ero: bool, session: Session, pst: u64) -> Verdict
+    ensures judged { λ r. ⌜ r ≡ judgeOf (now (s .entry)) ero session pst ⌝ }
+{
+    judge_as(forms::named(pst), s, ero, session, pst)
 }

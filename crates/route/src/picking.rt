@@ -1,9 +1,12 @@
 // A segment of an accepted route.
 ghost use mathlib.Core.Path.{_≡_};
+ghost use Rattle.forms.specs.Forms.{formOf};
+ghost use Rattle.forms.specs.Sized.{Sized};
 ghost use Rattle.route.specs.Parts.{nothingWith};
-ghost use Rattle.route.specs.Routes.{segmentOf};
-use super::judgement::judge;
+ghost use Rattle.route.specs.Routes.{segmentAs, segmentOf};
+use super::judgement::judge_as;
 use answers::Verdict;
+use forms::Form;
 use session::Session;
 use subobject::Segment;
 use subobject::Strays;
@@ -27,11 +30,12 @@ fn nothing(v: Verdict) -> Picked
     }
 }
 
-// Segment i, from 0, of a route under a session and a setup type.
-pub fn segment(s: &[u8], ero: bool, session: Session, pst: u64, i: u64) -> Picked
-    ensures picked { λ r. ⌜ r ≡ segmentOf (now (s .entry)) ero session pst i ⌝ }
+// Segment i, from 0, of a route of a form, under the form's session and a setup type.
+pub fn segment_as(form: Form, s: &[u8], ero: bool, session: Session, pst: u64, i: u64) -> Picked
+    requires { ⌜ (Sized form) × (formOf (form .setup) ≡ form) ⌝ }
+    ensures picked { λ r. ⌜ r ≡ segmentAs form (now (s .entry)) ero session pst i ⌝ }
 {
-    let v = judge(s, ero, session, pst);
+    let v = judge_as(form, s, ero, session, pst);
     if v.number != 0 {
         return nothing(v);
     }
@@ -39,12 +43,19 @@ pub fn segment(s: &[u8], ero: bool, session: Session, pst: u64, i: u64) -> Picke
         return nothing(answers::refused(answers::NO_SUCH_SEGMENT, 0));
     }
     let at = frame::nth(s, i as usize);
-    match subobject_read::read_at(s, at, ero) {
+    match subobject_read::read_at(form, s, at, ero) {
         Reading::Refused(number, place) => nothing(answers::refused(number, place)),
         Reading::Whole(x) => Picked {
             verdict: v,
-            segment: subobject_read::segment_at(s, at, ero),
+            segment: subobject_read::segment_at(form, s, at, ero),
             strays: x,
         },
     }
+}
+
+// The same, of the form that the setup type names, SRv6's if it names none.
+pub fn segment(s: &[u8], ero: bool, session: Session, pst: u64, i: u64) -> Picked
+    ensures picked { λ r. ⌜ r ≡ segmentOf (now (s .entry)) ero session pst i ⌝ }
+{
+    segment_as(forms::named(pst), s, ero, session, pst, i)
 }

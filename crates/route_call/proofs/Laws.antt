@@ -14,15 +14,15 @@ use Rattle.route.specs.Routes.{judgeOf, segmentOf}
 use Rattle.head_end.specs.Addresses.{usableList}
 use Rattle.route_limit.specs.FirstOff.{underLimit, sessionFor}
 use Rattle.route_limit.proofs.Laws.{by-none}
-use Rattle.route_call.specs.Called.{rule28, judgedFor, segmentFor}
+use Rattle.route_call.specs.Called.{rule28, judgedIn, segmentIn}
 
 neither : (a b : Bool) → (a || b) ≡ false → (a ≡ false) × (b ≡ false)
 neither true b e = absurd (false≢true (sym e))
 neither false b e = (refl, e)
 
 module _ (s : List ℕ) (ero : Bool) (session : Session) (pst : ℕ) (addresses : List ℕ) where
-  pub judged-28 : {b : Bool} {v : Verdict} → b ≡ usableList addresses → b ≡ false → v ≡ refusedBy notUsable 0 → v ≡ judgedFor s ero session pst addresses
-  unfolding judgedFor rule28
+  pub judged-28 : {b : Bool} {v : Verdict} → b ≡ usableList addresses → b ≡ false → v ≡ refusedBy notUsable 0 → v ≡ judgedIn s ero session pst addresses
+  unfolding judgedIn rule28
   judged-28 e f g = g ∙ rw (sym e ∙ f)
 
   -- With neither flag the session stays as it is.
@@ -30,24 +30,27 @@ module _ (s : List ℕ) (ero : Bool) (session : Session) (pst : ℕ) (addresses 
   unfolding sessionFor
   own-session f g = ap (underLimit session) (sym (by-none s ero session addresses g f))
 
-  pub judged-own : {b c : Bool} {v : Verdict} → b ≡ usableList addresses → b ≡ true → c ≡ (session .a || session .r) → c ≡ false → v ≡ judgeOf s ero session pst
-      → v ≡ judgedFor s ero session pst addresses
-  unfolding judgedFor rule28
-  judged-own e f g h k =
-      let n = neither (session .a) (session .r) (sym g ∙ h) in
-      k ∙ ap (λ (x : Session). judgeOf s ero x pst) (sym (own-session (n .0) (n .1))) ∙ rw (sym e ∙ f)
+  pub judged-own : {b c : Bool} {own : Session} {v : Verdict} → b ≡ usableList addresses → b ≡ true → own ≡ session → c ≡ (own .a || own .r) → c ≡ false
+      → v ≡ judgeOf s ero own pst → v ≡ judgedIn s ero session pst addresses
+  unfolding judgedIn rule28
+  judged-own {b} {c} {own} e f o g h k =
+      let n = neither (own .a) (own .r) (sym g ∙ h) in
+      let a : session .a ≡ false = ap (λ (x : Session). x .a) (sym o) ∙ n .0 in
+      let r : session .r ≡ false = ap (λ (x : Session). x .r) (sym o) ∙ n .1 in
+      k ∙ ap (λ (x : Session). judgeOf s ero x pst) (o ∙ sym (own-session a r)) ∙ rw (sym e ∙ f)
 
-  pub judged-under : {b : Bool} {g : Session} {v : Verdict} → b ≡ usableList addresses → b ≡ true → g ≡ sessionFor s ero session addresses
-      → v ≡ judgeOf s ero g pst → v ≡ judgedFor s ero session pst addresses
-  unfolding judgedFor rule28
-  judged-under e f h k = k ∙ ap (λ (x : Session). judgeOf s ero x pst) h ∙ rw (sym e ∙ f)
+  pub judged-under : {b : Bool} {own g : Session} {v : Verdict} → b ≡ usableList addresses → b ≡ true → own ≡ session → g ≡ sessionFor s ero own addresses
+      → v ≡ judgeOf s ero g pst → v ≡ judgedIn s ero session pst addresses
+  unfolding judgedIn rule28
+  judged-under e f o h k = k ∙ ap (λ (x : Session). judgeOf s ero x pst) (h ∙ ap (λ (x : Session). sessionFor s ero x addresses) o) ∙ rw (sym e ∙ f)
 
   pub picked-28 : (i : ℕ) {b : Bool} {p : Picked} → b ≡ usableList addresses → b ≡ false → p ≡ record { verdict = refusedBy notUsable 0; segment = noSegment; strays = noStrays }
-      → p ≡ segmentFor s ero session pst addresses i
-  unfolding segmentFor rule28
+      → p ≡ segmentIn s ero session pst addresses i
+  unfolding segmentIn rule28
   picked-28 i e f g = g ∙ rw (sym e ∙ f)
 
-  pub picked-under : (i : ℕ) {b : Bool} {g : Session} {p : Picked} → b ≡ usableList addresses → b ≡ true → g ≡ sessionFor s ero session addresses
-      → p ≡ segmentOf s ero g pst i → p ≡ segmentFor s ero session pst addresses i
-  unfolding segmentFor rule28
-  picked-under i e f h k = k ∙ ap (λ (x : Session). segmentOf s ero x pst i) h ∙ rw (sym e ∙ f)
+  pub picked-under : (i : ℕ) {b : Bool} {own g : Session} {p : Picked} → b ≡ usableList addresses → b ≡ true → own ≡ session → g ≡ sessionFor s ero own addresses
+      → p ≡ segmentOf s ero g pst i → p ≡ segmentIn s ero session pst addresses i
+  unfolding segmentIn rule28
+  picked-under i e f o h k =
+      k ∙ ap (λ (x : Session). segmentOf s ero x pst i) (h ∙ ap (λ (x : Session). sessionFor s ero x addresses) o) ∙ rw (sym e ∙ f)

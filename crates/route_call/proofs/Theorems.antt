@@ -1,3 +1,4 @@
+-- `judgedFor` is `judgedIn` the session of the form that the setup type names, so each theorem on `judgedIn` holds of it.
 -- What a verdict means with the head end's addresses among the inputs: accepted exactly if no rule is broken, refused by the first broken one, 28
 -- before all others. A flag turned on never turns an accepted path into a refused one: what it changes is the limit, which it never lowers
 -- (`raised-keeps`), and an acceptance under a limit stays under any that permits as much (`limit-keeps`). Without flags, and without addresses, the
@@ -8,54 +9,57 @@ use mathlib.Core.Path.{_≡_, refl, sym, ap, subst, _∙_}
 use mathlib.Core.Logic.{_↔_, _⊎_, inl, inr, ⊎-elim}
 use mathlib.Core.List.{List, []}
 use mathlib.Core.Bool.{Bool, true, false, cond, not, _&&_, _||_, false≢true}
-use lib.Dec.{ltb}
+use lib.Dec.{eqb, ltb}
 use borrow.Author.Tests.{le-ltb, ltb-false}
+use Rattle.forms.specs.Forms.{formOf}
 use Rattle.answers.specs.declared.verdict.Verdict.{Verdict}
 use Rattle.answers.specs.Numbers.{notUsable}
 use Rattle.answers.specs.Verdicts.{refusedBy}
 use Rattle.answers.proofs.Determined.{determined}
 use Rattle.octets.proofs.Said.{both-true}
+use Rattle.objects.specs.Objects.{mplsSetup}
 use Rattle.session.specs.declared.Limit.{Limit}
 use Rattle.session.specs.declared.Limit.the-variants.{Free, Most}
 use Rattle.session.specs.declared.Opened.{Opened}
 use Rattle.session.specs.declared.Session.{Session}
-use Rattle.session.specs.Sessions.{agreedBy, agreedOn, notAgreedOn, sessionOf}
+use Rattle.session.specs.declared.Sessions.{Sessions}
+use Rattle.session.specs.Sessions.{agreedBy, agreedOn, mplsAgreedBy, mplsAgreedOn, notAgreedOn, sessionOf, mplsSessionOf, sessionsOf, sessionUnder}
 use Rattle.msd.specs.Msd.{depthIn}
 use Rattle.msd_limit.specs.Limits.{limitBy, oneMoreBy, within}
 use Rattle.msd_limit.proofs.Theorems.{one-more-keeps}
 use Rattle.route.specs.declared.picking.Picked.{Picked}
-use Rattle.route.specs.Routes.{past, rule12, countOf, judgeOf, segmentOf}
+use Rattle.route.specs.Routes.{past, rule12, countOf, judgeAs, judgeOf, segmentOf}
 use Rattle.route.specs.Order.{Where, whole, inside, last, Among, checkAt, FirstBroken}
-use Rattle.route.proofs.Numbers.{judge-low}
+use Rattle.route.proofs.Setups.{judge-low}
 use Rattle.route.proofs.Theorems.{accepted-unbroken, unbroken-accepted, refused-first, first-refused}
 use Rattle.head_end.specs.Addresses.{usableList}
 use Rattle.route_limit.specs.FirstOff.{ownAdjacency, staysOff, withOneMore, limitFor, underLimit, sessionFor}
 use Rattle.route_limit.proofs.Laws.{by-none, no-address}
-use Rattle.route_call.specs.Called.{rule28, judgedFor, segmentFor}
+use Rattle.route_call.specs.Called.{rule28, judgedIn, segmentIn, judgedFor, segmentFor, flaggedOpen}
 
 -- exactness ------------------------------------------------------------------------------------------------------
 
 module _ (s : List ℕ) (ero : Bool) (session : Session) (pst : ℕ) (addresses : List ℕ) where
   -- A usable list: the answer is that of the inner call under the limit for this route.
-  pub usable-judged : rule28 addresses ≡ false → judgedFor s ero session pst addresses ≡ judgeOf s ero (sessionFor s ero session addresses) pst
-  unfolding judgedFor
+  pub usable-judged : rule28 addresses ≡ false → judgedIn s ero session pst addresses ≡ judgeOf s ero (sessionFor s ero session addresses) pst
+  unfolding judgedIn
   usable-judged e = rw e
 
-  pub usable-picked : (i : ℕ) → rule28 addresses ≡ false → segmentFor s ero session pst addresses i ≡ segmentOf s ero (sessionFor s ero session addresses) pst i
-  unfolding segmentFor
+  pub usable-picked : (i : ℕ) → rule28 addresses ≡ false → segmentIn s ero session pst addresses i ≡ segmentOf s ero (sessionFor s ero session addresses) pst i
+  unfolding segmentIn
   usable-picked i e = rw e
 
-  unusable-judged : rule28 addresses ≡ true → judgedFor s ero session pst addresses ≡ refusedBy notUsable 0
-  unfolding judgedFor
+  unusable-judged : rule28 addresses ≡ true → judgedIn s ero session pst addresses ≡ refusedBy notUsable 0
+  unfolding judgedIn
   unusable-judged e = rw e
 
   -- Accepted exactly if no rule is broken, 28 too.
-  pub accepted-exactly : (judgedFor s ero session pst addresses .number ≡ 0)
-      ↔ ((rule28 addresses ≡ false) × ((w : Where) → Among (countOf s) w → checkAt s ero (sessionFor s ero session addresses) pst w .broken ≡ false))
+  pub accepted-exactly : (judgedIn s ero session pst addresses .number ≡ 0)
+      ↔ ((rule28 addresses ≡ false) × ((w : Where) → Among (countOf s) w → checkAt (formOf pst) s ero (sessionFor s ero session addresses) pst w .broken ≡ false))
   accepted-exactly = go (rule28 addresses) refl
     where
-      go : (b : Bool) → rule28 addresses ≡ b → (judgedFor s ero session pst addresses .number ≡ 0)
-          ↔ ((b ≡ false) × ((w : Where) → Among (countOf s) w → checkAt s ero (sessionFor s ero session addresses) pst w .broken ≡ false))
+      go : (b : Bool) → rule28 addresses ≡ b → (judgedIn s ero session pst addresses .number ≡ 0)
+          ↔ ((b ≡ false) × ((w : Where) → Among (countOf s) w → checkAt (formOf pst) s ero (sessionFor s ero session addresses) pst w .broken ≡ false))
       go true e = (λ z. absurd (omega (arith, sym (ap (λ (v : Verdict). v .number) (unusable-judged e)) ∙ z)), λ h. absurd (false≢true (sym (h .0))))
       go false e = (
         λ z. (refl, accepted-unbroken s ero (sessionFor s ero session addresses) pst (rw (usable-judged e) at z)),
@@ -63,21 +67,22 @@ module _ (s : List ℕ) (ero : Bool) (session : Session) (pst : ℕ) (addresses 
       )
 
   -- Refused by 28 exactly if the list isn't made of whole addresses, whatever else is broken,
-  pub refused-by-28 : (judgedFor s ero session pst addresses ≡ refusedBy notUsable 0) ↔ (rule28 addresses ≡ true)
+  pub refused-by-28 : (judgedIn s ero session pst addresses ≡ refusedBy notUsable 0) ↔ (rule28 addresses ≡ true)
   refused-by-28 = (λ e. go (rule28 addresses) refl e, unusable-judged)
     where
-      go : (b : Bool) → rule28 addresses ≡ b → judgedFor s ero session pst addresses ≡ refusedBy notUsable 0 → b ≡ true
+      go : (b : Bool) → rule28 addresses ≡ b → judgedIn s ero session pst addresses ≡ refusedBy notUsable 0 → b ≡ true
       go true f e = refl
       go false f e =
-          absurd (omega (arith, judge-low s ero (sessionFor s ero session addresses) pst, ap (λ (v : Verdict). v .number) (sym (usable-judged f) ∙ e)))
+          let n = ap (λ (v : Verdict). v .number) (sym (usable-judged f) ∙ e) in
+          absurd (⊎-elim (λ l. omega (arith, l, n)) (λ l. omega (arith, l, n)) (judge-low s ero (sessionFor s ero session addresses) pst))
 
   -- and by another number at a place exactly if the list is usable, that rule is broken there under the limit for this route, and none before it is.
   pub refused-exactly : (n p : ℕ) → 0 < n → (n ≡ notUsable → ⊥)
-      → (judgedFor s ero session pst addresses ≡ refusedBy n p) ↔ ((rule28 addresses ≡ false) × FirstBroken s ero (sessionFor s ero session addresses) pst n p)
+      → (judgedIn s ero session pst addresses ≡ refusedBy n p) ↔ ((rule28 addresses ≡ false) × FirstBroken (formOf pst) s ero (sessionFor s ero session addresses) pst n p)
   refused-exactly n p pos other = (λ e. go (rule28 addresses) refl e, λ h. usable-judged (h .0) ∙ first-refused s ero (sessionFor s ero session addresses) pst n p (h .1))
     where
-      go : (b : Bool) → rule28 addresses ≡ b → judgedFor s ero session pst addresses ≡ refusedBy n p
-          → (b ≡ false) × FirstBroken s ero (sessionFor s ero session addresses) pst n p
+      go : (b : Bool) → rule28 addresses ≡ b → judgedIn s ero session pst addresses ≡ refusedBy n p
+          → (b ≡ false) × FirstBroken (formOf pst) s ero (sessionFor s ero session addresses) pst n p
       go true f e = absurd (other (ap (λ (v : Verdict). v .number) (sym e ∙ unusable-judged f)))
       go false f e = (refl, refused-first s ero (sessionFor s ero session addresses) pst n p pos (sym (usable-judged f) ∙ e))
 
@@ -102,24 +107,21 @@ limit-keeps s ero session pst limit up z =
     twelve true e = within-past limit (countOf s) (up (countOf s) (past-within (session .limit) (countOf s) e))
     twelve false e = refl
 
-    go : (w : Where) → Among (countOf s) w → checkAt s ero (underLimit session limit) pst w .broken ≡ false
+    go : (w : Where) → Among (countOf s) w → checkAt (formOf pst) s ero (underLimit session limit) pst w .broken ≡ false
     go (whole k) a = accepted-unbroken s ero session pst z (whole k) a
     go (inside i k) a = accepted-unbroken s ero session pst z (inside i k) a
     go last a = twelve ero (accepted-unbroken s ero session pst z last a)
 
 -- flags ----------------------------------------------------------------------------------------------------------
 
--- A session, and an OPEN answer, with other flags.
+-- A session with other flags.
 abbrev pub flagged : Session → Bool → Bool → Session
 flagged g a r = record { agreed = g .agreed; n = g .n; limit = g .limit; a = a; r = r; v = g .v; m = g .m }
-
-abbrev pub flaggedOpen : Opened → Bool → Bool → Opened
-flaggedOpen o a r = record { number = o .number; srv6 = o .srv6; n = o .n; limit = o .limit; a = a; r = r; v = o .v; m = o .m }
 
 -- The checks look at no flag.
 looks-at-no-flag : (s : List ℕ) (ero : Bool) (g : Session) (pst : ℕ) (a r : Bool) (limit : Limit)
     → judgeOf s ero (underLimit (flagged g a r) limit) pst ≡ judgeOf s ero (underLimit g limit) pst
-unfolding judgeOf
+unfolding judgeOf judgeAs
 looks-at-no-flag s ero g pst a r limit = refl
 
 -- The first segment stays off still, where more flags are set.
@@ -151,11 +153,11 @@ module _ (s : List ℕ) (ero : Bool) (g : Session) (addresses : List ℕ) (a r :
       go false false i k = k
 
   -- A session with more flags: what is accepted is accepted alike.
-  pub session-flags : (pst : ℕ) → judgedFor s ero g pst addresses .number ≡ 0 → judgedFor s ero (flagged g a r) pst addresses ≡ judgedFor s ero g pst addresses
+  pub session-flags : (pst : ℕ) → judgedIn s ero g pst addresses .number ≡ 0 → judgedIn s ero (flagged g a r) pst addresses ≡ judgedIn s ero g pst addresses
   unfolding sessionFor
   session-flags pst z = go (rule28 addresses) refl
     where
-      go : (b : Bool) → rule28 addresses ≡ b → judgedFor s ero (flagged g a r) pst addresses ≡ judgedFor s ero g pst addresses
+      go : (b : Bool) → rule28 addresses ≡ b → judgedIn s ero (flagged g a r) pst addresses ≡ judgedIn s ero g pst addresses
       go true e = absurd (false≢true (sym (accepted-exactly s ero g pst addresses .0 z .0) ∙ e))
       go false e =
           usable-judged s ero (flagged g a r) pst addresses e
@@ -166,21 +168,28 @@ module _ (s : List ℕ) (ero : Bool) (g : Session) (addresses : List ℕ) (a r :
 and-still : (p q x y : Bool) → (p ≡ true → x ≡ true) → (q ≡ true → y ≡ true) → (p && q) ≡ true → (x && y) ≡ true
 and-still p q x y f g e = let h = both-true p q e in rw (f (h .0), g (h .1))
 
--- **A flag turned on never turns an accepted path into a refused one**: any flags, at both ends, with any addresses, in an RRO too. The PCC's limit is
--- the one that its v and m set, as it is in every answer to an OPEN object (open/proofs/Rules, `limit-of-depths`); session_flags/proofs/Theorem says it of those.
+-- **A flag turned on never turns an accepted path into a refused one**: any flags, at both ends, with any addresses, of either form, in an RRO too. The PCC's
+-- limit is the one that its v and m set, as it is in every answer to an OPEN object (open/proofs/Rules, `limit-of-depths`); session_flags/proofs/Theorem says it of
+-- those. MPLS's session looks at no flag.
 module _ (s : List ℕ) (ero : Bool) (pcc pce : Opened) (pst : ℕ) (addresses : List ℕ) (sound : pcc .limit ≡ limitBy (depthIn (pcc .v)) (depthIn (pcc .m)))
-    (accepted : judgedFor s ero (sessionOf pcc pce) pst addresses .number ≡ 0) where
+    (accepted : judgedFor s ero (sessionsOf pcc pce) pst addresses .number ≡ 0) where
   pub flags-never-refuse : (a r x y : Bool) → (pcc .a ≡ true → a ≡ true) → (pcc .r ≡ true → r ≡ true) → (pce .a ≡ true → x ≡ true) → (pce .r ≡ true → y ≡ true)
-      → judgedFor s ero (sessionOf (flaggedOpen pcc a r) (flaggedOpen pce x y)) pst addresses ≡ judgedFor s ero (sessionOf pcc pce) pst addresses
-  unfolding sessionOf
-  flags-never-refuse a r x y f g h k = go (agreedBy pcc pce) accepted
+      → judgedFor s ero (sessionsOf (flaggedOpen pcc a r) (flaggedOpen pce x y)) pst addresses ≡ judgedFor s ero (sessionsOf pcc pce) pst addresses
+  unfolding sessionUnder sessionOf mplsSessionOf
+  flags-never-refuse a r x y f g h k = form (eqb pst mplsSetup) accepted
     where
-      go : (b : Bool) → judgedFor s ero (cond b (agreedOn pcc pce) notAgreedOn) pst addresses .number ≡ 0
-          → judgedFor s ero (cond b (agreedOn (flaggedOpen pcc a r) (flaggedOpen pce x y)) notAgreedOn) pst addresses
-          ≡ judgedFor s ero (cond b (agreedOn pcc pce) notAgreedOn) pst addresses
+      go : (b : Bool) → judgedIn s ero (cond b (agreedOn pcc pce) notAgreedOn) pst addresses .number ≡ 0
+          → judgedIn s ero (cond b (agreedOn (flaggedOpen pcc a r) (flaggedOpen pce x y)) notAgreedOn) pst addresses
+          ≡ judgedIn s ero (cond b (agreedOn pcc pce) notAgreedOn) pst addresses
       go true z =
           session-flags s ero (agreedOn pcc pce) addresses (a && x) (r && y) (and-still (pcc .a) (pce .a) a x f h) (and-still (pcc .r) (pce .r) r y g k) sound pst z
       go false z = refl
+
+      form : (b : Bool) → judgedIn s ero (cond b (mplsSessionOf pcc pce) (sessionOf pcc pce)) pst addresses .number ≡ 0
+          → judgedIn s ero (cond b (mplsSessionOf pcc pce) (sessionOf (flaggedOpen pcc a r) (flaggedOpen pce x y))) pst addresses
+          ≡ judgedIn s ero (cond b (mplsSessionOf pcc pce) (sessionOf pcc pce)) pst addresses
+      form true z = refl
+      form false z = go (agreedBy pcc pce) z
 
 -- without flags, without addresses -------------------------------------------------------------------------------
 
@@ -191,26 +200,36 @@ module _ (s : List ℕ) (ero : Bool) (session : Session) (pst : ℕ) where
 
   -- With neither flag agreed the answer is the one under the session's own limit, whatever the addresses are,
   pub neither-agreed : (addresses : List ℕ) → rule28 addresses ≡ false → session .a ≡ false → session .r ≡ false
-      → judgedFor s ero session pst addresses ≡ judgeOf s ero session pst
+      → judgedIn s ero session pst addresses ≡ judgeOf s ero session pst
   neither-agreed addresses e f g =
       usable-judged s ero session pst addresses e ∙ ap (λ (x : Session). judgeOf s ero x pst) (own-limit addresses (sym (by-none s ero session addresses g f)))
 
   pub neither-agreed-picked : (addresses : List ℕ) (i : ℕ) → rule28 addresses ≡ false → session .a ≡ false → session .r ≡ false
-      → segmentFor s ero session pst addresses i ≡ segmentOf s ero session pst i
+      → segmentIn s ero session pst addresses i ≡ segmentOf s ero session pst i
   neither-agreed-picked addresses i e f g =
       usable-picked s ero session pst addresses i e ∙ ap (λ (x : Session). segmentOf s ero x pst i) (own-limit addresses (sym (by-none s ero session addresses g f)))
 
   -- and with no address, where R is not agreed.
-  pub no-address-given : session .r ≡ false → judgedFor s ero session pst [] ≡ judgeOf s ero session pst
+  pub no-address-given : session .r ≡ false → judgedIn s ero session pst [] ≡ judgeOf s ero session pst
   unfolding rule28 usableList
   no-address-given g =
       usable-judged s ero session pst [] refl ∙ ap (λ (x : Session). judgeOf s ero x pst) (own-limit [] (no-address s ero session [] g))
 
--- Of any two answers that fit, both are the same.
-pub judge-determined : (s : List ℕ) (ero : Bool) (session : Session) (pst : ℕ) (addresses : List ℕ) {x y : Verdict}
-    → x ≡ judgedFor s ero session pst addresses → y ≡ judgedFor s ero session pst addresses → x ≡ y
-judge-determined s ero session pst addresses = determined
+-- In MPLS the limit is the session's own, whatever the addresses are.
+pub mpls-own-limit : (s : List ℕ) (ero : Bool) (pcc pce : Opened) (addresses : List ℕ) → rule28 addresses ≡ false
+    → judgedFor s ero (sessionsOf pcc pce) mplsSetup addresses ≡ judgeOf s ero (mplsSessionOf pcc pce) mplsSetup
+unfolding sessionUnder mplsSessionOf
+mpls-own-limit s ero pcc pce addresses e = go (mplsAgreedBy pcc pce)
+  where
+    go : (b : Bool) → judgedIn s ero (cond b (mplsAgreedOn pcc) notAgreedOn) mplsSetup addresses ≡ judgeOf s ero (cond b (mplsAgreedOn pcc) notAgreedOn) mplsSetup
+    go true = neither-agreed s ero (mplsAgreedOn pcc) mplsSetup addresses e refl refl
+    go false = neither-agreed s ero notAgreedOn mplsSetup addresses e refl refl
 
-pub segment-determined : (s : List ℕ) (ero : Bool) (session : Session) (pst : ℕ) (addresses : List ℕ) (i : ℕ) {x y : Picked}
-    → x ≡ segmentFor s ero session pst addresses i → y ≡ segmentFor s ero session pst addresses i → x ≡ y
-segment-determined s ero session pst addresses i = determined
+-- Of any two answers that fit, both are the same.
+pub judge-determined : (s : List ℕ) (ero : Bool) (both : Sessions) (pst : ℕ) (addresses : List ℕ) {x y : Verdict}
+    → x ≡ judgedFor s ero both pst addresses → y ≡ judgedFor s ero both pst addresses → x ≡ y
+judge-determined s ero both pst addresses = determined
+
+pub segment-determined : (s : List ℕ) (ero : Bool) (both : Sessions) (pst : ℕ) (addresses : List ℕ) (i : ℕ) {x y : Picked}
+    → x ≡ segmentFor s ero both pst addresses i → y ≡ segmentFor s ero both pst addresses i → x ≡ y
+segment-determined s ero both pst addresses i = determined

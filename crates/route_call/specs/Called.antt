@@ -7,7 +7,9 @@ use Rattle.answers.specs.declared.verdict.Verdict.{Verdict}
 use Rattle.answers.specs.Numbers.{notUsable}
 use Rattle.answers.specs.Verdicts.{refusedBy}
 use Rattle.session.specs.declared.Session.{Session}
+use Rattle.session.specs.declared.Sessions.{Sessions}
 use Rattle.session.specs.declared.Opened.{Opened}
+use Rattle.session.specs.Sessions.{sessionUnder}
 use Rattle.subobject.specs.Segments.{noSegment}
 use Rattle.subobject.specs.Strays.{noStrays}
 use Rattle.route.specs.declared.picking.Picked.{Picked}
@@ -19,21 +21,46 @@ use Rattle.route_limit.specs.FirstOff.{sessionFor}
 unfoldable pub rule28 : List ℕ → Bool
 rule28 addresses = not (usableList addresses)
 
--- 28, then the checks of document 01 under the limit for this route.
-unfoldable pub judgedFor : List ℕ → Bool → Session → ℕ → List ℕ → Verdict
-judgedFor s ero session pst addresses = cond (rule28 addresses) (refusedBy notUsable 0) (judgeOf s ero (sessionFor s ero session addresses) pst)
+-- 28, then the checks of document 01 in a form's session, under the limit for this route.
+unfoldable pub judgedIn : List ℕ → Bool → Session → ℕ → List ℕ → Verdict
+judgedIn s ero session pst addresses = cond (rule28 addresses) (refusedBy notUsable 0) (judgeOf s ero (sessionFor s ero session addresses) pst)
 
 -- Segment i: "the same checks, then 15".
-unfoldable pub segmentFor : List ℕ → Bool → Session → ℕ → List ℕ → ℕ → Picked
-segmentFor s ero session pst addresses i =
+unfoldable pub segmentIn : List ℕ → Bool → Session → ℕ → List ℕ → ℕ → Picked
+segmentIn s ero session pst addresses i =
     cond (rule28 addresses) (record { verdict = refusedBy notUsable 0; segment = noSegment; strays = noStrays })
     (segmentOf s ero (sessionFor s ero session addresses) pst i)
 
+-- The session is that of the form which the PST names (document 02, C-16).
+abbrev pub judgedFor : List ℕ → Bool → Sessions → ℕ → List ℕ → Verdict
+judgedFor s ero both pst addresses = judgedIn s ero (sessionUnder both pst) pst addresses
+
+abbrev pub segmentFor : List ℕ → Bool → Sessions → ℕ → List ℕ → ℕ → Picked
+segmentFor s ero both pst addresses i = segmentIn s ero (sessionUnder both pst) pst addresses i
+
 -- words of the theorems ----------------------------------------------------------------------------------------
 
--- An OPEN answer with A, or R, turned on.
+-- An OPEN answer with other flags,
+abbrev pub flaggedOpen : Opened → Bool → Bool → Opened
+flaggedOpen o a r =
+    record {
+      number = o .number;
+      srv6 = o .srv6;
+      n = o .n;
+      limit = o .limit;
+      a = a;
+      r = r;
+      v = o .v;
+      m = o .m;
+      form = o .form;
+      mpls = o .mpls;
+      mplsn = o .mplsn;
+      mplslimit = o .mplslimit;
+    }
+
+-- with A, or R, turned on.
 abbrev pub withA : Opened → Opened
-withA o = record { number = o .number; srv6 = o .srv6; n = o .n; limit = o .limit; a = true; r = o .r; v = o .v; m = o .m }
+withA o = flaggedOpen o true (o .r)
 
 abbrev pub withR : Opened → Opened
-withR o = record { number = o .number; srv6 = o .srv6; n = o .n; limit = o .limit; a = o .a; r = true; v = o .v; m = o .m }
+withR o = flaggedOpen o (o .a) true

@@ -14,7 +14,9 @@ use Rattle.session.specs.declared.Session.{Session}
 use Rattle.msd.specs.Msd.{absent, depthIn}
 use Rattle.msd.proofs.Laws.{depth-none}
 use Rattle.msd_limit.specs.Limits.{oneMoreBy}
-use Rattle.subobject.specs.Layout.{fixedLength, sidSize, worthNT, headOf, headAt}
+use Rattle.forms.specs.declared.Form.{Form}
+use Rattle.forms.specs.Forms.{srv6Form, flagIn}
+use Rattle.subobject.specs.Layout.{naiPlace, worthNT, headOf, headAt}
 use Rattle.head_end.specs.Addresses.{addressSize, hasAddress}
 use Rattle.head_end.proofs.Laws.{short-is-none, none-in-none}
 use Rattle.route_limit.specs.FirstOff.{isAdjacency, firstHead, localAddress, ownAdjacency, staysOff, withOneMore, limitFor, sessionFor}
@@ -33,6 +35,16 @@ short-part : (s : List ℕ) (at : ℕ) → length s < at + addressSize → lengt
 unfolding part
 short-part s at h = omega (arith, length-take addressSize (drop at s), length-drop at s)
 
+-- Where the local address stands: behind the fixed part, and behind the SID if S is 0.
+pub place-told : (flags : ℕ) {form : Form} {fixed sid without k : ℕ} → form ≡ srv6Form → fixed ≡ form .fixed → sid ≡ form .sid → without ≡ flagIn flags (form .s)
+    → k ≡ cond (eqb without 0) sid 0 → k ≤ sid + 0
+    → (header + fixed + k ≡ naiPlace srv6Form header (flagIn flags (srv6Form .s))) × (header + fixed + k ≤ 28)
+place-told flags {form} {fixed} {sid} {without} {k} e f g h p l =
+    let eight : fixed ≡ 8 = f ∙ ap (λ (x : Form). x .fixed) e in
+    let sixteen : sid ≡ 16 = g ∙ ap (λ (x : Form). x .sid) e in
+    let w : without ≡ flagIn flags 1 = h ∙ ap (λ (x : Form). flagIn flags (x .s)) e in
+    (rw (p, w, sixteen, eight), omega (arith, eight, sixteen, l))
+
 -- In the words of the code: high the octet with NT, low the one with S.
 module _ (s addresses : List ℕ) (high : ℕ) (e : high ≡ octetOf s (header + 2)) where
   nt-told : firstHead s .nt ≡ high / worthNT
@@ -43,19 +55,17 @@ module _ (s addresses : List ℕ) (high : ℕ) (e : high ≡ octetOf s (header +
   unfolding ownAdjacency
   not-own f g = rw (nt-told, sym f ∙ g)
 
-  module _ (low : ℕ) (f : low ≡ octetOf s (header + 3)) (sid : ℕ) (g : sid ≡ cond (eqb (low % 2) 0) sidSize 0) where
-    local-told : localAddress s ≡ part s (header + fixedLength + sid) addressSize
+  module _ (low : ℕ) (f : low ≡ octetOf s (header + 3)) (at : ℕ) (g : at ≡ naiPlace srv6Form header (flagIn low (srv6Form .s))) where
+    local-told : localAddress s ≡ part s at addressSize
     unfolding headAt headOf
     local-told = rw (g, f)
 
-    pub own-short : length s < header + fixedLength + sid + addressSize → false ≡ ownAdjacency s addresses
+    pub own-short : length s < at + addressSize → false ≡ ownAdjacency s addresses
     unfolding ownAdjacency
     own-short h =
-        rw (local-told, short-is-none (part s (header + fixedLength + sid) addressSize) addresses (short-part s (header + fixedLength + sid) h))
-        (sym (and-false (isAdjacency (firstHead s .nt))))
+        rw (local-told, short-is-none (part s at addressSize) addresses (short-part s at h)) (sym (and-false (isAdjacency (firstHead s .nt))))
 
-    pub own-told : {b r : Bool} → b ≡ isAdjacency (high / worthNT) → b ≡ true → r ≡ hasAddress (part s (header + fixedLength + sid) addressSize) addresses
-        → r ≡ ownAdjacency s addresses
+    pub own-told : {b r : Bool} → b ≡ isAdjacency (high / worthNT) → b ≡ true → r ≡ hasAddress (part s at addressSize) addresses → r ≡ ownAdjacency s addresses
     unfolding ownAdjacency
     own-told k m n = n ∙ rw (nt-told, sym k ∙ m, local-told)
 

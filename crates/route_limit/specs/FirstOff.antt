@@ -12,6 +12,7 @@ use Rattle.session.specs.declared.Limit.{Limit}
 use Rattle.session.specs.declared.Session.{Session}
 use Rattle.msd.specs.Msd.{depthIn}
 use Rattle.msd_limit.specs.Limits.{oneMoreBy}
+use Rattle.forms.specs.Forms.{srv6Form}
 use Rattle.subobject.specs.declared.head.Head.{Head}
 use Rattle.subobject.specs.Layout.{adjacency, linkLocal, naiPlace, headAt}
 use Rattle.head_end.specs.Addresses.{addressSize, hasAddress}
@@ -20,13 +21,13 @@ use Rattle.head_end.specs.Addresses.{addressSize, hasAddress}
 unfoldable pub isAdjacency : ℕ → Bool
 isAdjacency nt = eqb nt adjacency || eqb nt linkLocal
 
--- The head of the first segment of an ERO.
+-- The head of the first segment of an ERO. Only SRv6's session has A and R (session/specs/Sessions), so it is read in SRv6's form.
 abbrev pub firstHead : List ℕ → Head
-firstHead s = headAt s true header
+firstHead s = headAt srv6Form s true header
 
 -- "its local address": the first 16 octets of the NAI, behind the SID if there is one.
 abbrev pub localAddress : List ℕ → List ℕ
-localAddress s = part s (naiPlace header (firstHead s .s)) addressSize
+localAddress s = part s (naiPlace srv6Form header (firstHead s .s)) addressSize
 
 -- "the ERO's first segment has NT 4 or 6 with its local address in a lent list of the head end's addresses"
 unfoldable pub ownAdjacency : List ℕ → List ℕ → Bool

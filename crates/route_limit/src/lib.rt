@@ -3,8 +3,12 @@
 //
 // It stays off if both ends set R, or both set A and it is an adjacency of the head end: its NT is 4 or 6, and the first 16
 // octets of its NAI, which are its local address, are one of the head end's addresses. Whether it has a SID is no matter.
-// H.Encaps' v then permits v + 1; what Segments Left permits stays.
+// H.Encaps' v then permits v + 1; what Segments Left permits stays. Only SRv6's session has A and R, so the segment is read in SRv6's form.
 ghost use mathlib.Core.Path.{_≡_};
+ghost use Prim.Native.Nat.{_≤_};
+ghost use Rattle.objects.specs.Objects.{header};
+ghost use Rattle.forms.specs.Forms.{srv6Form, flagIn};
+ghost use Rattle.subobject.specs.Layout.{naiPlace};
 ghost use Rattle.route_limit.specs.FirstOff.{isAdjacency, ownAdjacency, limitFor, sessionFor};
 use head_end::ADDRESS;
 use msd::ABSENT;
@@ -12,9 +16,7 @@ use objects::HEADER;
 use session::Limit;
 use session::Session;
 use subobject::ADJACENCY;
-use subobject::FIXED_LENGTH;
 use subobject::LINK_LOCAL;
-use subobject::SID_LENGTH;
 use subobject::WORTH_NT;
 
 // The places of NT and of the flags of the first segment.
@@ -29,6 +31,16 @@ fn adjacency(nt: usize) -> bool
     octets::either(nt == ADJACENCY, nt == LINK_LOCAL)
 }
 
+// Where the local address of the first segment stands, by its flags: behind the SID if there is one.
+fn local_place(flags: usize) -> usize
+    ensures place { λ r. ⌜ (r ≡ naiPlace srv6Form header (flagIn flags (srv6Form .s))) × (r ≤ 28) ⌝ }
+{
+    let form = forms::srv6();
+    let fixed = octets::wide(form.fixed);
+    let sid = octets::wide(form.sid);
+    HEADER + fixed + octets::pick(forms::flag(flags, form.s) == 0, sid, 0)
+}
+
 // Whether the first segment is an adjacency of the head end. Octets that are not there count for nothing.
 fn own_adjacency(s: &[u8], addresses: &[u8]) -> bool
     ensures own { λ r. ⌜ r ≡ ownAdjacency (now (s .entry)) (now (addresses .entry)) ⌝ }
@@ -36,8 +48,7 @@ fn own_adjacency(s: &[u8], addresses: &[u8]) -> bool
     if !adjacency(octets::octet(s, NT_PLACE) / WORTH_NT) {
         return false;
     }
-    let without = octets::octet(s, FLAGS_PLACE) % 2;
-    let at = HEADER + FIXED_LENGTH + octets::pick(without == 0, SID_LENGTH, 0);
+    let at = local_place(octets::octet(s, FLAGS_PLACE));
     if s.len() < at + ADDRESS {
         return false;
     }

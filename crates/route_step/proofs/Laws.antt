@@ -13,16 +13,18 @@ use Rattle.answers.specs.Verdicts.{refusedBy, acceptedWith}
 use Rattle.octets.specs.Octets.{octetOf}
 use Rattle.octets.proofs.Said.{either-false}
 use Rattle.objects.specs.Objects.{header, unit}
+use Rattle.forms.specs.declared.Form.{Form}
+use Rattle.forms.specs.Forms.{formOf}
 use Rattle.subobject.specs.declared.head.Head.{Head}
 use Rattle.subobject.specs.declared.segment.Segment.{Segment}
-use Rattle.subobject.specs.Layout.{srv6Kind, headOf, headAt, expectedLength, expectedAt}
-use Rattle.subobject.specs.Rules.{rule7, rule8, rule9, rule11, bitsAt}
+use Rattle.subobject.specs.Layout.{sidPlace, headOf, headAt, expectedLength, expectedAt}
+use Rattle.subobject.specs.Rules.{rule7, rule8, rule9, rule11, rule29, rule30, bitsAt, labelAt, timeAt}
 use Rattle.subobject.specs.Segments.{segmentAt, noSegment}
 use Rattle.subobject.proofs.Laws.{sound-length}
 use Rattle.frame.specs.Frames.{fitsIn}
 use Rattle.frame.proofs.Laws.{over-room, no-multiple, long-enough, fits-true}
 use Rattle.route_step.specs.declared.stepping.Stepped.{Stepped}
-use Rattle.route_step.specs.Steps.{outside, headVerdict, stepVerdict, stepOf}
+use Rattle.route_step.specs.Steps.{outside, headVerdict, stepVerdict, stepAs, stepOf}
 
 -- ---- 15
 module _ (s : List ℕ) (at : ℕ) where
@@ -64,124 +66,151 @@ module _ (len room : ℕ) where
   pub fit : not (fitsIn len room) ≡ false → (unit ≤ len) × (len ≤ room)
   fit e = let f = fits-true len room (not-false _ e) in (f .0, f .2)
 
--- ---- 14, 8, 9, 7, 11
-module _ (s : List ℕ) (at : ℕ) (h : Head) where
-  pub other-kind : {r : Verdict} → (h .kind ≡ srv6Kind → ⊥) → r ≡ refusedBy 14 0 → r ≡ headVerdict s at h
+-- ---- 14, 8, 9, 7, 11, 29, 30
+module _ (form : Form) (s : List ℕ) (at : ℕ) (h : Head) where
+  pub other-kind : {r : Verdict} {k : ℕ} → k ≡ form .kind → (h .kind ≡ k → ⊥) → r ≡ refusedBy 14 0 → r ≡ headVerdict form s at h
   unfolding headVerdict
-  other-kind n e = e ∙ sym (rw (ne-eqb (h .kind) srv6Kind n))
+  other-kind q n e = e ∙ sym (rw (ne-eqb (h .kind) (form .kind) (λ z. n (z ∙ sym q))))
 
-  module _ (k : h .kind ≡ srv6Kind) where
-    pub stops-8 : {r : Verdict} → rule8 h ≡ true → r ≡ refusedBy 8 at → r ≡ headVerdict s at h
-    unfolding headVerdict
-    stops-8 a e = e ∙ sym (rw (eq-eqb (h .kind) srv6Kind k, a))
+  module _ {k : ℕ} (q : k ≡ form .kind) (own : h .kind ≡ k) where
+    same-kind : eqb (h .kind) (form .kind) ≡ true
+    same-kind = eq-eqb (h .kind) (form .kind) (own ∙ q)
 
-    pub stops-9 : {r : Verdict} → rule8 h ≡ false → rule9 h ≡ true → r ≡ refusedBy 9 at → r ≡ headVerdict s at h
+    pub stops-8 : {r : Verdict} → rule8 form h ≡ true → r ≡ refusedBy 8 at → r ≡ headVerdict form s at h
     unfolding headVerdict
-    stops-9 a b e = e ∙ sym (rw (eq-eqb (h .kind) srv6Kind k, a, b))
+    stops-8 a e = e ∙ sym (rw (same-kind, a))
 
-    pub stops-7 : {r : Verdict} → rule8 h ≡ false → rule9 h ≡ false → rule7 h ≡ true → r ≡ refusedBy 7 at → r ≡ headVerdict s at h
-    unfolding headVerdict
-    stops-7 a b c e = e ∙ sym (rw (eq-eqb (h .kind) srv6Kind k, a, b, c))
+    module _ (a : rule8 form h ≡ false) where
+      pub stops-9 : {r : Verdict} → rule9 h ≡ true → r ≡ refusedBy 9 at → r ≡ headVerdict form s at h
+      unfolding headVerdict
+      stops-9 b e = e ∙ sym (rw (same-kind, a, b))
 
-    pub stops-11 : {r : Verdict} → rule8 h ≡ false → rule9 h ≡ false → rule7 h ≡ false → rule11 h (bitsAt s at h) ≡ true → r ≡ refusedBy 11 at
-        → r ≡ headVerdict s at h
-    unfolding headVerdict
-    stops-11 a b c d e = e ∙ sym (rw (eq-eqb (h .kind) srv6Kind k, a, b, c, d))
+      pub stops-7 : {r : Verdict} → rule9 h ≡ false → rule7 form h ≡ true → r ≡ refusedBy 7 at → r ≡ headVerdict form s at h
+      unfolding headVerdict
+      stops-7 b c e = e ∙ sym (rw (same-kind, a, b, c))
 
-    pub unbroken : {r : Verdict} → rule8 h ≡ false → rule9 h ≡ false → rule7 h ≡ false → rule11 h (bitsAt s at h) ≡ false → r ≡ acceptedWith 0
-        → r ≡ headVerdict s at h
-    unfolding headVerdict
-    unbroken a b c d e = e ∙ sym (rw (eq-eqb (h .kind) srv6Kind k, a, b, c, d))
+      module _ (b : rule9 h ≡ false) (c : rule7 form h ≡ false) where
+        pub stops-11 : {r : Verdict} → rule11 h (bitsAt form s at h) ≡ true → r ≡ refusedBy 11 at → r ≡ headVerdict form s at h
+        unfolding headVerdict
+        stops-11 d e = e ∙ sym (rw (same-kind, a, b, c, d))
+
+        pub stops-29 : {r : Verdict} → rule11 h (bitsAt form s at h) ≡ false → rule29 h (labelAt s (sidPlace form at)) ≡ true → r ≡ refusedBy 29 0
+            → r ≡ headVerdict form s at h
+        unfolding headVerdict
+        stops-29 d l e = e ∙ sym (rw (same-kind, a, b, c, d, l))
+
+        pub stops-30 : {r : Verdict} → rule11 h (bitsAt form s at h) ≡ false → rule29 h (labelAt s (sidPlace form at)) ≡ false
+            → rule30 h (timeAt s (sidPlace form at)) ≡ true → r ≡ refusedBy 30 0 → r ≡ headVerdict form s at h
+        unfolding headVerdict
+        stops-30 d l t e = e ∙ sym (rw (same-kind, a, b, c, d, l, t))
+
+        pub unbroken : {r : Verdict} → rule11 h (bitsAt form s at h) ≡ false → rule29 h (labelAt s (sidPlace form at)) ≡ false
+            → rule30 h (timeAt s (sidPlace form at)) ≡ false → r ≡ acceptedWith 0 → r ≡ headVerdict form s at h
+        unfolding headVerdict
+        unbroken d l t e = e ∙ sym (rw (same-kind, a, b, c, d, l, t))
 
 -- ---- the verdict
-module _ (s : List ℕ) (ero : Bool) (at : ℕ) where
-  pub stops-15 : {r : Verdict} → outside s at ≡ true → r ≡ refusedBy 15 0 → r ≡ stepVerdict s ero at
+module _ (form : Form) (s : List ℕ) (ero : Bool) (at : ℕ) where
+  pub stops-15 : {r : Verdict} → outside s at ≡ true → r ≡ refusedBy 15 0 → r ≡ stepVerdict form s ero at
   unfolding stepVerdict
   stops-15 a e = e ∙ sym (rw a)
 
   module _ (a : outside s at ≡ false) where
-    pub stops-4 : {r : Verdict} → not (fitsIn (octetOf s (at + 1)) (length s - at)) ≡ true → r ≡ refusedBy 4 0 → r ≡ stepVerdict s ero at
+    pub stops-4 : {r : Verdict} → not (fitsIn (octetOf s (at + 1)) (length s - at)) ≡ true → r ≡ refusedBy 4 0 → r ≡ stepVerdict form s ero at
     unfolding stepVerdict
     stops-4 b e = e ∙ sym (rw (a, b))
 
-    pub goes-on : {r : Verdict} {h : Head} → not (fitsIn (octetOf s (at + 1)) (length s - at)) ≡ false → h ≡ headAt s ero at → r ≡ headVerdict s at h
-        → r ≡ stepVerdict s ero at
+    pub goes-on : {r : Verdict} {h : Head} → not (fitsIn (octetOf s (at + 1)) (length s - at)) ≡ false → h ≡ headAt form s ero at → r ≡ headVerdict form s at h
+        → r ≡ stepVerdict form s ero at
     unfolding stepVerdict headVerdict
-    goes-on b q e = e ∙ ap (headVerdict s at) q ∙ sym (rw (a, b))
+    goes-on b q e = e ∙ ap (headVerdict form s at) q ∙ sym (rw (a, b))
 
     pub room : not (fitsIn (octetOf s (at + 1)) (length s - at)) ≡ false → at + 4 ≤ length s
     room b = omega (arith, fit (octetOf s (at + 1)) (length s - at) b, inside s at a)
 
 -- ---- an acceptance: what was asked and found unbroken
-pub record Sound (s : List ℕ) (ero : Bool) (at : ℕ) : Type 0 where
+pub record Sound (form : Form) (s : List ℕ) (ero : Bool) (at : ℕ) : Type 0 where
   pub low : header ≤ at
   pub even : at % unit ≡ 0
   pub short : at < length s
   pub fits : fitsIn (octetOf s (at + 1)) (length s - at) ≡ true
-  pub kind : headAt s ero at .kind ≡ srv6Kind
-  pub r8 : rule8 (headAt s ero at) ≡ false
-  pub r9 : rule9 (headAt s ero at) ≡ false
-  pub r7 : rule7 (headAt s ero at) ≡ false
-  pub r11 : rule11 (headAt s ero at) (bitsAt s at (headAt s ero at)) ≡ false
+  pub kind : headAt form s ero at .kind ≡ form .kind
+  pub r8 : rule8 form (headAt form s ero at) ≡ false
+  pub r9 : rule9 (headAt form s ero at) ≡ false
+  pub r7 : rule7 form (headAt form s ero at) ≡ false
+  pub r11 : rule11 (headAt form s ero at) (bitsAt form s at (headAt form s ero at)) ≡ false
+  pub r29 : rule29 (headAt form s ero at) (labelAt s (sidPlace form at)) ≡ false
+  pub r30 : rule30 (headAt form s ero at) (timeAt s (sidPlace form at)) ≡ false
 
-pub accepted-sound : (s : List ℕ) (ero : Bool) (at : ℕ) → stepVerdict s ero at .number ≡ 0 → Sound s ero at
+pub accepted-sound : (form : Form) (s : List ℕ) (ero : Bool) (at : ℕ) → stepVerdict form s ero at .number ≡ 0 → Sound form s ero at
 unfolding stepVerdict
-accepted-sound s ero at z =
-    go (outside s at) refl (fitsIn (octetOf s (at + 1)) (length s - at)) refl (eqb (headAt s ero at .kind) srv6Kind) refl
-    (rule8 (headAt s ero at)) refl (rule9 (headAt s ero at)) refl (rule7 (headAt s ero at)) refl
-    (rule11 (headAt s ero at) (bitsAt s at (headAt s ero at))) refl z
+accepted-sound form s ero at z =
+    go (outside s at) refl (fitsIn (octetOf s (at + 1)) (length s - at)) refl (eqb (headAt form s ero at .kind) (form .kind)) refl
+    (rule8 form (headAt form s ero at)) refl (rule9 (headAt form s ero at)) refl (rule7 form (headAt form s ero at)) refl
+    (rule11 (headAt form s ero at) (bitsAt form s at (headAt form s ero at))) refl (rule29 (headAt form s ero at) (labelAt s (sidPlace form at))) refl
+    (rule30 (headAt form s ero at) (timeAt s (sidPlace form at))) refl z
   where
     go : (o : Bool) → outside s at ≡ o → (f : Bool) → fitsIn (octetOf s (at + 1)) (length s - at) ≡ f
-        → (k : Bool) → eqb (headAt s ero at .kind) srv6Kind ≡ k → (a : Bool) → rule8 (headAt s ero at) ≡ a → (b : Bool) → rule9 (headAt s ero at) ≡ b
-        → (c : Bool) → rule7 (headAt s ero at) ≡ c → (d : Bool) → rule11 (headAt s ero at) (bitsAt s at (headAt s ero at)) ≡ d
+        → (k : Bool) → eqb (headAt form s ero at .kind) (form .kind) ≡ k → (a : Bool) → rule8 form (headAt form s ero at) ≡ a
+        → (b : Bool) → rule9 (headAt form s ero at) ≡ b → (c : Bool) → rule7 form (headAt form s ero at) ≡ c
+        → (d : Bool) → rule11 (headAt form s ero at) (bitsAt form s at (headAt form s ero at)) ≡ d
+        → (l : Bool) → rule29 (headAt form s ero at) (labelAt s (sidPlace form at)) ≡ l
+        → (t : Bool) → rule30 (headAt form s ero at) (timeAt s (sidPlace form at)) ≡ t
         → cond o (refusedBy 15 0) (cond (not f) (refusedBy 4 0) (cond (not k) (refusedBy 14 0)
-        (cond a (refusedBy 8 at) (cond b (refusedBy 9 at) (cond c (refusedBy 7 at) (cond d (refusedBy 11 at) (acceptedWith 0))))))) .number ≡ 0
-        → Sound s ero at
-    go true eo f ef k ek a ea b eb c ec d ed z = absurd (omega arith)
-    go false eo false ef k ek a ea b eb c ec d ed z = absurd (omega arith)
-    go false eo true ef false ek a ea b eb c ec d ed z = absurd (omega arith)
-    go false eo true ef true ek true ea b eb c ec d ed z = absurd (omega arith)
-    go false eo true ef true ek false ea true eb c ec d ed z = absurd (omega arith)
-    go false eo true ef true ek false ea false eb true ec d ed z = absurd (omega arith)
-    go false eo true ef true ek false ea false eb false ec true ed z = absurd (omega arith)
-    go false eo true ef true ek false ea false eb false ec false ed z =
+        (cond a (refusedBy 8 at) (cond b (refusedBy 9 at) (cond c (refusedBy 7 at) (cond d (refusedBy 11 at) (cond l (refusedBy 29 0)
+        (cond t (refusedBy 30 0) (acceptedWith 0))))))))) .number ≡ 0
+        → Sound form s ero at
+    go true eo f ef k ek a ea b eb c ec d ed l el t et z = absurd (omega arith)
+    go false eo false ef k ek a ea b eb c ec d ed l el t et z = absurd (omega arith)
+    go false eo true ef false ek a ea b eb c ec d ed l el t et z = absurd (omega arith)
+    go false eo true ef true ek true ea b eb c ec d ed l el t et z = absurd (omega arith)
+    go false eo true ef true ek false ea true eb c ec d ed l el t et z = absurd (omega arith)
+    go false eo true ef true ek false ea false eb true ec d ed l el t et z = absurd (omega arith)
+    go false eo true ef true ek false ea false eb false ec true ed l el t et z = absurd (omega arith)
+    go false eo true ef true ek false ea false eb false ec false ed true el t et z = absurd (omega arith)
+    go false eo true ef true ek false ea false eb false ec false ed false el true et z = absurd (omega arith)
+    go false eo true ef true ek false ea false eb false ec false ed false el false et z =
         let i = inside s at eo in
         record {
           low = i .0;
           even = i .1;
           short = i .2;
           fits = ef;
-          kind = eqb-true (headAt s ero at .kind) srv6Kind ek;
+          kind = eqb-true (headAt form s ero at .kind) (form .kind) ek;
           r8 = ea;
           r9 = eb;
           r7 = ec;
           r11 = ed;
+          r29 = el;
+          r30 = et;
         }
 
-pub sound-accepted : (s : List ℕ) (ero : Bool) (at : ℕ) → Sound s ero at → stepVerdict s ero at ≡ acceptedWith 0
+pub sound-accepted : (form : Form) (s : List ℕ) (ero : Bool) (at : ℕ) → Sound form s ero at → stepVerdict form s ero at ≡ acceptedWith 0
 unfolding stepVerdict outside
-sound-accepted s ero at w =
+sound-accepted form s ero at w =
     rw (
       le-ltb at header (w .low),
       eq-eqb (at % unit) 0 (w .even),
       lt-leb (length s) at (w .short),
       w .fits,
-      eq-eqb (headAt s ero at .kind) srv6Kind (w .kind),
+      eq-eqb (headAt form s ero at .kind) (form .kind) (w .kind),
       w .r8,
       w .r9,
       w .r7,
       w .r11,
+      w .r29,
+      w .r30,
     )
 
 -- ---- the step
-module _ (s : List ℕ) (ero : Bool) (at : ℕ) (v : Verdict) (e : v ≡ stepVerdict s ero at) where
+module _ (form : Form) (s : List ℕ) (ero : Bool) (at : ℕ) (v : Verdict) (e : v ≡ stepVerdict form s ero at) where
   pub step-refused : {g : Segment} → (v .number ≡ 0 → ⊥) → g ≡ noSegment
-      → _≡_ {A = Stepped} (record { verdict = v; segment = g; next = at }) (stepOf s ero at)
-  unfolding stepOf
+      → _≡_ {A = Stepped} (record { verdict = v; segment = g; next = at }) (stepAs form s ero at)
+  unfolding stepAs
   step-refused n q = rw (← e, ne-eqb (v .number) 0 n) (λ k. record { verdict = v; segment = q k; next = at })
 
-  pub step-sound : v .number ≡ 0 → Sound s ero at
-  step-sound z = accepted-sound s ero at (rw e at z)
+  pub step-sound : v .number ≡ 0 → Sound form s ero at
+  step-sound z = accepted-sound form s ero at (rw e at z)
 
   pub step-short : v .number ≡ 0 → at < length s
   step-short z = step-sound z .short
@@ -189,11 +218,16 @@ module _ (s : List ℕ) (ero : Bool) (at : ℕ) (v : Verdict) (e : v ≡ stepVer
   pub step-room : v .number ≡ 0 → at + octetOf s (at + 1) ≤ length s
   step-room z = omega (arith, fits-true (octetOf s (at + 1)) (length s - at) (step-sound z .fits), step-short z)
 
-  pub step-lies : v .number ≡ 0 → at + expectedAt s ero at ≤ length s
+  pub step-lies : v .number ≡ 0 → at + expectedAt form s ero at ≤ length s
   unfolding expectedAt headAt headOf
-  step-lies z = let l = sound-length (headAt s ero at) (step-sound z .r7) in omega (arith, step-room z, l)
+  step-lies z = let l = sound-length form (headAt form s ero at) (step-sound z .r7) in omega (arith, step-room z, l)
 
-  pub step-accepted : {g : Segment} {size : ℕ} → v .number ≡ 0 → g ≡ segmentAt s ero at → size ≡ octetOf s (at + 1)
-      → _≡_ {A = Stepped} (record { verdict = v; segment = g; next = at + size }) (stepOf s ero at)
-  unfolding stepOf
+  pub step-accepted : {g : Segment} {size : ℕ} → v .number ≡ 0 → g ≡ segmentAt form s ero at → size ≡ octetOf s (at + 1)
+      → _≡_ {A = Stepped} (record { verdict = v; segment = g; next = at + size }) (stepAs form s ero at)
+  unfolding stepAs
   step-accepted z q p = rw (← e, eq-eqb (v .number) 0 z) (λ k. record { verdict = v; segment = q k; next = at + p k })
+
+-- ---- the form by the setup type
+pub by-named : (s : List ℕ) (ero : Bool) (pst at : ℕ) {form : Form} {r : Stepped} → form ≡ formOf pst → r ≡ stepAs form s ero at → r ≡ stepOf s ero pst at
+unfolding stepOf
+by-named s ero pst at f g = g ∙ ap (λ (x : Form). stepAs x s ero at) f

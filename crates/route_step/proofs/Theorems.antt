@@ -1,5 +1,5 @@
 -- In an accepted route, step i from octet 4 hands out what asking for segment i does, and the step behind the last is refused by 15. The subobjects stand one
--- behind the other (frame's `Chain`), each of them breaks no rule and is SRv6, so a step leads from one to the next. Assumes nothing.
+-- behind the other (frame's `Chain`), each of them breaks no rule and is the form's, so a step leads from one to the next. Assumes nothing.
 use Prim.Native.Nat.{ℕ, zero, suc, _+_, _-_, _%_, _≤_, _<_}
 use native.Mathlib.Omega.{arith}
 use mathlib.Core.Path.{_≡_, refl, sym, ap, _∙_}
@@ -13,19 +13,21 @@ use Rattle.answers.specs.Numbers.{noSuchSegment}
 use Rattle.answers.specs.Verdicts.{refusedBy, acceptedWith}
 use Rattle.octets.specs.Octets.{octetOf}
 use Rattle.objects.specs.Objects.{header, unit}
+use Rattle.forms.specs.declared.Form.{Form}
+use Rattle.forms.specs.Forms.{formOf}
 use Rattle.session.specs.declared.Session.{Session}
-use Rattle.subobject.specs.Layout.{srv6Kind, headOf, headAt}
-use Rattle.subobject.specs.Rules.{rule7, rule8, rule9, rule11, bitsAt}
+use Rattle.subobject.specs.Layout.{sidPlace, headOf, headAt}
+use Rattle.subobject.specs.Rules.{rule7, rule8, rule9, rule11, rule29, rule30, bitsAt, labelAt, timeAt}
 use Rattle.subobject.specs.Segments.{segmentAt}
 use Rattle.frame.specs.Chains.{Chain, stop, link}
 use Rattle.frame.specs.Frames.{fitsIn, kindAt, placesOf, anyIs, otherThan, mixedAt, rule6, rule6Place, rule14}
 use Rattle.frame.proofs.Laws.{fits-true}
 use Rattle.frame.proofs.Chains.{whole-chain}
 use Rattle.route.specs.declared.picking.Picked.{Picked}
-use Rattle.route.specs.Routes.{judgeOf, segmentOf, countOf}
+use Rattle.route.specs.Routes.{judgeAs, judgeOf, segmentOf, countOf}
 use Rattle.route.proofs.Answer.{accepted-none, accepted-count, accepted-frame, accepted-subobject, pick-there}
 use Rattle.route_step.specs.declared.stepping.Stepped.{Stepped}
-use Rattle.route_step.specs.Steps.{outside, stepVerdict, stepOf, stepsFrom}
+use Rattle.route_step.specs.Steps.{outside, stepVerdict, stepAs, stepOf, stepsFrom}
 use Rattle.route_step.proofs.Laws.{Sound, sound-accepted, stops-15}
 
 -- ---- one type for all
@@ -58,23 +60,25 @@ kinds-all kinds kind (p ∷ ps) pos a m j h = first j h ∙ any-same kinds (kind
     first (suc i) l = all-same kinds (kinds p) ps (λ j k. pos (suc j) (omega arith)) m i (omega arith)
 
 -- ---- a step on the chain
-module _ (s : List ℕ) (ero : Bool) where
+module _ (s : List ℕ) (ero : Bool) (pst : ℕ) where
   pub record Unbroken (at : ℕ) : Type 0 where
-    pub kind : headAt s ero at .kind ≡ srv6Kind
-    pub r8 : rule8 (headAt s ero at) ≡ false
-    pub r9 : rule9 (headAt s ero at) ≡ false
-    pub r7 : rule7 (headAt s ero at) ≡ false
-    pub r11 : rule11 (headAt s ero at) (bitsAt s at (headAt s ero at)) ≡ false
+    pub kind : headAt (formOf pst) s ero at .kind ≡ formOf pst .kind
+    pub r8 : rule8 (formOf pst) (headAt (formOf pst) s ero at) ≡ false
+    pub r9 : rule9 (headAt (formOf pst) s ero at) ≡ false
+    pub r7 : rule7 (formOf pst) (headAt (formOf pst) s ero at) ≡ false
+    pub r11 : rule11 (headAt (formOf pst) s ero at) (bitsAt (formOf pst) s at (headAt (formOf pst) s ero at)) ≡ false
+    pub r29 : rule29 (headAt (formOf pst) s ero at) (labelAt s (sidPlace (formOf pst) at)) ≡ false
+    pub r30 : rule30 (headAt (formOf pst) s ero at) (timeAt s (sidPlace (formOf pst) at)) ≡ false
 
   abbrev taken : ℕ → Stepped
-  taken at = record { verdict = acceptedWith 0; segment = segmentAt s ero at; next = at + octetOf s (at + 1) }
+  taken at = record { verdict = acceptedWith 0; segment = segmentAt (formOf pst) s ero at; next = at + octetOf s (at + 1) }
 
   step-taken : (at : ℕ) → header ≤ at → at % unit ≡ 0 → (at ≡ length s → ⊥) → fitsIn (octetOf s (at + 1)) (length s - at) ≡ true → Unbroken at
-      → stepOf s ero at ≡ taken at
-  unfolding stepOf
+      → stepOf s ero pst at ≡ taken at
+  unfolding stepOf stepAs
   step-taken at low four n d u =
       let f = fits-true (octetOf s (at + 1)) (length s - at) d in
-      let w : Sound s ero at = record {
+      let w : Sound (formOf pst) s ero at = record {
         low = low;
         even = four;
         short = omega arith;
@@ -84,11 +88,13 @@ module _ (s : List ℕ) (ero : Bool) where
         r9 = u .r9;
         r7 = u .r7;
         r11 = u .r11;
+        r29 = u .r29;
+        r30 = u .r30;
       } in
-      rw (sound-accepted s ero at w)
+      rw (sound-accepted (formOf pst) s ero at w)
 
   along : (at : ℕ) (ps : List ℕ) → Chain s at ps → header ≤ at → at % unit ≡ 0 → ((j : ℕ) → j < length ps → Unbroken (getD ps j 0)) → (i : ℕ)
-      → i < length ps → stepOf s ero (stepsFrom s ero at i) ≡ taken (getD ps i 0)
+      → i < length ps → stepOf s ero pst (stepsFrom s ero pst at i) ≡ taken (getD ps i 0)
   along at [] c low four good i h = absurd (omega arith)
   along at (p ∷ ps) (link n d c) low four good zero h = step-taken at low four n d (good 0 (omega arith))
   along at (p ∷ ps) (link n d c) low four good (suc i) h =
@@ -97,11 +103,11 @@ module _ (s : List ℕ) (ero : Bool) where
       (along (at + octetOf s (at + 1)) ps c (omega arith) (omega arith) (λ j k. good (suc j) (omega arith)) i (omega arith))
 
   ends : (at : ℕ) (ps : List ℕ) → Chain s at ps → header ≤ at → at % unit ≡ 0 → ((j : ℕ) → j < length ps → Unbroken (getD ps j 0))
-      → stepsFrom s ero at (length ps) ≡ length s
+      → stepsFrom s ero pst at (length ps) ≡ length s
   ends at [] (stop e) low four good = e
   ends at (p ∷ ps) (link n d c) low four good =
       let f = fits-true (octetOf s (at + 1)) (length s - at) d in
-      ap (λ (x : Stepped). stepsFrom s ero (x .next) (length ps)) (step-taken at low four n d (good 0 (omega arith)))
+      ap (λ (x : Stepped). stepsFrom s ero pst (x .next) (length ps)) (step-taken at low four n d (good 0 (omega arith)))
       ∙ ends (at + octetOf s (at + 1)) ps c (omega arith) (omega arith) (λ j k. good (suc j) (omega arith))
 
   places-low : (at : ℕ) (ps : List ℕ) → Chain s at ps → 0 < at → (j : ℕ) → j < length ps → 0 < getD ps j 0
@@ -119,42 +125,47 @@ module _ (s : List ℕ) (ero : Bool) where
       go false false = refl
 
   -- ---- an accepted route
-  module _ (session : Session) (pst : ℕ) (z : judgeOf s ero session pst .number ≡ 0) where
-    chain : Chain s header (placesOf s)
-    chain = whole-chain s (accepted-frame s ero session pst z .1)
+  module _ (session : Session) (taken-route : judgeOf s ero session pst .number ≡ 0) where
+    z : judgeAs (formOf pst) s ero session pst .number ≡ 0
+    unfolding judgeOf
+    z = taken-route
 
-    present : anyIs (kindAt s ero) srv6Kind (placesOf s) ≡ true
+    chain : Chain s header (placesOf s)
+    chain = whole-chain s (accepted-frame (formOf pst) s ero session pst z .1)
+
+    present : anyIs (kindAt s ero) (formOf pst .kind) (placesOf s) ≡ true
     unfolding rule14
-    present = not-false _ (accepted-none s ero session pst z .1 .1 .1 .0)
+    present = not-false _ (accepted-none (formOf pst) s ero session pst z .1 .1 .1 .0)
 
     unmixed : mixedAt (kindAt s ero) (placesOf s) ≡ 0
     unfolding rule6 rule6Place
-    unmixed = eqb-true _ 0 (not-false _ (rw present at (accepted-none s ero session pst z .1 .1 .0)))
+    unmixed = eqb-true _ 0 (not-false _ (rw present at (accepted-none (formOf pst) s ero session pst z .1 .1 .0)))
 
-    srv6-at : (j : ℕ) → j < countOf s → headAt s ero (getD (placesOf s) j 0) .kind ≡ srv6Kind
+    kind-at : (j : ℕ) → j < countOf s → headAt (formOf pst) s ero (getD (placesOf s) j 0) .kind ≡ formOf pst .kind
     unfolding headAt headOf
-    srv6-at j h = kinds-all (kindAt s ero) srv6Kind (placesOf s) (places-low header (placesOf s) chain (omega arith)) present unmixed j h
+    kind-at j h = kinds-all (kindAt s ero) (formOf pst .kind) (placesOf s) (places-low header (placesOf s) chain (omega arith)) present unmixed j h
 
     unbroken-at : (j : ℕ) → j < countOf s → Unbroken (getD (placesOf s) j 0)
     unbroken-at j h =
-        let n = accepted-subobject s ero session pst j z h in
-        record { kind = srv6-at j h; r8 = n .0; r9 = n .1 .0; r7 = n .1 .1 .0; r11 = n .1 .1 .1 .1 .0 }
+        let n = accepted-subobject (formOf pst) s ero session pst j z h in
+        record { kind = kind-at j h; r8 = n .0; r9 = n .1 .0; r7 = n .1 .1 .0; r11 = n .1 .1 .1 .1 .0; r29 = n .1 .1 .1 .1 .1 .0; r30 = n .1 .1 .1 .1 .1 .1 .0 }
 
-    pub step-accepts : (i : ℕ) → i < countOf s → stepOf s ero (stepsFrom s ero header i) .verdict ≡ acceptedWith 0
+    pub step-accepts : (i : ℕ) → i < countOf s → stepOf s ero pst (stepsFrom s ero pst header i) .verdict ≡ acceptedWith 0
     step-accepts i h = ap (λ (x : Stepped). x .verdict) (along header (placesOf s) chain (omega arith) refl unbroken-at i h)
 
     -- Step i hands out segment i,
-    pub step-is-segment : (i : ℕ) → i < countOf s → stepOf s ero (stepsFrom s ero header i) .segment ≡ segmentOf s ero session pst i .segment
+    pub step-is-segment : (i : ℕ) → i < countOf s → stepOf s ero pst (stepsFrom s ero pst header i) .segment ≡ segmentOf s ero session pst i .segment
+    unfolding segmentOf
     step-is-segment i h =
-        let l : i < judgeOf s ero session pst .count = rw (accepted-count s ero session pst z) h in
+        let l : i < judgeAs (formOf pst) s ero session pst .count = rw (accepted-count (formOf pst) s ero session pst z) h in
         ap (λ (x : Stepped). x .segment) (along header (placesOf s) chain (omega arith) refl unbroken-at i h)
-        ∙ ap (λ (x : Picked). x .segment) (pick-there s ero session pst i (judgeOf s ero session pst) refl z l refl refl refl)
+        ∙ ap (λ (x : Picked). x .segment) (pick-there (formOf pst) s ero session pst i (judgeAs (formOf pst) s ero session pst) refl z l refl refl refl)
 
     -- and behind the last there is none.
-    pub step-behind-the-last : stepOf s ero (stepsFrom s ero header (countOf s)) .verdict ≡ refusedBy noSuchSegment 0
-    unfolding stepOf
-    step-behind-the-last = rw (ends header (placesOf s) chain (omega arith) refl unbroken-at) (sym (stops-15 s ero (length s) at-the-end refl))
+    pub step-behind-the-last : stepOf s ero pst (stepsFrom s ero pst header (countOf s)) .verdict ≡ refusedBy noSuchSegment 0
+    unfolding stepOf stepAs
+    step-behind-the-last = rw (ends header (placesOf s) chain (omega arith) refl unbroken-at) (sym (stops-15 (formOf pst) s ero (length s) at-the-end refl))
 
 -- Of any two answers that fit, both are the same.
-pub step-determined : (s : List ℕ) (ero : Bool) (at : ℕ) (a b : Stepped) → a ≡ stepOf s ero at → b ≡ stepOf s ero at → a ≡ b
-step-determined s ero at a b e f = e ∙ sym f
+pub step-determined : (s : List ℕ) (ero : Bool) (pst at : ℕ) (a b : Stepped) → a ≡ stepOf s ero pst at → b ≡ stepOf s ero pst at → a ≡ b
+step-determined s ero pst at a b e f = e ∙ sym f

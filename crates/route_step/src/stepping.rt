@@ -4,10 +4,11 @@ ghost use mathlib.Core.Bool.{not};
 ghost use Prim.Native.Nat.{_+_, _-_, _<_};
 ghost use lib.ListN.{length};
 ghost use Rattle.octets.specs.Octets.{octetOf};
-ghost use Rattle.subobject.specs.Rules.{rule11, bitsAt};
+ghost use Rattle.forms.specs.Sized.{Sized};
 ghost use Rattle.frame.specs.Frames.{fitsIn};
-ghost use Rattle.route_step.specs.Steps.{outside, headVerdict, stepVerdict, stepOf};
+ghost use Rattle.route_step.specs.Steps.{outside, headVerdict, stepVerdict, stepAs, stepOf};
 use answers::Verdict;
+use forms::Form;
 use subobject::Head;
 use subobject::Segment;
 
@@ -46,50 +47,39 @@ fn is_unfit(s: &[u8], at: usize) -> bool
     len < objects::UNIT
 }
 
-// 11 for the subobject at a place. Only a structure's octets are read.
-fn is_too_long(s: &[u8], at: usize, h: Head) -> bool
-    requires { ⌜ at < length (now s) ⌝ }
-    ensures broken { λ r. ⌜ r ≡ rule11 h (bitsAt (now (s .entry)) at h) ⌝ }
-{
-    if subobject::structured(h) {
-        let nai = subobject::nai_length(h.nt);
-        return subobject_rules::eleven(
-            h,
-            subobject_rules::sum_at(
-                s,
-                at + subobject::FIXED_LENGTH + subobject::SID_LENGTH + nai,
-            ),
-        );
-    }
-    false
-}
-
 // The first broken rule of a subobject with this head.
-fn rules_at(s: &[u8], at: usize, h: Head) -> Verdict
-    requires { ⌜ at < length (now s) ⌝ }
-    ensures verdict { λ r. ⌜ r ≡ headVerdict (now (s .entry)) at h ⌝ }
+fn rules_at(form: Form, s: &[u8], at: usize, h: Head) -> Verdict
+    requires { ⌜ (at < length (now s)) × Sized form ⌝ }
+    ensures verdict { λ r. ⌜ r ≡ headVerdict form (now (s .entry)) at h ⌝ }
 {
-    if h.kind != subobject::SRV6 {
+    if h.kind != octets::wide(form.kind) {
         return answers::refused(answers::NO_SRV6, 0);
     }
-    if subobject_rules::eight(h) {
+    if subobject_rules::eight(form, h) {
         return answers::refused(answers::NAI_UNKNOWN, at);
     }
     if subobject_rules::nine(h) {
         return answers::refused(answers::NOTHING_THERE, at);
     }
-    if subobject_rules::seven(h) {
+    if subobject_rules::seven(form, h) {
         return answers::refused(answers::LENGTH_WRONG, at);
     }
-    if is_too_long(s, at, h) {
+    if route_walk::too_long(form, s, at, h) {
         return answers::refused(answers::STRUCTURE_TOO_LONG, at);
+    }
+    if route_walk::bad_label(form, s, at, h) {
+        return answers::refused(answers::LABEL_VALUE, 0);
+    }
+    if route_walk::bad_format(form, s, at, h) {
+        return answers::refused(answers::LABEL_FORMAT, 0);
     }
     answers::accepted(0)
 }
 
 // The first broken rule at a place.
-fn verdict_at(s: &[u8], ero: bool, at: usize) -> Verdict
-    ensures verdict { λ r. ⌜ r ≡ stepVerdict (now (s .entry)) ero at ⌝ }
+fn verdict_at(form: Form, s: &[u8], ero: bool, at: usize) -> Verdict
+    requires { ⌜ Sized form ⌝ }
+    ensures verdict { λ r. ⌜ r ≡ stepVerdict form (now (s .entry)) ero at ⌝ }
 {
     if is_outside(s, at) {
         return answers::refused(answers::NO_SUCH_SEGMENT, 0);
@@ -97,14 +87,15 @@ fn verdict_at(s: &[u8], ero: bool, at: usize) -> Verdict
     if is_unfit(s, at) {
         return answers::refused(answers::FRAME_BROKEN, 0);
     }
-    rules_at(s, at, subobject::head_at(s, at, ero))
+    rules_at(form, s, at, subobject::head_at(form, s, at, ero))
 }
 
-// The segment at a place, and the place behind it.
-pub fn step(s: &[u8], ero: bool, at: usize) -> Stepped
-    ensures stepped { λ r. ⌜ r ≡ stepOf (now (s .entry)) ero at ⌝ }
+// The segment of a form at a place, and the place behind it.
+fn step_as(form: Form, s: &[u8], ero: bool, at: usize) -> Stepped
+    requires { ⌜ Sized form ⌝ }
+    ensures stepped { λ r. ⌜ r ≡ stepAs form (now (s .entry)) ero at ⌝ }
 {
-    let v = verdict_at(s, ero, at);
+    let v = verdict_at(form, s, ero, at);
     if v.number != 0 {
         return Stepped {
             verdict: v,
@@ -115,7 +106,14 @@ pub fn step(s: &[u8], ero: bool, at: usize) -> Stepped
     let size = octets::octet(s, at + 1);
     Stepped {
         verdict: v,
-        segment: subobject_read::segment_at(s, at, ero),
+        segment: subobject_read::segment_at(form, s, at, ero),
         next: at + size,
     }
+}
+
+// The same, of the form that the setup type names.
+pub fn step(s: &[u8], ero: bool, pst: u64, at: usize) -> Stepped
+    ensures stepped { λ r. ⌜ r ≡ stepOf (now (s .entry)) ero pst at ⌝ }
+{
+    step_as(forms::named(pst), s, ero, at)
 }

@@ -9,16 +9,18 @@ use lib.ListN.{length, getD, drop}
 use lib.Seq.{drop-cons}
 use lib.Dec.{eqb}
 use native.Mathlib.Omega.{arith}
-use borrow.Author.Tests.{eqb-true, eqb-false}
+use borrow.Author.Tests.{eqb-true, eqb-false, ne-eqb}
 use native.Mathlib.Nat.{zero-add}
 use native.Mathlib.Numerals.{add-one}
 use Rattle.answers.specs.declared.verdict.Verdict.{Verdict}
 use Rattle.answers.specs.Verdicts.{refusedBy, carryingBoth}
 use Rattle.octets.specs.Octets.{octetOf}
 use Rattle.objects.specs.Objects.{header}
+use Rattle.forms.specs.declared.Form.{Form}
+use Rattle.forms.specs.Forms.{naiLength}
 use Rattle.subobject.specs.declared.head.Head.{Head}
 use Rattle.subobject.specs.Layout.{headOf, headAt, expectedLength}
-use Rattle.subobject.specs.Rules.{bitsAt, subjectAt, Row, rules, ruleCount, brokenBy}
+use Rattle.subobject.specs.Rules.{sumAt, bitsAt, rule11, subjectBy, subjectAt, Row, rules, ruleCount, brokenBy, placeBy}
 use Rattle.subobject.specs.Strays.{straysBy, straysAt, strayOne, strayIn}
 use Rattle.subobject.specs.Four.{markedAt, endingMarked}
 use Rattle.subobject.proofs.Laws.{sound-length}
@@ -38,24 +40,24 @@ order = numbersOf rules
 
 abbrev pub askedAt : (ℕ → Bool) → ℕ → List ℕ → List Check
 askedAt broken place [] = []
-askedAt broken place (r ∷ rs) = check r place (broken r) ∷ askedAt broken place rs
+askedAt broken place (r ∷ rs) = check r (placeBy r place) (broken r) ∷ askedAt broken place rs
 
 abbrev pub askedAll : (ℕ → ℕ → Bool) → List ℕ → List Check
 askedAll broken [] = []
 askedAll broken (p ∷ ps) = askedAt (broken p) p order ++ askedAll broken ps
 
 -- They are the rows of the table.
-pub rows-asked : (s : List ℕ) (ero n : Bool) (p : ℕ) → askedAt (brokenBy (subjectAt s ero n p)) p order ≡ checksAt s ero n p
-unfolding brokenBy
-rows-asked s ero n p = refl
+pub rows-asked : (form : Form) (s : List ℕ) (ero n : Bool) (p : ℕ) → askedAt (brokenBy (subjectAt form s ero n p)) p order ≡ checksAt form s ero n p
+unfolding brokenBy placeBy
+rows-asked form s ero n p = refl
 
-pub all-asked : (s : List ℕ) (ero n : Bool) (ps : List ℕ) → askedAll (λ p. brokenBy (subjectAt s ero n p)) ps ≡ subobjectChecks s ero n ps
-unfolding brokenBy
-all-asked s ero n [] = refl
-all-asked s ero n (p ∷ ps) = ap (λ (cs : List Check). checksAt s ero n p ++ cs) (all-asked s ero n ps)
+pub all-asked : (form : Form) (s : List ℕ) (ero n : Bool) (ps : List ℕ) → askedAll (λ p. brokenBy (subjectAt form s ero n p)) ps ≡ subobjectChecks form s ero n ps
+unfolding brokenBy placeBy
+all-asked form s ero n [] = refl
+all-asked form s ero n (p ∷ ps) = ap (λ (cs : List Check). checksAt form s ero n p ++ cs) (all-asked form s ero n ps)
 
--- "8, 9, 7, 10, 11."
-pub in-order : order ≡ 8 ∷ 9 ∷ 7 ∷ 10 ∷ 11 ∷ []
+-- "8, 9, 7, 10, 11", then 29 and 30.
+pub in-order : order ≡ 8 ∷ 9 ∷ 7 ∷ 10 ∷ 11 ∷ 29 ∷ 30 ∷ []
 in-order = refl
 
 pub row-count : length rules ≡ ruleCount
@@ -74,8 +76,8 @@ pub record Checking (broken : ℕ → ℕ → Bool) (s : List ℕ) (at next : �
   pub rest : Over (λ a. firstBroken (askedAt (broken at) at (drop k order) ++ askedAll broken (a .places)) (after (at ∷ a .places))) s next whole
 
 -- What the walk answers in the end, with `stray` counted: of the places that are left the stray ones too.
-abbrev pub ending : List ℕ → Bool → ℕ → ℕ → List ℕ → Verdict
-ending s ero count stray ps = carryingBoth count (stray + strayIn s ero ps)
+abbrev pub ending : Form → List ℕ → Bool → ℕ → ℕ → List ℕ → Verdict
+ending form s ero count stray ps = carryingBoth count (stray + strayIn form s ero ps)
 
 pub left-as : {broken : ℕ → ℕ → Bool} {s : List ℕ} {at : ℕ} {after : List ℕ → Verdict} {whole : Verdict} → Left broken s at after whole
     → (then : List ℕ → Verdict) → ((ps : List ℕ) → after ps ≡ then ps) → Left broken s at then whole
@@ -86,15 +88,15 @@ left-as {broken} l then e = record {
       (λ a. ap (λ (v : Verdict). firstBroken (askedAll broken (a .places)) v) (e (a .places)));
 }
 
-pub walk-starts : (s : List ℕ) (ero n : Bool) (count : ℕ) → apartOf s .whole ≡ true
-    → Left (λ p. brokenBy (subjectAt s ero n p)) s header (ending s ero count 0) (walkOf s ero n count)
+pub walk-starts : (form : Form) (s : List ℕ) (ero n : Bool) (count : ℕ) → apartOf s .whole ≡ true
+    → Left (λ p. brokenBy (subjectAt form s ero n p)) s header (ending form s ero count 0) (walkOf form s ero n count)
 unfolding walkOf
-walk-starts s ero n count e =
-    let broken : ℕ → ℕ → Bool = λ p. brokenBy (subjectAt s ero n p) in
-    let after : List ℕ → Verdict = λ ps. carryingBoth count (strayIn s ero ps) in
-    rw (← all-asked s ero n (placesOf s))
+walk-starts form s ero n count e =
+    let broken : ℕ → ℕ → Bool = λ p. brokenBy (subjectAt form s ero n p) in
+    let after : List ℕ → Verdict = λ ps. carryingBoth count (strayIn form s ero ps) in
+    rw (← all-asked form s ero n (placesOf s))
     (left-as {after = after} (record { good = sound-starts s e; rest = over-starts (λ a. firstBroken (askedAll broken (a .places)) (after (a .places))) s })
-    (ending s ero count 0) (λ ps. ap (λ (x : ℕ). carryingBoth count x) (sym (zero-add (strayIn s ero ps)))))
+    (ending form s ero count 0) (λ ps. ap (λ (x : ℕ). carryingBoth count x) (sym (zero-add (strayIn form s ero ps)))))
 
 pub stray-ends : {count stray : ℕ} {whole : Verdict} → carryingBoth count (stray + 0) ≡ whole → carryingBoth count stray ≡ whole
 stray-ends {count} {stray} e = ap (λ (x : ℕ). carryingBoth count x) (omega arith) ∙ e
@@ -110,8 +112,8 @@ module _ {broken : ℕ → ℕ → Bool} {s : List ℕ} {at : ℕ} {after : List
   begin n e = record { good = sound-next (l .good) n e; past = λ j h. absurd (omega arith); rest = next-by (l .good) (l .rest) n e }
 
 module _ {broken : ℕ → ℕ → Bool} {s : List ℕ} {at next : ℕ} {after : List ℕ → Verdict} {whole : Verdict} {k : ℕ} (l : Checking broken s at next after whole k) where
-  pub stops : k < ruleCount → broken at (getD order k 0) ≡ true → refusedBy (getD order k 0) at ≡ whole
-  stops h e = over-as (l .rest) (λ a. refusedBy (getD order k 0) at) (λ a. rw (drop-cons order k (0) h, e)) .same
+  pub stops : k < ruleCount → broken at (getD order k 0) ≡ true → refusedBy (getD order k 0) (placeBy (getD order k 0) at) ≡ whole
+  stops h e = over-as (l .rest) (λ a. refusedBy (getD order k 0) (placeBy (getD order k 0) at)) (λ a. rw (drop-cons order k (0) h, e)) .same
 
   pub passes : k < ruleCount → broken at (getD order k 0) ≡ false → Checking broken s at next after whole (k + 1)
   passes h e = record {
@@ -129,34 +131,46 @@ module _ {broken : ℕ → ℕ → Bool} {s : List ℕ} {at next : ℕ} {after :
   pub done : k ≡ ruleCount → Left broken s next (λ ps. after (at ∷ ps)) whole
   done e = record { good = l .good; rest = over-as (l .rest) (λ a. firstBroken (askedAll broken (a .places)) (after (at ∷ a .places))) (λ a. rw e) }
 
-module _ (ero n : Bool) (count stray : ℕ) {s : List ℕ} {at next : ℕ} {whole : Verdict} {k : ℕ}
-    (l : Checking (λ p. brokenBy (subjectAt s ero n p)) s at next (ending s ero count stray) whole k) where
+module _ (form : Form) (ero n : Bool) (count stray : ℕ) {s : List ℕ} {at next : ℕ} {whole : Verdict} {k : ℕ}
+    (l : Checking (λ p. brokenBy (subjectAt form s ero n p)) s at next (ending form s ero count stray) whole k) where
   -- A subobject that breaks no rule is of the expected length,
-  pub checked-length : (h : Head) → h ≡ headAt s ero at → k ≡ ruleCount → h .size ≡ expectedLength (h .nt) (h .s) (h .t)
+  pub checked-length : (h : Head) → h ≡ headAt form s ero at → k ≡ ruleCount → h .size ≡ expectedLength form (h .nt) (h .s) (h .t)
   unfolding brokenBy
-  checked-length h e z = rw e (sound-length (headAt s ero at) (l .past 2 (omega arith)))
+  checked-length h e z = rw e (sound-length form (headAt form s ero at) (l .past 2 (omega arith)))
 
   -- and is counted if it is stray.
-  pub counted : (h : Head) (one : ℕ) → h ≡ headAt s ero at → one ≡ strayOne (straysBy h s at) → k ≡ ruleCount
-      → Left (λ p. brokenBy (subjectAt s ero n p)) s next (ending s ero count (stray + one)) whole
+  pub counted : (h : Head) (one : ℕ) → h ≡ headAt form s ero at → one ≡ strayOne (straysBy form h s at) → k ≡ ruleCount
+      → Left (λ p. brokenBy (subjectAt form s ero n p)) s next (ending form s ero count (stray + one)) whole
   unfolding straysAt
   counted h one e eo z =
-      let q : one ≡ strayOne (straysAt s ero at) = rw e at eo in
-      left-as (done l z) (ending s ero count (stray + one)) (λ ps. ap (λ (y : ℕ). carryingBoth count y) (omega (arith, q)))
-
--- One in which nothing is marked is not.
-pub uncounted : (ero n : Bool) (count : ℕ) {s : List ℕ} {at next : ℕ} {whole : Verdict} {k : ℕ}
-    → Checking (λ p. brokenBy (subjectAt s ero n p)) s at next (ending s ero count 0) whole k → ((i : ℕ) → getD s i 0 < 256) → (h : Head) {m e : Bool}
-    → h ≡ headAt s ero at → m ≡ markedAt s at → m ≡ false → e ≡ endingMarked h s at → e ≡ false → k ≡ ruleCount
-    → Left (λ p. brokenBy (subjectAt s ero n p)) s next (ending s ero count 0) whole
-uncounted ero n count {s} {at} l small h eh em m ee e z =
-    counted ero n count 0 l h 0 eh (unmarked-none h s at small (checked-length ero n count 0 l h eh z) (sym em ∙ m) (sym ee ∙ e)) z
+      let q : one ≡ strayOne (straysAt form s ero at) = rw e at eo in
+      left-as (done l z) (ending form s ero count (stray + one)) (λ ps. ap (λ (y : ℕ). carryingBoth count y) (omega (arith, q)))
 
 -- The head that was read, and what is asked of it.
-pub head-size : (ero : Bool) (s : List ℕ) (at : ℕ) (h : Head) → h ≡ headAt s ero at → h .size ≡ getD s (at + 1) 0
+pub head-size : (form : Form) (ero : Bool) (s : List ℕ) (at : ℕ) (h : Head) → h ≡ headAt form s ero at → h .size ≡ getD s (at + 1) 0
 unfolding headAt headOf octetOf
-head-size ero s at h e = ap (λ (x : Head). x .size) e
+head-size form ero s at h e = ap (λ (x : Head). x .size) e
 
-pub asked : (ero n : Bool) (s : List ℕ) (at number : ℕ) (h : Head) (b : Bool) → h ≡ headAt s ero at
-    → b ≡ brokenBy (record { head = h; bits = bitsAt s at h; ero = ero; n = n }) number → brokenBy (subjectAt s ero n at) number ≡ b
-asked ero n s at number h b e q = rw (← e) (sym q)
+pub asked : (form : Form) (ero n : Bool) (s : List ℕ) (at number : ℕ) (h : Head) (b : Bool) → h ≡ headAt form s ero at
+    → b ≡ brokenBy (subjectBy form h s ero n at) number → brokenBy (subjectAt form s ero n at) number ≡ b
+asked form ero n s at number h b e q = rw (← e) (sym q)
+
+-- A refusal with the place that its number names.
+pub refused-at : (v : Verdict) (number at place : ℕ) → v ≡ refusedBy number place → place ≡ placeBy number at → v ≡ refusedBy number (placeBy number at)
+refused-at v number at place e p = e ∙ ap (λ (x : ℕ). refusedBy number x) p
+
+-- No other number names a place.
+pub unplaced : (number at : ℕ) → (number ≡ 8 → ⊥) → (number ≡ 9 → ⊥) → (number ≡ 7 → ⊥) → (number ≡ 10 → ⊥) → (number ≡ 11 → ⊥) → 0 ≡ placeBy number at
+unfolding placeBy
+unplaced number at a b c d e =
+    rw (ne-eqb number 8 a, ne-eqb number 9 b, ne-eqb number 7 c, ne-eqb number 10 d, ne-eqb number 11 e) (go (eqb number 29) (eqb number 30))
+  where
+    go : (x y : Bool) → _≡_ {A = ℕ} 0 (cond x 0 (cond y 0 0))
+    go true y = refl
+    go false true = refl
+    go false false = refl
+
+-- 11, from the sum where the code looks for it.
+pub eleven-made : (form : Form) (h : Head) (s : List ℕ) (at fixed sid nai sum : ℕ) (r : Bool) → fixed ≡ form .fixed → sid ≡ form .sid → nai ≡ naiLength form (h .nt)
+    → sum ≡ sumAt s (at + fixed + sid + nai) → r ≡ rule11 h sum → r ≡ rule11 h (bitsAt form s at h)
+eleven-made form h s at fixed sid nai sum r ef es en em er = er ∙ ap (λ (x : ℕ). rule11 h x) (em ∙ rw (ef, es, en))

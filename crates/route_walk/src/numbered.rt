@@ -2,57 +2,110 @@
 ghost use mathlib.Core.Path.{_≡_};
 ghost use Prim.Native.Nat.{_<_};
 ghost use lib.ListN.{length};
-ghost use Rattle.subobject.specs.Rules.{rule11, bitsAt, brokenBy};
+ghost use Rattle.forms.specs.Sized.{Sized};
+ghost use Rattle.subobject.specs.Layout.{sidPlace};
+ghost use Rattle.subobject.specs.Rules.{rule11, rule29, rule30, bitsAt, labelAt, timeAt, subjectBy, brokenBy, placeBy};
+use forms::Form;
 use subobject::Head;
 
 // how many rules a subobject has, and their order
-pub const RULES: usize = 5;
+pub const RULES: usize = 7;
 
-pub const ORDER: [usize; 5] = [
+pub const ORDER: [usize; 7] = [
     answers::NAI_UNKNOWN,
     answers::NOTHING_THERE,
     answers::LENGTH_WRONG,
     answers::SID_NEEDED,
     answers::STRUCTURE_TOO_LONG,
+    answers::LABEL_VALUE,
+    answers::LABEL_FORMAT,
 ];
 
+// The place that a refusal by this number names, for the subobject at `at`.
+pub fn place(number: usize, at: usize) -> usize
+    ensures place { λ r. ⌜ r ≡ placeBy number at ⌝ }
+{
+    if number == answers::NAI_UNKNOWN {
+        return at;
+    }
+    if number == answers::NOTHING_THERE {
+        return at;
+    }
+    if number == answers::LENGTH_WRONG {
+        return at;
+    }
+    if number == answers::SID_NEEDED {
+        return at;
+    }
+    if number == answers::STRUCTURE_TOO_LONG {
+        return at;
+    }
+    0
+}
+
 // 11 for the subobject at `at`. Only a structure's octets are read.
-fn too_long(s: &[u8], at: usize, h: Head) -> bool
-    requires { ⌜ at < length (now s) ⌝ }
-    ensures broken { λ r. ⌜ r ≡ rule11 h (bitsAt (now (s .entry)) at h) ⌝ }
+pub fn too_long(form: Form, s: &[u8], at: usize, h: Head) -> bool
+    requires { ⌜ (at < length (now s)) × Sized form ⌝ }
+    ensures broken { λ r. ⌜ r ≡ rule11 h (bitsAt form (now (s .entry)) at h) ⌝ }
 {
     if subobject::structured(h) {
-        let nai = subobject::nai_length(h.nt);
-        return subobject_rules::eleven(
-            h,
-            subobject_rules::sum_at(
-                s,
-                at + subobject::FIXED_LENGTH + subobject::SID_LENGTH + nai,
-            ),
-        );
+        let fixed = octets::wide(form.fixed);
+        let sid = octets::wide(form.sid);
+        let nai = forms::nai_length(form, h.nt);
+        return subobject_rules::eleven(h, subobject_rules::sum_at(s, at + fixed + sid + nai));
+    }
+    false
+}
+
+// 29 for the subobject at `at`. Only a label's octets are read.
+pub fn bad_label(form: Form, s: &[u8], at: usize, h: Head) -> bool
+    requires { ⌜ (at < length (now s)) × Sized form ⌝ }
+    ensures broken { λ r. ⌜ r ≡ rule29 h (labelAt (now (s .entry)) (sidPlace form at)) ⌝ }
+{
+    if subobject_rules::labelled(h) {
+        let p = at + octets::wide(form.fixed);
+        return subobject_rules::twenty_nine(h, subobject_rules::label_at(s, p));
+    }
+    false
+}
+
+// 30 for the subobject at `at`.
+pub fn bad_format(form: Form, s: &[u8], at: usize, h: Head) -> bool
+    requires { ⌜ (at < length (now s)) × Sized form ⌝ }
+    ensures broken { λ r. ⌜ r ≡ rule30 h (timeAt (now (s .entry)) (sidPlace form at)) ⌝ }
+{
+    if subobject_rules::labelled(h) {
+        let p = at + octets::wide(form.fixed);
+        return subobject_rules::thirty(h, subobject_rules::time_at(s, p));
     }
     false
 }
 
 // Whether the subobject at `at`, with the head h, breaks the rule of this number.
-pub fn breaks(s: &[u8], at: usize, h: Head, ero: bool, n: bool, number: usize) -> bool
-    requires { ⌜ at < length (now s) ⌝ }
-    ensures broken { λ r. ⌜ r ≡ brokenBy (record { head = h; bits = bitsAt (now (s .entry)) at h; ero = ero; n = n }) number ⌝ }
+pub fn breaks(form: Form, s: &[u8], at: usize, h: Head, ero: bool, n: bool, number: usize) -> bool
+    requires { ⌜ (at < length (now s)) × Sized form ⌝ }
+    ensures broken { λ r. ⌜ r ≡ brokenBy (subjectBy form h (now (s .entry)) ero n at) number ⌝ }
 {
     if number == answers::NAI_UNKNOWN {
-        return subobject_rules::eight(h);
+        return subobject_rules::eight(form, h);
     }
     if number == answers::NOTHING_THERE {
         return subobject_rules::nine(h);
     }
     if number == answers::LENGTH_WRONG {
-        return subobject_rules::seven(h);
+        return subobject_rules::seven(form, h);
     }
     if number == answers::SID_NEEDED {
         return subobject_rules::ten(h, ero, n);
     }
     if number == answers::STRUCTURE_TOO_LONG {
-        return too_long(s, at, h);
+        return too_long(form, s, at, h);
+    }
+    if number == answers::LABEL_VALUE {
+        return bad_label(form, s, at, h);
+    }
+    if number == answers::LABEL_FORMAT {
+        return bad_format(form, s, at, h);
     }
     false
 }

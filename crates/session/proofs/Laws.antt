@@ -1,17 +1,39 @@
 -- Laws of the session of two answers, in the order of specs/Sessions.
 use Prim.Native.Nat.{ℕ}
 use mathlib.Core.Path.{_≡_, refl}
-use mathlib.Core.Bool.{Bool, true, false, _&&_}
+use mathlib.Core.Bool.{Bool, true, false}
 use borrow.Author.Tests.{ne-eqb}
+use lib.Dec.{eqb}
+use Rattle.objects.specs.Objects.{mplsSetup}
 use Rattle.answers.proofs.Determined.{determined}
 use Rattle.session.specs.declared.Limit.{Limit}
 use Rattle.session.specs.declared.Opened.{Opened}
 use Rattle.session.specs.declared.Session.{Session}
-use Rattle.session.specs.Sessions.{openRefused, openCarries, withoutSrv6, carries, agreedBy, agreedOn, notAgreedOn, sessionOf}
+use Rattle.session.specs.declared.Sessions.{Sessions}
+use Rattle.session.specs.Sessions.{
+  openRefused,
+  openCarries,
+  withoutSrv6,
+  withMpls,
+  carries,
+  carriesMpls,
+  agreedBy,
+  mplsAgreedBy,
+  agreedOn,
+  mplsAgreedOn,
+  notAgreedOn,
+  sessionOf,
+  mplsSessionOf,
+  sessionsOf,
+  sessionUnder,
+}
 
 -- A refused OPEN carries no SRv6, whatever else the answer holds.
 pub refused-carries-nothing : (o : Opened) → (o .number ≡ 0 → ⊥) → carries o ≡ false
 refused-carries-nothing o h = rw (ne-eqb (o .number) 0 h)
+
+pub refused-carries-no-mpls : (o : Opened) → (o .number ≡ 0 → ⊥) → carriesMpls o ≡ false
+refused-carries-no-mpls o h = rw (ne-eqb (o .number) 0 h)
 
 -- Without SRv6 agreed N is 0 and there is no limit.
 pub not-agreed : (pcc pce : Opened) → agreedBy pcc pce ≡ false → sessionOf pcc pce ≡ notAgreedOn
@@ -23,9 +45,30 @@ pub agreed : (pcc pce : Opened) → agreedBy pcc pce ≡ true → sessionOf pcc 
 unfolding sessionOf
 agreed pcc pce e = rw e
 
+-- The same of MPLS.
+pub mpls-not-agreed : (pcc pce : Opened) → mplsAgreedBy pcc pce ≡ false → mplsSessionOf pcc pce ≡ notAgreedOn
+unfolding mplsSessionOf
+mpls-not-agreed pcc pce e = rw e
+
+pub mpls-agreed : (pcc pce : Opened) → mplsAgreedBy pcc pce ≡ true → mplsSessionOf pcc pce ≡ mplsAgreedOn pcc
+unfolding mplsSessionOf
+mpls-agreed pcc pce e = rw e
+
+-- The session of a PST.
+pub under-mpls : (both : Sessions) (pst : ℕ) → eqb pst mplsSetup ≡ true → sessionUnder both pst ≡ both .mpls
+unfolding sessionUnder
+under-mpls both pst e = rw e
+
+pub under-srv6 : (both : Sessions) (pst : ℕ) → eqb pst mplsSetup ≡ false → sessionUnder both pst ≡ both .srv6
+unfolding sessionUnder
+under-srv6 both pst e = rw e
+
 -- Any two answers that fit the contract of a call are equal.
-pub refused_open-determined : (number : ℕ) (x y : Opened) → x ≡ openRefused number → y ≡ openRefused number → x ≡ y
-refused_open-determined number x y = determined
+pub refused_open-determined : (number form : ℕ) (x y : Opened) → x ≡ openRefused number form → y ≡ openRefused number form → x ≡ y
+refused_open-determined number form x y = determined
+
+pub with_mpls-determined : (o : Opened) (n : Bool) (limit : Limit) (x y : Opened) → x ≡ withMpls o n limit → y ≡ withMpls o n limit → x ≡ y
+with_mpls-determined o n limit x y = determined
 
 pub carried-determined : (srv6 n : Bool) (limit : Limit) (a r : Bool) (v m : ℕ) (x y : Opened)
     → x ≡ openCarries srv6 n limit a r v m → y ≡ openCarries srv6 n limit a r v m → x ≡ y
@@ -34,5 +77,8 @@ carried-determined srv6 n limit a r v m x y = determined
 pub without_srv6-determined : (x y : Opened) → x ≡ withoutSrv6 → y ≡ withoutSrv6 → x ≡ y
 without_srv6-determined x y = determined
 
-pub agree-determined : (pcc pce : Opened) (x y : Session) → x ≡ sessionOf pcc pce → y ≡ sessionOf pcc pce → x ≡ y
+pub agree-determined : (pcc pce : Opened) (x y : Sessions) → x ≡ sessionsOf pcc pce → y ≡ sessionsOf pcc pce → x ≡ y
 agree-determined pcc pce x y = determined
+
+pub under-determined : (both : Sessions) (pst : ℕ) (x y : Session) → x ≡ sessionUnder both pst → y ≡ sessionUnder both pst → x ≡ y
+under-determined both pst x y = determined

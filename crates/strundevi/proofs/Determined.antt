@@ -5,7 +5,7 @@ use mathlib.Core.List.{List}
 use Rattle.answers.proofs.Determined.{determined}
 use Rattle.board_record.specs.declared.record.Board.{Board}
 use Rattle.board_record.specs.Record.{emptyBoard}
-use Rattle.session.specs.Sessions.{sessionOf}
+use Rattle.session.specs.Sessions.{sessionsOf}
 use Rattle.open.specs.Open.{openOf}
 use Rattle.route_call.specs.Called.{judgedFor, segmentFor}
 use Rattle.subobject.specs.Segments.{segmentWith}
@@ -17,7 +17,7 @@ use Rattle.border_records.specs.declared.opened.OpenedRecord.{OpenedRecord}
 use Rattle.border_records.specs.declared.agreement.SessionRecord.{SessionRecord}
 use Rattle.border_records.specs.declared.setup.SetupRecord.{SetupRecord}
 use Rattle.border_segment.specs.declared.segment.OutlineRecord.{OutlineRecord}
-use Rattle.border_records.specs.Records.{isYes, openedIn, openedOut, sessionIn, sessionOut, setupIn, verdictOut}
+use Rattle.border_records.specs.Records.{isYes, openedIn, openedOut, sessionsIn, sessionsOut, setupIn, verdictOut}
 use Rattle.route_step.specs.Steps.{stepOf}
 use Rattle.border_segment.specs.Segments.{outlineIn, pickedOut, steppedOut}
 use Rattle.border_segment.specs.declared.picking.PickedRecord.{PickedRecord}
@@ -39,23 +39,23 @@ one z x y = determined
 pub read-open-determined : (p : SetupRecord) (s : List ℕ) → One (openedOut (openOf (setupIn p) s))
 read-open-determined p s = one _
 
-pub agree-determined : (pcc pce : OpenedRecord) → One (sessionOut (sessionOf (openedIn pcc) (openedIn pce)))
+pub agree-determined : (pcc pce : OpenedRecord) → One (sessionsOut (sessionsOf (openedIn pcc) (openedIn pce)))
 agree-determined pcc pce = one _
 
 pub judge-determined : (s : List ℕ) (ero : ℕ) (session : SessionRecord) (pst : ℕ) (addresses : List ℕ)
-    → One (verdictOut (judgedFor s (isYes ero) (sessionIn session) pst addresses))
+    → One (verdictOut (judgedFor s (isYes ero) (sessionsIn session) pst addresses))
 judge-determined s ero session pst addresses = one _
 
 pub segment-determined : (s : List ℕ) (ero : ℕ) (session : SessionRecord) (pst : ℕ) (addresses : List ℕ) (i : ℕ)
-    → One (pickedOut (segmentFor s (isYes ero) (sessionIn session) pst addresses i))
+    → One (pickedOut (segmentFor s (isYes ero) (sessionsIn session) pst addresses i))
 segment-determined s ero session pst addresses i = one _
 
-pub step-determined : (s : List ℕ) (ero at : ℕ) → One (steppedOut (stepOf s (isYes ero) at))
-step-determined s ero at = one _
+pub step-determined : (s : List ℕ) (ero pst at : ℕ) → One (steppedOut (stepOf s (isYes ero) pst at))
+step-determined s ero pst at = one _
 
-pub begin-determined : (b : List ℕ) (w : WriterRecord) (ero : ℕ)
-    → One (writtenOut (beginAnswer b (writerIn w) (isYes ero))) × One (beginBuffer b (writerIn w) (isYes ero))
-begin-determined b w ero = (one _, one _)
+pub begin-determined : (b : List ℕ) (w : WriterRecord) (ero pst : ℕ)
+    → One (writtenOut (beginAnswer b (writerIn w) (isYes ero) pst)) × One (beginBuffer b (writerIn w) (isYes ero))
+begin-determined b w ero pst = (one _, one _)
 
 pub add-determined : (b : List ℕ) (w : WriterRecord) (o : OutlineRecord) (sid nai structure : List ℕ)
     → One (writtenOut (addAnswer b (writerIn w) (segmentWith (outlineIn o) sid nai structure)))
@@ -69,8 +69,8 @@ pub empty-determined : One emptyBoard
 empty-determined = one _
 
 pub report-determined : (b : Board) (store : List ℕ) (k : ℕ) (ero : List ℕ) (session : SessionRecord) (pst : ℕ) (addresses : List ℕ)
-    → One (verdictOut (reportForOn b store k ero (sessionIn session) pst addresses .verdict)) × One (reportForOn b store k ero (sessionIn session) pst addresses .board)
-    × One (reportStoreForOn b store k ero (sessionIn session) pst addresses)
+    → One (verdictOut (reportForOn b store k ero (sessionsIn session) pst addresses .verdict)) × One (reportForOn b store k ero (sessionsIn session) pst addresses .board)
+    × One (reportStoreForOn b store k ero (sessionsIn session) pst addresses)
 report-determined b store k ero session pst addresses = (one _, one _, one _)
 
 pub remove-determined : (b : Board) (store : List ℕ) (k : ℕ) → One (verdictOut (removeOn b store k .verdict)) × One (removeOn b store k .board)

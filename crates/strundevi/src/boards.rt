@@ -3,9 +3,9 @@ ghost use mathlib.Core.Path.{_≡_};
 ghost use Rattle.board_record.specs.Table.{tableOf};
 ghost use Rattle.board_record.specs.Record.{withRows, emptyBoard};
 ghost use Rattle.octets.specs.Octets.{part};
-ghost use Rattle.board_rules.specs.OnRecord.{removeOn, compactOn, bodyOn, nextOn, movedOn};
+ghost use Rattle.board_rules.specs.OnRecord.{removeOn, compactOn, bodyOn, bodyFormOn, nextOn, movedOn};
 ghost use Rattle.report_call.specs.Reported.{reportForOn, reportStoreForOn};
-ghost use Rattle.border_records.specs.Records.{sessionIn, verdictOut};
+ghost use Rattle.border_records.specs.Records.{sessionsIn, verdictOut};
 ghost use Rattle.border_answers.specs.Handing.{changeOut};
 ghost use Rattle.border_looks.specs.Looks.{partOut, freshOut};
 use border_answers::ChangeRecord;
@@ -24,12 +24,13 @@ pub extern "C" fn strundevi_raw_empty(
     floor: &mut u64,
     order: &mut [u8; 128],
     tops: &mut [u64; 16],
+    forms: &mut [u8; 128],
 )
     ensures empty { λ _.
-        let after = tableOf (now (keys .exit)) (now (versions .exit)) (now (lengths .exit)) (now (version .exit)) (now (floor .exit)) in
+        let after = tableOf (now (keys .exit)) (now (versions .exit)) (now (lengths .exit)) (now (version .exit)) (now (floor .exit)) (now (forms .exit)) in
         ⌜ withRows after (now (order .exit)) (now (tops .exit)) ≡ emptyBoard ⌝ }
 {
-    border_board::empty(keys, versions, lengths, version, floor, order, tops);
+    border_board::empty(keys, versions, lengths, version, floor, order, tops, forms);
 }
 
 // Reports a path.
@@ -42,6 +43,7 @@ pub extern "C" fn strundevi_raw_report(
     floor: &mut u64,
     order: &mut [u8; 128],
     tops: &mut [u64; 16],
+    forms: &mut [u8; 128],
     store: &mut [u8],
     key: u64,
     ero: &[u8],
@@ -50,15 +52,15 @@ pub extern "C" fn strundevi_raw_report(
     addresses: &[u8],
 ) -> VerdictRecord
     ensures verdict { λ r.
-        let before = withRows (tableOf (now (keys .entry)) (now (versions .entry)) (now (lengths .entry)) (now (version .entry)) (now (floor .entry))) (now (order .entry)) (now (tops .entry)) in
-        ⌜ r ≡ verdictOut (reportForOn before (now (store .entry)) key (now (ero .entry)) (sessionIn session) pst (now (addresses .entry)) .verdict) ⌝ }
+        let before = withRows (tableOf (now (keys .entry)) (now (versions .entry)) (now (lengths .entry)) (now (version .entry)) (now (floor .entry)) (now (forms .entry))) (now (order .entry)) (now (tops .entry)) in
+        ⌜ r ≡ verdictOut (reportForOn before (now (store .entry)) key (now (ero .entry)) (sessionsIn session) pst (now (addresses .entry)) .verdict) ⌝ }
     ensures board { λ _.
-        let before = withRows (tableOf (now (keys .entry)) (now (versions .entry)) (now (lengths .entry)) (now (version .entry)) (now (floor .entry))) (now (order .entry)) (now (tops .entry)) in
-        let after = withRows (tableOf (now (keys .exit)) (now (versions .exit)) (now (lengths .exit)) (now (version .exit)) (now (floor .exit))) (now (order .exit)) (now (tops .exit)) in
-        ⌜ after ≡ reportForOn before (now (store .entry)) key (now (ero .entry)) (sessionIn session) pst (now (addresses .entry)) .board ⌝ }
+        let before = withRows (tableOf (now (keys .entry)) (now (versions .entry)) (now (lengths .entry)) (now (version .entry)) (now (floor .entry)) (now (forms .entry))) (now (order .entry)) (now (tops .entry)) in
+        let after = withRows (tableOf (now (keys .exit)) (now (versions .exit)) (now (lengths .exit)) (now (version .exit)) (now (floor .exit)) (now (forms .exit))) (now (order .exit)) (now (tops .exit)) in
+        ⌜ after ≡ reportForOn before (now (store .entry)) key (now (ero .entry)) (sessionsIn session) pst (now (addresses .entry)) .board ⌝ }
     ensures octets { λ _.
-        let before = withRows (tableOf (now (keys .entry)) (now (versions .entry)) (now (lengths .entry)) (now (version .entry)) (now (floor .entry))) (now (order .entry)) (now (tops .entry)) in
-        ⌜ now (store .exit) ≡ reportStoreForOn before (now (store .entry)) key (now (ero .entry)) (sessionIn session) pst (now (addresses .entry)) ⌝ }
+        let before = withRows (tableOf (now (keys .entry)) (now (versions .entry)) (now (lengths .entry)) (now (version .entry)) (now (floor .entry)) (now (forms .entry))) (now (order .entry)) (now (tops .entry)) in
+        ⌜ now (store .exit) ≡ reportStoreForOn before (now (store .entry)) key (now (ero .entry)) (sessionsIn session) pst (now (addresses .entry)) ⌝ }
 {
     border_board::report(
         keys,
@@ -68,6 +70,7 @@ pub extern "C" fn strundevi_raw_report(
         floor,
         order,
         tops,
+        forms,
         store,
         key,
         ero,
@@ -87,15 +90,16 @@ pub extern "C" fn strundevi_raw_remove(
     floor: u64,
     order: &mut [u8; 128],
     tops: &mut [u64; 16],
+    forms: &mut [u8; 128],
     store: &[u8],
     key: u64,
 ) -> VerdictRecord
     ensures verdict { λ r.
-        let before = withRows (tableOf (now (keys .entry)) (now (versions .entry)) (now (lengths .entry)) (now (version .entry)) floor) (now (order .entry)) (now (tops .entry)) in
+        let before = withRows (tableOf (now (keys .entry)) (now (versions .entry)) (now (lengths .entry)) (now (version .entry)) floor (now (forms .entry))) (now (order .entry)) (now (tops .entry)) in
         ⌜ r ≡ verdictOut (removeOn before (now (store .entry)) key .verdict) ⌝ }
     ensures board { λ _.
-        let before = withRows (tableOf (now (keys .entry)) (now (versions .entry)) (now (lengths .entry)) (now (version .entry)) floor) (now (order .entry)) (now (tops .entry)) in
-        let after = withRows (tableOf (now (keys .entry)) (now (versions .exit)) (now (lengths .exit)) (now (version .exit)) floor) (now (order .exit)) (now (tops .exit)) in
+        let before = withRows (tableOf (now (keys .entry)) (now (versions .entry)) (now (lengths .entry)) (now (version .entry)) floor (now (forms .entry))) (now (order .entry)) (now (tops .entry)) in
+        let after = withRows (tableOf (now (keys .entry)) (now (versions .exit)) (now (lengths .exit)) (now (version .exit)) floor (now (forms .exit))) (now (order .exit)) (now (tops .exit)) in
         ⌜ after ≡ removeOn before (now (store .entry)) key .board ⌝ }
 {
     border_board::remove(
@@ -106,6 +110,7 @@ pub extern "C" fn strundevi_raw_remove(
         floor,
         order,
         tops,
+        forms,
         store,
         key,
     )
@@ -113,23 +118,24 @@ pub extern "C" fn strundevi_raw_remove(
 
 // Drops the marks with version at most c.
 #[no_mangle]
-pub extern "C" fn strundevi_raw_compact(
+pub extern "C" fn strundevi_raw_compact<'a>(
     keys: &mut [u32; 128],
     versions: &mut [u64; 128],
-    lengths: &[u16; 128],
+    lengths: &'a [u16; 128],
     version: u64,
     floor: &mut u64,
     order: &mut [u8; 128],
     tops: &mut [u64; 16],
+    forms: &'a [u8; 128],
     store: &[u8],
     c: u64,
 ) -> VerdictRecord
     ensures verdict { λ r.
-        let before = withRows (tableOf (now (keys .entry)) (now (versions .entry)) (now (lengths .entry)) version (now (floor .entry))) (now (order .entry)) (now (tops .entry)) in
+        let before = withRows (tableOf (now (keys .entry)) (now (versions .entry)) (now (lengths .entry)) version (now (floor .entry)) (now (forms .entry))) (now (order .entry)) (now (tops .entry)) in
         ⌜ r ≡ verdictOut (compactOn before (now (store .entry)) c .verdict) ⌝ }
     ensures board { λ _.
-        let before = withRows (tableOf (now (keys .entry)) (now (versions .entry)) (now (lengths .entry)) version (now (floor .entry))) (now (order .entry)) (now (tops .entry)) in
-        let after = withRows (tableOf (now (keys .exit)) (now (versions .exit)) (now (lengths .entry)) version (now (floor .exit))) (now (order .exit)) (now (tops .exit)) in
+        let before = withRows (tableOf (now (keys .entry)) (now (versions .entry)) (now (lengths .entry)) version (now (floor .entry)) (now (forms .entry))) (now (order .entry)) (now (tops .entry)) in
+        let after = withRows (tableOf (now (keys .exit)) (now (versions .exit)) (now (lengths .entry)) version (now (floor .exit)) (now (forms .entry))) (now (order .exit)) (now (tops .exit)) in
         ⌜ after ≡ compactOn before (now (store .entry)) c .board ⌝ }
 {
     border_board::compact(
@@ -140,12 +146,13 @@ pub extern "C" fn strundevi_raw_compact(
         floor,
         order,
         tops,
+        forms,
         store,
         c,
     )
 }
 
-// Where the octets of a key's path lie.
+// Where the octets of a key's path lie, and its form.
 #[no_mangle]
 pub extern "C" fn strundevi_raw_body<'a>(
     keys: &'a [u32; 128],
@@ -155,15 +162,19 @@ pub extern "C" fn strundevi_raw_body<'a>(
     floor: u64,
     order: &'a [u8; 128],
     tops: &'a [u64; 16],
+    forms: &'a [u8; 128],
     store: &[u8],
     key: u64,
 ) -> PartRecord
     ensures part { λ r.
-        let b = withRows (tableOf (now (keys .entry)) (now (versions .entry)) (now (lengths .entry)) version floor) (now (order .entry)) (now (tops .entry)) in
+        let b = withRows (tableOf (now (keys .entry)) (now (versions .entry)) (now (lengths .entry)) version floor (now (forms .entry))) (now (order .entry)) (now (tops .entry)) in
         ⌜ r ≡ partOut b (now (store .entry)) key ⌝ }
     ensures octets { λ r.
-        let b = withRows (tableOf (now (keys .entry)) (now (versions .entry)) (now (lengths .entry)) version floor) (now (order .entry)) (now (tops .entry)) in
+        let b = withRows (tableOf (now (keys .entry)) (now (versions .entry)) (now (lengths .entry)) version floor (now (forms .entry))) (now (order .entry)) (now (tops .entry)) in
         ⌜ part (now (store .entry)) (r .start) (r .length) ≡ bodyOn b (now (store .entry)) key ⌝ }
+    ensures form { λ r.
+        let b = withRows (tableOf (now (keys .entry)) (now (versions .entry)) (now (lengths .entry)) version floor (now (forms .entry))) (now (order .entry)) (now (tops .entry)) in
+        ⌜ r .form ≡ bodyFormOn b (now (store .entry)) key ⌝ }
 {
     border_looks::body(
         keys,
@@ -173,6 +184,7 @@ pub extern "C" fn strundevi_raw_body<'a>(
         floor,
         order,
         tops,
+        forms,
         store,
         key,
     )
@@ -188,12 +200,13 @@ pub extern "C" fn strundevi_raw_next<'a>(
     floor: u64,
     order: &'a [u8; 128],
     tops: &'a [u64; 16],
+    forms: &'a [u8; 128],
     store: &[u8],
     s: u64,
     w: u64,
 ) -> ChangeRecord
     ensures next { λ r.
-        let b = withRows (tableOf (now (keys .entry)) (now (versions .entry)) (now (lengths .entry)) version floor) (now (order .entry)) (now (tops .entry)) in
+        let b = withRows (tableOf (now (keys .entry)) (now (versions .entry)) (now (lengths .entry)) version floor (now (forms .entry))) (now (order .entry)) (now (tops .entry)) in
         ⌜ r ≡ changeOut (nextOn b (now (store .entry)) s w) ⌝ }
 {
     border_looks::next(
@@ -204,6 +217,7 @@ pub extern "C" fn strundevi_raw_next<'a>(
         floor,
         order,
         tops,
+        forms,
         store,
         s,
         w,
@@ -220,13 +234,14 @@ pub extern "C" fn strundevi_raw_moved<'a>(
     floor: u64,
     order: &'a [u8; 128],
     tops: &'a [u64; 16],
+    forms: &'a [u8; 128],
     store: &[u8],
     from: u64,
     to: u64,
     v: u64,
 ) -> VerdictRecord
     ensures moved { λ r.
-        let b = withRows (tableOf (now (keys .entry)) (now (versions .entry)) (now (lengths .entry)) version floor) (now (order .entry)) (now (tops .entry)) in
+        let b = withRows (tableOf (now (keys .entry)) (now (versions .entry)) (now (lengths .entry)) version floor (now (forms .entry))) (now (order .entry)) (now (tops .entry)) in
         ⌜ r ≡ verdictOut (movedOn b (now (store .entry)) from to v) ⌝ }
 {
     border_looks::moved(
@@ -237,6 +252,7 @@ pub extern "C" fn strundevi_raw_moved<'a>(
         floor,
         order,
         tops,
+        forms,
         store,
         from,
         to,

@@ -1,8 +1,8 @@
-// Reading an OPEN object, and the session of two answers.
+// Reading an OPEN object, and the sessions of two answers.
 ghost use mathlib.Core.Path.{_≡_};
-ghost use Rattle.session.specs.Sessions.{sessionOf};
+ghost use Rattle.session.specs.Sessions.{sessionsOf};
 ghost use Rattle.open.specs.Open.{openOf};
-ghost use Rattle.border_records.specs.Records.{openedIn, openedOut, sessionOut, setupIn};
+ghost use Rattle.border_records.specs.Records.{openedIn, openedOut, sessionsOut, setupIn};
 use border_records::OpenedRecord;
 use border_records::SessionRecord;
 use border_records::SetupRecord;
@@ -15,10 +15,10 @@ pub extern "C" fn strundevi_raw_read_open(setup: SetupRecord, octets: &[u8]) -> 
     border_open::read_open(setup, octets)
 }
 
-// The session of the PCC's and the PCE's answers.
+// The sessions of the PCC's and the PCE's answers.
 #[no_mangle]
 pub extern "C" fn strundevi_raw_agree(pcc: OpenedRecord, pce: OpenedRecord) -> SessionRecord
-    ensures session { λ r. ⌜ r ≡ sessionOut (sessionOf (openedIn pcc) (openedIn pce)) ⌝ }
+    ensures sessions { λ r. ⌜ r ≡ sessionsOut (sessionsOf (openedIn pcc) (openedIn pce)) ⌝ }
 {
     border_open::agree(pcc, pce)
 }

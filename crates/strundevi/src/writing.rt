@@ -9,17 +9,18 @@ use border_answers::WriterRecord;
 use border_answers::WrittenRecord;
 use border_segment::OutlineRecord;
 
-// Writes the header with length 4.
+// Writes the header with length 4. The setup type names the form, SRv6's if it names none, and the state keeps it.
 #[no_mangle]
 pub extern "C" fn strundevi_raw_begin(
     buffer: &mut [u8],
     writer: WriterRecord,
     ero: u8,
+    pst: u64,
 ) -> WrittenRecord
-    ensures answer { λ r. ⌜ r ≡ writtenOut (beginAnswer (now (buffer .entry)) (writerIn writer) (isYes ero)) ⌝ }
+    ensures answer { λ r. ⌜ r ≡ writtenOut (beginAnswer (now (buffer .entry)) (writerIn writer) (isYes ero) pst) ⌝ }
     ensures octets { λ _. ⌜ now (buffer .exit) ≡ beginBuffer (now (buffer .entry)) (writerIn writer) (isYes ero) ⌝ }
 {
-    border_writing::begin(buffer, writer, ero)
+    border_writing::begin(buffer, writer, ero, pst)
 }
 
 // Writes a segment from the present place on. The segment's octets are lent.

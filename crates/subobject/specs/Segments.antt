@@ -6,32 +6,36 @@ use mathlib.Core.List.{List, [], _∷_, _++_}
 use lib.Dec.{eqb}
 use lib.ListN.{take, replicate}
 use Rattle.octets.specs.Octets.{be16, hi, lo, partOf}
+use Rattle.forms.specs.declared.Form.{Form}
+use Rattle.forms.specs.Forms.{naiLength}
 use Rattle.subobject.specs.declared.head.Head.{Head}
 use Rattle.subobject.specs.declared.segment.Outline.{Outline}
 use Rattle.subobject.specs.declared.segment.Segment.{Segment}
-use Rattle.subobject.specs.Layout.{srv6Kind, noNai, naiSize, naiLength, behaviourPlace, sidSize, sidLength, bitLengths, expectedLength, sidPlace, naiPlace, structurePlace, headAt}
-use Rattle.subobject.specs.Layout.{worthL, worthNT, worthV, worthT, worthF}
+use Rattle.subobject.specs.Layout.{noNai, naiSize, behaviourPlace, sidSize, sidLength, bitLengths, expectedLength, sidPlace, naiPlace, structurePlace, headAt}
+use Rattle.subobject.specs.Layout.{worthL, worthNT}
 use Rattle.subobject.specs.Rules.{flagF, hasStructure, sumAt}
 
 -- reading ------------------------------------------------------------------------------------------------------
 
 -- What the octets at a place say, by the head found there. "Octets kept for a part that is absent or shorter are 0."
-abbrev pub segmentBy : Head → List ℕ → ℕ → Segment
-segmentBy h s at =
+abbrev pub segmentBy : Form → Head → List ℕ → ℕ → Segment
+segmentBy form h s at =
     record {
       loose = eqb (h .l) 1;
       verify = eqb (h .v) 1;
       nt = h .nt;
-      behaviour = be16 s (at + behaviourPlace);
+      behaviour = cond (form .behaves) (be16 s (at + behaviourPlace)) 0;
       hassid = eqb (h .s) 0;
-      sid = partOf s (sidPlace at) (sidLength (h .s)) sidSize;
-      nai = partOf s (naiPlace at (h .s)) (naiLength (h .nt)) naiSize;
+      sid = partOf s (sidPlace form at) (sidLength form (h .s)) sidSize;
+      nai = partOf s (naiPlace form at (h .s)) (naiLength form (h .nt)) naiSize;
       structured = hasStructure h;
-      structure = partOf s (structurePlace at (h .nt)) (cond (hasStructure h) bitLengths 0) bitLengths;
+      structure = partOf s (structurePlace form at (h .nt)) (cond (hasStructure h) bitLengths 0) bitLengths;
+      labelled = eqb (h .m) 1;
+      complete = eqb (h .c) 1;
     }
 
-unfoldable pub segmentAt : List ℕ → Bool → ℕ → Segment
-segmentAt s ero at = segmentBy (headAt s ero at) s at
+unfoldable pub segmentAt : Form → List ℕ → Bool → ℕ → Segment
+segmentAt form s ero at = segmentBy form (headAt form s ero at) s at
 
 -- The segment that comes with a refusal.
 abbrev pub noSegment : Segment
@@ -46,6 +50,8 @@ noSegment =
       nai = replicate naiSize 0;
       structured = false;
       structure = replicate bitLengths 0;
+      labelled = false;
+      complete = false;
     }
 
 -- writing ------------------------------------------------------------------------------------------------------
@@ -63,6 +69,8 @@ outlineOf g =
       behaviour = g .behaviour;
       hassid = g .hassid;
       structured = g .structured;
+      labelled = g .labelled;
+      complete = g .complete;
     }
 
 -- The segment of an outline, a SID, an NAI and four bit lengths.
@@ -78,46 +86,53 @@ segmentWith o sid nai structure =
       nai = nai;
       structured = o .structured;
       structure = structure;
+      labelled = o .labelled;
+      complete = o .complete;
     }
 
 -- The head that a segment is written with: "F follows from NT"; the length is the expected one.
-abbrev pub headOfOutline : Outline → Head
-headOfOutline o =
+abbrev pub headOfOutline : Form → Outline → Head
+headOfOutline form o =
     record {
-      kind = srv6Kind;
-      size = expectedLength (o .nt) (bit (not (o .hassid))) (bit (o .structured));
+      kind = form .kind;
+      size = expectedLength form (o .nt) (bit (not (o .hassid))) (bit (o .structured));
       nt = o .nt;
       s = bit (not (o .hassid));
       f = flagF (o .nt);
       t = bit (o .structured);
       v = bit (o .verify);
       l = bit (o .loose);
+      c = bit (o .complete);
+      m = bit (o .labelled);
     }
 
-unfoldable pub headOfSegment : Segment → Head
-headOfSegment g = headOfOutline (outlineOf g)
+unfoldable pub headOfSegment : Form → Segment → Head
+headOfSegment form g = headOfOutline form (outlineOf g)
 
--- The first eight octets. "Padding, reserved octets and unassigned bits are written as 0."
-unfoldable pub fixedOctets : Head → ℕ → List ℕ
-fixedOctets h behaviour =
+-- Octet 3: each flag at what it is worth.
+unfoldable pub flagsOctet : Form → Head → ℕ
+flagsOctet form h = h .v * form .v + h .t * form .t + h .f * form .f + h .s * form .s + h .c * form .c + h .m * form .m
+
+-- The octets before the SID. "Padding, reserved octets and unassigned bits are written as 0."
+unfoldable pub fixedOctets : Form → Head → ℕ → List ℕ
+fixedOctets form h behaviour =
     (h .l * worthL + h .kind)
     ∷ h .size
     ∷ (h .nt * worthNT)
-    ∷ (h .v * worthV + h .t * worthT + h .f * worthF + h .s)
-    ∷ 0 ∷ 0
-    ∷ hi behaviour ∷ lo behaviour ∷ []
+    ∷ flagsOctet form h
+    ∷ cond (form .behaves) (0 ∷ 0 ∷ hi behaviour ∷ lo behaviour ∷ []) []
 
 -- "SID structure, 8: four bit lengths, 3 reserved, 1 flags."
 abbrev pub structureOctets : List ℕ → List ℕ
 structureOctets bits = take bitLengths bits ++ 0 ∷ 0 ∷ 0 ∷ 0 ∷ []
 
--- The octets of a segment: "SID, 16, if S is 0", NAI, "SID structure, 8, if T is 1 and S is 0".
-unfoldable pub subobjectOf : Segment → List ℕ
-subobjectOf g =
-    fixedOctets (headOfSegment g) (g .behaviour)
-    ++ (take (sidLength (headOfSegment g .s)) (g .sid)
-    ++ (take (naiLength (g .nt)) (g .nai)
-    ++ cond (hasStructure (headOfSegment g)) (structureOctets (g .structure)) []))
+-- The octets of a segment: SID "if S is 0", NAI, "SID structure, 8, if T is 1 and S is 0".
+unfoldable pub subobjectOf : Form → Segment → List ℕ
+subobjectOf form g =
+    fixedOctets form (headOfSegment form g) (g .behaviour)
+    ++ (take (sidLength form (headOfSegment form g .s)) (g .sid)
+    ++ (take (naiLength form (g .nt)) (g .nai)
+    ++ cond (hasStructure (headOfSegment form g)) (structureOctets (g .structure)) []))
 
 -- The sum of a segment's four bit lengths.
 unfoldable pub bitsOf : Segment → ℕ

@@ -8,6 +8,7 @@ ghost use Rattle.subobject.specs.Rules.{hasStructure};
 ghost use Rattle.subobject.specs.Segments.{headOfOutline};
 use super::parts;
 use super::segment::Outline;
+use forms::Form;
 
 pub struct Head {
     pub kind: usize,
@@ -18,6 +19,8 @@ pub struct Head {
     pub t: usize,
     pub v: usize,
     pub l: usize,
+    pub c: usize,
+    pub m: usize,
 }
 
 // A bit as a number.
@@ -42,9 +45,9 @@ fn only(ero: bool, x: usize) -> usize
 }
 
 // The head of the subobject at `at`.
-pub fn head_at(s: &[u8], at: usize, ero: bool) -> Head
+pub fn head_at(form: Form, s: &[u8], at: usize, ero: bool) -> Head
     requires { ⌜ at + 4 ≤ length (now s) ⌝ }
-    ensures read { λ r. ⌜ r ≡ headAt (now (s .entry)) ero at ⌝ }
+    ensures read { λ r. ⌜ r ≡ headAt form (now (s .entry)) ero at ⌝ }
     ensures small { λ r. ⌜ (r .size < 256) × (r .nt < 16) ⌝ }
 {
     let first = octets::wide(s[at]);
@@ -55,31 +58,35 @@ pub fn head_at(s: &[u8], at: usize, ero: bool) -> Head
         kind: kind(first, ero),
         size: size,
         nt: high / parts::WORTH_NT,
-        s: low % 2,
-        f: low / parts::WORTH_F % 2,
-        t: low / parts::WORTH_T % 2,
-        v: only(ero, low / parts::WORTH_V % 2),
+        s: forms::flag(low, form.s),
+        f: forms::flag(low, form.f),
+        t: forms::flag(low, form.t),
+        v: only(ero, forms::flag(low, form.v)),
         l: only(ero, first / parts::WORTH_L),
+        c: forms::flag(low, form.c),
+        m: forms::flag(low, form.m),
     }
 }
 
 // The head that a segment is written with: F follows from NT, the length is the expected one.
-pub fn head_of(o: Outline) -> Head
-    ensures head { λ r. ⌜ r ≡ headOfOutline o ⌝ }
-    ensures bits { λ r. ⌜ (r .size ≤ longest) × (r .nt < 256) × (r .s ≤ 1) × (r .f ≤ 1) × (r .t ≤ 1) × (r .v ≤ 1) × (r .l ≤ 1) ⌝ }
+pub fn head_of(form: Form, o: Outline) -> Head
+    ensures head { λ r. ⌜ r ≡ headOfOutline form o ⌝ }
+    ensures bits { λ r. ⌜ (r .size ≤ longest) × (r .nt < 256) × (r .s ≤ 1) × (r .f ≤ 1) × (r .t ≤ 1) × (r .v ≤ 1) × (r .l ≤ 1) × (r .c ≤ 1) × (r .m ≤ 1) ⌝ }
 {
     let nt = octets::wide(o.nt);
     let s = bit(!o.hassid);
     let t = bit(o.structured);
     Head {
-        kind: parts::SRV6,
-        size: parts::expected(nt, s, t),
+        kind: octets::wide(form.kind),
+        size: parts::expected(form, nt, s, t),
         nt: nt,
         s: s,
         f: bit(nt == parts::NO_NAI),
         t: t,
         v: bit(o.verify),
         l: bit(o.loose),
+        c: bit(o.complete),
+        m: bit(o.labelled),
     }
 }
 

@@ -1,10 +1,8 @@
 // The parts of a subobject, and the length that is expected of it.
 ghost use mathlib.Core.Path.{_≡_};
 ghost use Prim.Native.Nat.{_+_, _≤_};
-ghost use Rattle.subobject.specs.Layout.{naiSize, naiLength, structureThere, expectedLength, longest};
-
-// the type of an SRv6 subobject
-pub const SRV6: usize = 40;
+ghost use Rattle.subobject.specs.Layout.{structureThere, expectedLength, longest};
+use forms::Form;
 
 // values of NT
 pub const NO_NAI: usize = 0;
@@ -15,21 +13,13 @@ pub const ADJACENCY: usize = 4;
 
 pub const LINK_LOCAL: usize = 6;
 
-// the NAI of a node, an adjacency, a link-local adjacency, which is the longest
-pub const NODE_LENGTH: usize = 16;
-
-pub const ADJACENCY_LENGTH: usize = 32;
-
-pub const LINK_LOCAL_LENGTH: usize = 40;
-
+// what a segment keeps for an NAI and for a SID
 pub const NAI_LENGTH: usize = 40;
 
-// what stands in every subobject, and in it the endpoint behaviour; the SID; the SID structure and its four bit lengths
-pub const FIXED_LENGTH: usize = 8;
-
-pub const BEHAVIOUR_PLACE: usize = 6;
-
 pub const SID_LENGTH: usize = 16;
+
+// the endpoint behaviour; the SID structure and its four bit lengths
+pub const BEHAVIOUR_PLACE: usize = 6;
 
 pub const STRUCTURE_LENGTH: usize = 8;
 
@@ -38,32 +28,10 @@ pub const BIT_LENGTHS: usize = 4;
 // what four bit lengths may sum to
 pub const MOST_BITS: usize = 128;
 
-// what the lowest bits of L, NT, V, T and F are worth in their octets; S is the lowest bit of its own
+// what the lowest bits of L and NT are worth in their octets
 pub const WORTH_L: usize = 128;
 
 pub const WORTH_NT: usize = 16;
-
-pub const WORTH_V: usize = 8;
-
-pub const WORTH_T: usize = 4;
-
-pub const WORTH_F: usize = 2;
-
-// The octets of the NAI.
-pub fn nai_length(nt: usize) -> usize
-    ensures length { λ r. ⌜ (r ≡ naiLength nt) × (r ≤ naiSize) ⌝ }
-{
-    if nt == NODE {
-        return NODE_LENGTH;
-    }
-    if nt == ADJACENCY {
-        return ADJACENCY_LENGTH;
-    }
-    if nt == LINK_LOCAL {
-        return LINK_LOCAL_LENGTH;
-    }
-    0
-}
 
 // Whether a SID structure is there: T is 1 and S is 0. T is ignored where S is 1.
 pub fn structure_there(s: usize, t: usize) -> bool
@@ -80,16 +48,18 @@ fn sum_of(fixed: usize, sid: usize, nai: usize, structure: usize) -> usize
     fixed + sid + nai + structure
 }
 
-// The expected length for NT, S and T: 8 plus the parts present, the SID's 16 if S is 0, the NAI's, the structure's 8 if T is 1
+// The expected length for NT, S and T: the fixed part plus the parts present, the SID's octets if S is 0, the NAI's, the structure's 8 if T is 1
 // and S is 0. The tests stand outside the sum, since the compiler then looks it up by NT.
-pub fn expected(nt: usize, s: usize, t: usize) -> usize
-    ensures length { λ r. ⌜ (r ≡ expectedLength nt s t) × (r ≤ longest) ⌝ }
+pub fn expected(form: Form, nt: usize, s: usize, t: usize) -> usize
+    ensures length { λ r. ⌜ (r ≡ expectedLength form nt s t) × (r ≤ longest) ⌝ }
 {
+    let fixed = octets::wide(form.fixed);
+    let sid = octets::wide(form.sid);
     if structure_there(s, t) {
-        return sum_of(FIXED_LENGTH, SID_LENGTH, nai_length(nt), STRUCTURE_LENGTH);
+        return sum_of(fixed, sid, forms::nai_length(form, nt), STRUCTURE_LENGTH);
     }
     if s == 0 {
-        return sum_of(FIXED_LENGTH, SID_LENGTH, nai_length(nt), 0);
+        return sum_of(fixed, sid, forms::nai_length(form, nt), 0);
     }
-    sum_of(FIXED_LENGTH, 0, nai_length(nt), 0)
+    sum_of(fixed, 0, forms::nai_length(form, nt), 0)
 }

@@ -1,4 +1,4 @@
-// What one subobject says: L, V, NT, behaviour, SID or none, NAI, structure or none.
+// What one subobject says: L, V, NT, behaviour, SID or none, NAI, structure or none, M and C.
 // Octets kept for a part that is absent or shorter are 0.
 ghost use mathlib.Core.Path.{_≡_};
 ghost use Prim.Native.Nat.{_<_};
@@ -15,6 +15,8 @@ pub struct Segment {
     pub nai: [u8; 40],
     pub structured: bool,
     pub structure: [u8; 4],
+    pub labelled: bool,
+    pub complete: bool,
 }
 
 // What a segment names beside its octets. The behaviour is a wide number, so that the compiler keeps the parts apart.
@@ -25,6 +27,8 @@ pub struct Outline {
     pub behaviour: usize,
     pub hassid: bool,
     pub structured: bool,
+    pub labelled: bool,
+    pub complete: bool,
 }
 
 pub fn outline_of(g: Segment) -> Outline
@@ -38,5 +42,7 @@ pub fn outline_of(g: Segment) -> Outline
         behaviour: g.behaviour as usize,
         hassid: g.hassid,
         structured: g.structured,
+        labelled: g.labelled,
+        complete: g.complete,
     }
 }

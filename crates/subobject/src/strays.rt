@@ -1,23 +1,26 @@
-// What is set in a subobject that ought to be 0 (document 02, C-18): of its 12 flags all but V, T, F and S; the flag octet of its structure;
-// and whether one of the reserved octets, 4 and 5 and the structure's three, is not 0.
+// What is set in a subobject that ought to be 0 (document 02, C-18): of its 12 flags those that its form does not assign; the flag octet of its structure;
+// and whether one of the reserved octets, 4 and 5 where the form has them and the structure's three, is not 0.
 ghost use mathlib.Core.Path.{_≡_};
-ghost use Prim.Native.Nat.{_+_, _≤_};
+ghost use mathlib.Core.Bool.{cond};
+ghost use Prim.Native.Nat.{_+_, _≤_, _<_};
 ghost use lib.ListN.{length};
-ghost use Rattle.subobject.specs.Layout.{fixedLength, expectedLength};
-ghost use Rattle.subobject.specs.Four.{fourAt, markedAt, endingMarked};
-ghost use Rattle.subobject.specs.Strays.{straysBy, noStrays, strayOne};
+ghost use Rattle.octets.specs.Octets.{be16};
+ghost use Rattle.forms.specs.Forms.{srv6Form};
+ghost use Rattle.forms.specs.Sized.{Sized};
+ghost use Rattle.subobject.specs.Layout.{expectedLength};
+ghost use Rattle.subobject.specs.Four.{straysWith, fourAt, markedAt, endingMarked};
+ghost use Rattle.subobject.specs.Strays.{reservedPlace, strayFlags, straysBy, noStrays, strayOne};
 use super::head;
 use super::parts;
+use forms::Form;
 
-// where the flags stand with NT, what NT's lowest bit is worth there, and the lowest flag that is not assigned
+// where the flags stand with NT, and what NT's lowest bit is worth there
 pub const FLAGS_PLACE: usize = 2;
 
 pub const ALL_FLAGS: usize = 4096;
 
-pub const WORTH_STRAY: usize = 16;
-
-// octets 2 to 5, the first the lowest, without NT, V, T, F and S
-const STRAY_BITS: usize = 4294963215;
+// octets 2 to 5 of SRv6, the first the lowest, without NT, V, T, F and S
+const SRV6_STRAY_BITS: usize = 4294963215;
 
 // the first of two reserved octets
 pub const RESERVED_PLACE: usize = 4;
@@ -39,26 +42,50 @@ pub fn no_strays() -> Strays
     }
 }
 
-// The strays of the subobject at `at`, which has the head h.
-pub fn strays_at(s: &[u8], at: usize, h: head::Head) -> Strays
-    requires { ⌜ at + expectedLength (h .nt) (h .s) (h .t) ≤ length (now s) ⌝ }
-    ensures strays { λ r. ⌜ r ≡ straysBy h (now (s .entry)) at ⌝ }
+// The unassigned flags of the subobject at `at`.
+fn stray_flags(form: Form, s: &[u8], at: usize) -> usize
+    requires { ⌜ (at + 4 ≤ length (now s)) × Sized form ⌝ }
+    ensures flags { λ r. ⌜ (r ≡ strayFlags form (now (s .entry)) at) × (r < 4096) ⌝ }
 {
-    let all = octets::read16(s, at + FLAGS_PLACE);
-    let flags = all % ALL_FLAGS / WORTH_STRAY * WORTH_STRAY;
-    let fixed = octets::read16(s, at + RESERVED_PLACE);
+    let free = octets::wide(form.free);
+    octets::read16(s, at + FLAGS_PLACE) % ALL_FLAGS / free * free
+}
+
+// The two reserved octets as a number, 0 where the form has none.
+fn reserved_two(form: Form, s: &[u8], at: usize) -> usize
+    requires { ⌜ (at + form .fixed ≤ length (now s)) × Sized form ⌝ }
+    ensures two { λ r. ⌜ r ≡ cond (form .behaves) (be16 (now (s .entry)) (at + reservedPlace)) 0 ⌝ }
+{
+    if form.behaves {
+        return octets::read16(s, at + RESERVED_PLACE);
+    }
+    0
+}
+
+// The strays with a structure whose last four octets stand at p.
+fn with_structure(s: &[u8], p: usize, flags: usize, fixed: usize) -> Strays
+    requires { ⌜ (p + 4 ≤ length (now s)) × (flags < 4096) ⌝ }
+    ensures strays { λ r. ⌜ r ≡ straysWith (now (s .entry)) p flags fixed ⌝ }
+{
+    let more = octets::wide(s[p]) + octets::wide(s[p + 1]) + octets::wide(s[p + 2]);
+    Strays {
+        flags: flags as u16,
+        structure: s[p + 3],
+        reserved: octets::either(fixed != 0, more != 0),
+    }
+}
+
+// The strays of the subobject at `at`, which has the head h.
+pub fn strays_at(form: Form, s: &[u8], at: usize, h: head::Head) -> Strays
+    requires { ⌜ (at + expectedLength form (h .nt) (h .s) (h .t) ≤ length (now s)) × Sized form ⌝ }
+    ensures strays { λ r. ⌜ r ≡ straysBy form h (now (s .entry)) at ⌝ }
+{
+    let flags = stray_flags(form, s, at);
+    let fixed = reserved_two(form, s, at);
     if head::structured(h) {
-        let p = at
-            + parts::FIXED_LENGTH
-            + parts::SID_LENGTH
-            + parts::nai_length(h.nt)
-            + parts::BIT_LENGTHS;
-        let more = octets::wide(s[p]) + octets::wide(s[p + 1]) + octets::wide(s[p + 2]);
-        return Strays {
-            flags: flags as u16,
-            structure: s[p + 3],
-            reserved: octets::either(fixed != 0, more != 0),
-        };
+        let nai = forms::nai_length(form, h.nt);
+        let p = at + octets::wide(form.fixed) + octets::wide(form.sid) + nai + parts::BIT_LENGTHS;
+        return with_structure(s, p, flags, fixed);
     }
     Strays {
         flags: flags as u16,
@@ -78,17 +105,28 @@ fn four(s: &[u8], at: usize) -> usize
         + octets::wide(s[at + 3]) * 16777216
 }
 
-// Whether an unassigned flag or a reserved octet is set in the fixed part: octets 2 to 5 are looked at as one number.
-pub fn marked(s: &[u8], at: usize) -> bool
-    requires { ⌜ at + fixedLength ≤ length (now s) ⌝ }
-    ensures marked { λ r. ⌜ r ≡ markedAt (now (s .entry)) at ⌝ }
+// Whether an unassigned flag or a reserved octet is set in the fixed part.
+fn marked(form: Form, s: &[u8], at: usize) -> bool
+    requires { ⌜ (at + form .fixed ≤ length (now s)) × Sized form ⌝ }
+    ensures marked { λ r. ⌜ r ≡ markedAt form (now (s .entry)) at ⌝ }
 {
-    four(s, at + FLAGS_PLACE) & STRAY_BITS != 0
+    octets::either(
+        stray_flags(form, s, at) != 0,
+        reserved_two(form, s, at) != 0,
+    )
+}
+
+// The same for SRv6: octets 2 to 5 are looked at as one number.
+fn marked_srv6(s: &[u8], at: usize) -> bool
+    requires { ⌜ at + srv6Form .fixed ≤ length (now s) ⌝ }
+    ensures marked { λ r. ⌜ r ≡ markedAt srv6Form (now (s .entry)) at ⌝ }
+{
+    four(s, at + FLAGS_PLACE) & SRV6_STRAY_BITS != 0
 }
 
 // Whether one of the last four octets of a structure is set. They end a subobject of the expected length.
-pub fn ending_marked(s: &[u8], at: usize, h: head::Head) -> bool
-    requires { ⌜ (h .size ≡ expectedLength (h .nt) (h .s) (h .t)) × (at + h .size ≤ length (now s)) ⌝ }
+fn ending_marked(form: Form, s: &[u8], at: usize, h: head::Head) -> bool
+    requires { ⌜ (h .size ≡ expectedLength form (h .nt) (h .s) (h .t)) × (at + h .size ≤ length (now s)) ⌝ }
     ensures marked { λ r. ⌜ r ≡ endingMarked h (now (s .entry)) at ⌝ }
 {
     if head::structured(h) {
@@ -97,15 +135,30 @@ pub fn ending_marked(s: &[u8], at: usize, h: head::Head) -> bool
     false
 }
 
-// 1 for a stray segment, else 0.
-pub fn stray_one(x: Strays) -> usize
-    ensures one { λ r. ⌜ (r ≡ strayOne x) × (r ≤ 1) ⌝ }
+// 1 for a stray segment, else 0: what a walk over many subobjects counts.
+pub fn stray_of(form: Form, s: &[u8], at: usize, h: head::Head) -> usize
+    requires { ⌜ (at + form .fixed ≤ length (now s)) × (h .size ≡ expectedLength form (h .nt) (h .s) (h .t)) × (at + h .size ≤ length (now s)) × Sized form ⌝ }
+    ensures one { λ r. ⌜ (r ≡ strayOne (straysBy form h (now (s .entry)) at)) × (r ≤ 1) ⌝ }
 {
-    if x.flags != 0 {
+    if marked(form, s, at) {
         return 1;
     }
-    if x.structure != 0 {
+    if ending_marked(form, s, at, h) {
         return 1;
     }
-    if x.reserved { 1 } else { 0 }
+    0
+}
+
+// The same for SRv6.
+pub fn stray_srv6(s: &[u8], at: usize, h: head::Head) -> usize
+    requires { ⌜ (at + srv6Form .fixed ≤ length (now s)) × (h .size ≡ expectedLength srv6Form (h .nt) (h .s) (h .t)) × (at + h .size ≤ length (now s)) ⌝ }
+    ensures one { λ r. ⌜ (r ≡ strayOne (straysBy srv6Form h (now (s .entry)) at)) × (r ≤ 1) ⌝ }
+{
+    if marked_srv6(s, at) {
+        return 1;
+    }
+    if ending_marked(forms::srv6(), s, at, h) {
+        return 1;
+    }
+    0
 }

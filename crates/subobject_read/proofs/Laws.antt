@@ -11,7 +11,10 @@ use Rattle.answers.specs.Numbers.{lengthWrong}
 use Rattle.octets.specs.Octets.{be16, part, partOf}
 use Rattle.subobject.specs.declared.head.Head.{Head}
 use Rattle.subobject.specs.declared.segment.Segment.{Segment}
-use Rattle.subobject.specs.Layout.{fixedLength, behaviourPlace, sidSize, sidLength, naiSize, naiLength, structureSize, bitLengths, structurePlace}
+use Rattle.forms.specs.declared.Form.{Form}
+use Rattle.forms.specs.Forms.{naiLength}
+use Rattle.forms.specs.Sized.{Sized}
+use Rattle.subobject.specs.Layout.{behaviourPlace, sidSize, sidLength, naiSize, structureSize, bitLengths, structurePlace}
 use Rattle.subobject.specs.Layout.{expectedLength, headAt, expectedAt}
 use Rattle.subobject.specs.Rules.{hasStructure}
 use Rattle.subobject.specs.Segments.{segmentAt}
@@ -28,31 +31,44 @@ unfolding hasStructure
 sid-there h e = there-sid (h .s) (h .t) e
 
 -- The parts of a subobject lie inside the octets given.
-pub parts-room : (ero : Bool) (s : List ℕ) (at : ℕ) (h : Head) → h ≡ headAt s ero at → at + expectedAt s ero at ≤ length s
-    → at + fixedLength + sidLength (h .s) + naiLength (h .nt) + cond (hasStructure h) structureSize 0 ≤ length s
+pub parts-room : (form : Form) (ero : Bool) (s : List ℕ) (at : ℕ) (h : Head) → h ≡ headAt form s ero at → at + expectedAt form s ero at ≤ length s
+    → at + form .fixed + sidLength form (h .s) + naiLength form (h .nt) + cond (hasStructure h) structureSize 0 ≤ length s
 unfolding expectedAt expectedLength hasStructure
-parts-room ero s at h e p = rw e (omega (arith, p))
+parts-room form ero s at h e p = rw e (omega (arith, p))
+
+pub fixed-here : (form : Form) (s : List ℕ) (ero : Bool) (at : ℕ) → form .fixed ≤ expectedAt form s ero at
+unfolding expectedAt expectedLength
+fixed-here form s ero at = omega arith
+
+pub sid-most : {form : Form} → Sized form → (s : ℕ) → sidLength form s ≤ sidSize
+sid-most {form} z s = go (eqb s 0)
+  where
+    go : (b : Bool) → cond b (form .sid) 0 ≤ sidSize
+    go true = z .sid
+    go false = omega arith
 
 pub bits-room : (b : Bool) → cond b bitLengths 0 ≤ cond b structureSize 0
 bits-room true = omega arith
 bits-room false = omega arith
 
 -- A structure stands behind a SID; where there is none, no octet is taken.
-pub structure-part : (s : List ℕ) (at : ℕ) (h : Head)
-    → partOf s (at + fixedLength + sidLength (h .s) + naiLength (h .nt)) (cond (hasStructure h) bitLengths 0) bitLengths
-    ≡ partOf s (structurePlace at (h .nt)) (cond (hasStructure h) bitLengths 0) bitLengths
+pub structure-part : (form : Form) (s : List ℕ) (at : ℕ) (h : Head)
+    → partOf s (at + form .fixed + sidLength form (h .s) + naiLength form (h .nt)) (cond (hasStructure h) bitLengths 0) bitLengths
+    ≡ partOf s (structurePlace form at (h .nt)) (cond (hasStructure h) bitLengths 0) bitLengths
 unfolding partOf part
-structure-part s at h = go (hasStructure h) refl
+structure-part form s at h = go (hasStructure h) refl
   where
     go : (b : Bool) → hasStructure h ≡ b
-        → partOf s (at + fixedLength + sidLength (h .s) + naiLength (h .nt)) (cond b bitLengths 0) bitLengths ≡ partOf s (structurePlace at (h .nt)) (cond b bitLengths 0) bitLengths
+        → partOf s (at + form .fixed + sidLength form (h .s) + naiLength form (h .nt)) (cond b bitLengths 0) bitLengths
+        ≡ partOf s (structurePlace form at (h .nt)) (cond b bitLengths 0) bitLengths
     go true e = rw (sid-there h e)
     go false e = refl
 
 -- The segment made of what was read part by part.
-pub segment-made : (ero : Bool) (s : List ℕ) (at : ℕ) (h : Head) (there : Bool) (k n m b : ℕ) (sid nai bits : List ℕ) → h ≡ headAt s ero at
-    → there ≡ hasStructure h → k ≡ sidLength (h .s) → n ≡ naiLength (h .nt) → m ≡ cond there bitLengths 0 → b ≡ be16 s (at + behaviourPlace)
-    → sid ≡ partOf s (at + fixedLength) k sidSize → nai ≡ partOf s (at + fixedLength + k) n naiSize → bits ≡ partOf s (at + fixedLength + k + n) m bitLengths
+pub segment-made : (form : Form) (ero : Bool) (s : List ℕ) (at : ℕ) (h : Head) (there : Bool) (fixed k n m b : ℕ) (sid nai bits : List ℕ) → h ≡ headAt form s ero at
+    → there ≡ hasStructure h → fixed ≡ form .fixed → k ≡ sidLength form (h .s) → n ≡ naiLength form (h .nt) → m ≡ cond there bitLengths 0
+    → b ≡ cond (form .behaves) (be16 s (at + behaviourPlace)) 0 → sid ≡ partOf s (at + fixed) k sidSize → nai ≡ partOf s (at + fixed + k) n naiSize
+    → bits ≡ partOf s (at + fixed + k + n) m bitLengths
     → _≡_ {A = Segment}
     (record {
       loose = eqb (h .l) 1;
@@ -64,13 +80,15 @@ pub segment-made : (ero : Bool) (s : List ℕ) (at : ℕ) (h : Head) (there : Bo
       nai = nai;
       structured = there;
       structure = bits;
+      labelled = eqb (h .m) 1;
+      complete = eqb (h .c) 1;
     })
-    (segmentAt s ero at)
+    (segmentAt form s ero at)
 unfolding segmentAt
-segment-made ero s at h there k n m b sid nai bits eh et ek en em eb es ei eq =
-    let q : bits ≡ partOf s (structurePlace at (h .nt)) (cond (hasStructure h) bitLengths 0) bitLengths = rw (em, et, ek, en) at eq ∙ structure-part s at h in
-    let p : sid ≡ partOf s (at + fixedLength) (sidLength (h .s)) sidSize = rw ek at es in
-    let r : nai ≡ partOf s (at + fixedLength + sidLength (h .s)) (naiLength (h .nt)) naiSize = rw (ek, en) at ei in
+segment-made form ero s at h there fixed k n m b sid nai bits eh et ef ek en em eb es ei eq =
+    let q : bits ≡ partOf s (structurePlace form at (h .nt)) (cond (hasStructure h) bitLengths 0) bitLengths = rw (em, et, ef, ek, en) at eq ∙ structure-part form s at h in
+    let p : sid ≡ partOf s (at + form .fixed) (sidLength form (h .s)) sidSize = rw (ef, ek) at es in
+    let r : nai ≡ partOf s (at + form .fixed + sidLength form (h .s)) (naiLength form (h .nt)) naiSize = rw (ef, ek, en) at ei in
     rw (← eh)
     (λ i. record {
       loose = eqb (h .l) 1;
@@ -82,26 +100,29 @@ segment-made ero s at h there k n m b sid nai bits eh et ek en em eb es ei eq =
       nai = r i;
       structured = et i;
       structure = q i;
+      labelled = eqb (h .m) 1;
+      complete = eqb (h .c) 1;
     })
 
 -- the reader's answer ------------------------------------------------------------------------------------------
 
 -- The octets end before the fixed part does,
-pub read-short : (s : List ℕ) (ero : Bool) (at : ℕ) → length s - at < fixedLength → Refused lengthWrong at ≡ readOf s ero at
+pub read-short : (form : Form) (s : List ℕ) (ero : Bool) (at fixed : ℕ) → fixed ≡ form .fixed → length s - at < fixed → Refused lengthWrong at ≡ readOf form s ero at
 unfolding readOf expectedAt expectedLength
-read-short s ero at l = rw (lt-ltb (length s - at) (expectedAt s ero at) (omega arith))
+read-short form s ero at fixed e l = rw (lt-ltb (length s - at) (expectedAt form s ero at) (omega arith))
 
-module _ (s : List ℕ) (ero : Bool) (at : ℕ) (h : Head) (n : ℕ) (eh : h ≡ headAt s ero at) (en : n ≡ expectedLength (h .nt) (h .s) (h .t)) where
-  expected-here : n ≡ expectedAt s ero at
+module _ (form : Form) (s : List ℕ) (ero : Bool) (at : ℕ) (h : Head) (n : ℕ) (eh : h ≡ headAt form s ero at)
+    (en : n ≡ expectedLength form (h .nt) (h .s) (h .t)) where
+  expected-here : n ≡ expectedAt form s ero at
   unfolding expectedAt
   expected-here = rw eh at en
 
   -- or before the subobject does,
-  pub read-cut : length s - at < n → Refused lengthWrong at ≡ readOf s ero at
+  pub read-cut : length s - at < n → Refused lengthWrong at ≡ readOf form s ero at
   unfolding readOf
-  read-cut l = rw (lt-ltb (length s - at) (expectedAt s ero at) (omega (arith, expected-here)))
+  read-cut l = rw (lt-ltb (length s - at) (expectedAt form s ero at) (omega (arith, expected-here)))
 
   -- or it is there whole.
-  pub read-whole : (x : Strays) → n ≤ length s - at → x ≡ straysBy h s at → Whole x ≡ readOf s ero at
+  pub read-whole : (x : Strays) → n ≤ length s - at → x ≡ straysBy form h s at → Whole x ≡ readOf form s ero at
   unfolding readOf straysAt
-  read-whole x l e = rw (le-ltb (length s - at) (expectedAt s ero at) (omega (arith, expected-here)), ← eh) (ap (λ (y : Strays). Whole y) e)
+  read-whole x l e = rw (le-ltb (length s - at) (expectedAt form s ero at) (omega (arith, expected-here)), ← eh) (ap (λ (y : Strays). Whole y) e)

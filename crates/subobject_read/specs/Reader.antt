@@ -6,12 +6,13 @@ use mathlib.Core.List.{List}
 use lib.Dec.{ltb}
 use lib.ListN.{length}
 use Rattle.answers.specs.Numbers.{lengthWrong}
+use Rattle.forms.specs.declared.Form.{Form}
 use Rattle.subobject.specs.Layout.{expectedAt}
 use Rattle.subobject.specs.Strays.{straysAt}
 use Rattle.subobject_read.specs.declared.answer.Reading.{Reading}
 use Rattle.subobject_read.specs.declared.answer.Reading.the-variants.{Whole, Refused}
 
 -- 7 at its place, "Length isn't as expected", where the octets end before the subobject does.
-unfoldable pub readOf : List ℕ → Bool → ℕ → Reading
-readOf s ero at =
-    cond (ltb (length s - at) (expectedAt s ero at)) (Refused lengthWrong at) (Whole (straysAt s ero at))
+unfoldable pub readOf : Form → List ℕ → Bool → ℕ → Reading
+readOf form s ero at =
+    cond (ltb (length s - at) (expectedAt form s ero at)) (Refused lengthWrong at) (Whole (straysAt form s ero at))

@@ -2,7 +2,9 @@
 ghost use mathlib.Core.Path.{_≡_};
 ghost use Prim.Native.Nat.{_≤_};
 ghost use lib.ListN.{length};
+ghost use Rattle.forms.specs.Sized.{Sized};
 ghost use Rattle.subobject_read.specs.Reader.{readOf};
+use forms::Form;
 use subobject::Strays;
 
 // A subobject that is there whole, with what is set in it that ought to be 0, or the number and the place of a refusal.
@@ -13,17 +15,17 @@ pub enum Reading {
 }
 
 // The subobject at `at`; 7 where the octets end before it does.
-pub fn read_at(s: &[u8], at: usize, ero: bool) -> Reading
-    requires { ⌜ at ≤ length (now s) ⌝ }
-    ensures answer { λ r. ⌜ r ≡ readOf (now (s .entry)) ero at ⌝ }
+pub fn read_at(form: Form, s: &[u8], at: usize, ero: bool) -> Reading
+    requires { ⌜ (at ≤ length (now s)) × Sized form ⌝ }
+    ensures answer { λ r. ⌜ r ≡ readOf form (now (s .entry)) ero at ⌝ }
 {
     let room = s.len() - at;
-    if room < subobject::FIXED_LENGTH {
+    if room < octets::wide(form.fixed) {
         return Reading::Refused(answers::LENGTH_WRONG, at);
     }
-    let h = subobject::head_at(s, at, ero);
-    if room < subobject::expected(h.nt, h.s, h.t) {
+    let h = subobject::head_at(form, s, at, ero);
+    if room < subobject::expected(form, h.nt, h.s, h.t) {
         return Reading::Refused(answers::LENGTH_WRONG, at);
     }
-    Reading::Whole(subobject::strays_at(s, at, h))
+    Reading::Whole(subobject::strays_at(form, s, at, h))
 }

@@ -2,8 +2,12 @@
 ghost use mathlib.Core.Path.{_≡_};
 ghost use Prim.Native.Nat.{_+_, _≤_};
 ghost use lib.ListN.{length};
-ghost use Rattle.subobject.specs.Layout.{expectedAt};
+ghost use mathlib.Core.Bool.{cond};
+ghost use Rattle.octets.specs.Octets.{be16};
+ghost use Rattle.forms.specs.Sized.{Sized};
+ghost use Rattle.subobject.specs.Layout.{behaviourPlace, expectedAt};
 ghost use Rattle.subobject.specs.Segments.{segmentAt, noSegment};
+use forms::Form;
 use subobject::Segment;
 
 // The segment that comes with a refusal.
@@ -20,25 +24,39 @@ pub fn no_segment() -> Segment
         nai: [0u8; 40],
         structured: false,
         structure: [0u8; 4],
+        labelled: false,
+        complete: false,
     }
 }
 
-// What the octets of the subobject at `at` say.
-pub fn segment_at(s: &[u8], at: usize, ero: bool) -> Segment
-    requires { ⌜ at + expectedAt (now s) ero at ≤ length (now s) ⌝ }
-    ensures segment { λ r. ⌜ r ≡ segmentAt (now (s .entry)) ero at ⌝ }
+// The endpoint behaviour of the subobject at `at`, 0 where the form has none.
+fn behaviour_at(form: Form, s: &[u8], at: usize) -> u16
+    requires { ⌜ (at + form .fixed ≤ length (now s)) × Sized form ⌝ }
+    ensures behaviour { λ r. ⌜ r ≡ cond (form .behaves) (be16 (now (s .entry)) (at + behaviourPlace)) 0 ⌝ }
 {
-    let h = subobject::head_at(s, at, ero);
+    if form.behaves {
+        return octets::read16(s, at + subobject::BEHAVIOUR_PLACE) as u16;
+    }
+    0
+}
+
+// What the octets of the subobject at `at` say.
+pub fn segment_at(form: Form, s: &[u8], at: usize, ero: bool) -> Segment
+    requires { ⌜ (at + expectedAt form (now s) ero at ≤ length (now s)) × Sized form ⌝ }
+    ensures segment { λ r. ⌜ r ≡ segmentAt form (now (s .entry)) ero at ⌝ }
+{
+    let h = subobject::head_at(form, s, at, ero);
     let there = subobject::structured(h);
-    let k = octets::pick(h.s == 0, subobject::SID_LENGTH, 0);
-    let n = subobject::nai_length(h.nt);
-    let behaviour = octets::read16(s, at + subobject::BEHAVIOUR_PLACE) as u16;
+    let fixed = octets::wide(form.fixed);
+    let k = octets::pick(h.s == 0, octets::wide(form.sid), 0);
+    let n = forms::nai_length(form, h.nt);
+    let behaviour = behaviour_at(form, s, at);
     let nt = h.nt as u8;
-    let sid = octets::part16(s, at + subobject::FIXED_LENGTH, k);
-    let nai = octets::part40(s, at + subobject::FIXED_LENGTH + k, n);
+    let sid = octets::part16(s, at + fixed, k);
+    let nai = octets::part40(s, at + fixed + k, n);
     let structure = octets::part4(
         s,
-        at + subobject::FIXED_LENGTH + k + n,
+        at + fixed + k + n,
         octets::pick(there, subobject::BIT_LENGTHS, 0),
     );
     Segment {
@@ -51,5 +69,7 @@ pub fn segment_at(s: &[u8], at: usize, ero: bool) -> Segment
         nai: nai,
         structured: there,
         structure: structure,
+        labelled: h.m == 1,
+        complete: h.c == 1,
     }
 }

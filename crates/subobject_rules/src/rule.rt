@@ -2,20 +2,20 @@
 ghost use mathlib.Core.Path.{_≡_};
 ghost use Prim.Native.Nat.{_+_, _<_};
 ghost use lib.ListN.{length};
-ghost use Rattle.subobject.specs.Rules.{rule7, rule8, rule9, rule10, rule11, sumAt};
+ghost use Rattle.subobject.specs.Rules.{rule7, rule8, rule9, rule10, rule11, rule29, rule30, malformed, hasLabel, sumAt, labelAt, timeAt};
+use forms::Form;
 use subobject::Head;
 
-// NT not 0, 2, 4, 6.
-pub fn eight(h: Head) -> bool
-    ensures broken { λ r. ⌜ r ≡ rule8 h ⌝ }
+// of the labels below 16 only 7 may stand in a route
+pub const FIRST_FREE: usize = 16;
+
+pub const GOOD_LABEL: usize = 7;
+
+// An NT that the form does not know.
+pub fn eight(form: Form, h: Head) -> bool
+    ensures broken { λ r. ⌜ r ≡ rule8 form h ⌝ }
 {
-    !octets::either(
-        h.nt == subobject::NO_NAI,
-        octets::either(
-            h.nt == subobject::NODE,
-            octets::either(h.nt == subobject::ADJACENCY, h.nt == subobject::LINK_LOCAL),
-        ),
-    )
+    !forms::known(form, h.nt)
 }
 
 // S and F both 1.
@@ -25,13 +25,26 @@ pub fn nine(h: Head) -> bool
     octets::both(h.s == 1, h.f == 1)
 }
 
-// F isn't 1 exactly for NT 0, or Length isn't as expected.
-pub fn seven(h: Head) -> bool
-    ensures broken { λ r. ⌜ r ≡ rule7 h ⌝ }
+// M or C without a SID, or C without M.
+pub fn is_malformed(h: Head) -> bool
+    ensures malformed { λ r. ⌜ r ≡ malformed h ⌝ }
+{
+    octets::either(
+        octets::both(h.s == 1, octets::either(h.m == 1, h.c == 1)),
+        octets::both(h.c == 1, h.m != 1),
+    )
+}
+
+// F isn't 1 exactly for NT 0, or Length isn't as expected, or the flags do not go together.
+pub fn seven(form: Form, h: Head) -> bool
+    ensures broken { λ r. ⌜ r ≡ rule7 form h ⌝ }
 {
     octets::either(
         h.f != octets::pick(h.nt == subobject::NO_NAI, 1, 0),
-        h.size != subobject::expected(h.nt, h.s, h.t),
+        octets::either(
+            h.size != subobject::expected(form, h.nt, h.s, h.t),
+            is_malformed(h),
+        ),
     )
 }
 
@@ -64,4 +77,44 @@ pub fn sum_at(s: &[u8], at: usize) -> usize
         + octets::octet(s, at + 1)
         + octets::octet(s, at + 2)
         + octets::octet(s, at + 3)
+}
+
+// Whether a label stands where the SID does.
+pub fn labelled(h: Head) -> bool
+    ensures labelled { λ r. ⌜ r ≡ hasLabel h ⌝ }
+{
+    octets::both(h.s == 0, h.m == 1)
+}
+
+// A label up to 15 that is not 7.
+pub fn twenty_nine(h: Head, label: usize) -> bool
+    ensures broken { λ r. ⌜ r ≡ rule29 h label ⌝ }
+{
+    octets::both(
+        labelled(h),
+        octets::both(label < FIRST_FREE, label != GOOD_LABEL),
+    )
+}
+
+// M and C with a TTL of 0.
+pub fn thirty(h: Head, time: usize) -> bool
+    ensures broken { λ r. ⌜ r ≡ rule30 h time ⌝ }
+{
+    octets::both(labelled(h), octets::both(h.c == 1, time == 0))
+}
+
+// The label of the label stack entry at a place; octets past the end are 0.
+pub fn label_at(s: &[u8], at: usize) -> usize
+    requires { ⌜ at < length (now s) + 128 ⌝ }
+    ensures label { λ r. ⌜ r ≡ labelAt (now (s .entry)) at ⌝ }
+{
+    octets::octet(s, at) * 4096 + octets::octet(s, at + 1) * 16 + octets::octet(s, at + 2) / 16
+}
+
+// Its TTL.
+pub fn time_at(s: &[u8], at: usize) -> usize
+    requires { ⌜ at < length (now s) + 128 ⌝ }
+    ensures time { λ r. ⌜ r ≡ timeAt (now (s .entry)) at ⌝ }
+{
+    octets::octet(s, at + 3)
 }

@@ -9,9 +9,9 @@ use Rattle.writer.specs.declared.state.Written.{Written}
 use Rattle.writer.specs.Writing.{beginAnswer, beginBuffer, addAnswer, addBuffer, finishAnswer, finishBuffer}
 
 module _ (b : List ℕ) (w : Writer) {r s : Written} {after other : List ℕ} where
-  pub begin-determined : (ero : Bool) → r ≡ beginAnswer b w ero → after ≡ beginBuffer b w ero → s ≡ beginAnswer b w ero → other ≡ beginBuffer b w ero
-      → (r ≡ s) × (after ≡ other)
-  begin-determined ero p q p' q' = (p ∙ sym p', q ∙ sym q')
+  pub begin-determined : (ero : Bool) (pst : ℕ) → r ≡ beginAnswer b w ero pst → after ≡ beginBuffer b w ero → s ≡ beginAnswer b w ero pst
+      → other ≡ beginBuffer b w ero → (r ≡ s) × (after ≡ other)
+  begin-determined ero pst p q p' q' = (p ∙ sym p', q ∙ sym q')
 
   pub add-determined : (g : Segment) → r ≡ addAnswer b w g → after ≡ addBuffer b w g → s ≡ addAnswer b w g → other ≡ addBuffer b w g
       → (r ≡ s) × (after ≡ other)

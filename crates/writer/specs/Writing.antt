@@ -1,4 +1,4 @@
--- A route object is begun, given one segment at a time, and finished (document 01, "Writing a route"). What add and finish refuse stands in
+-- A route object is begun, given one segment at a time, and finished (document 01, "Writing a route"; document 02, C-16). What add and finish refuse stands in
 -- writer_rules/specs/Refusals.
 use Prim.Native.Nat.{ℕ, _+_, _*_}
 use mathlib.Core.List.{List, [], _∷_}
@@ -9,6 +9,8 @@ use Rattle.answers.specs.Numbers.{bufferFull}
 use Rattle.answers.specs.Verdicts.{refusedBy, acceptedWith, kept}
 use Rattle.octets.specs.Octets.{hi, lo, over, placed}
 use Rattle.objects.specs.Objects.{header, lengthPlace, typeWorth, objectType}
+use Rattle.forms.specs.declared.Form.{Form}
+use Rattle.forms.specs.Forms.{formOf}
 use Rattle.subobject.specs.declared.segment.Segment.{Segment}
 use Rattle.subobject.specs.Segments.{subobjectOf}
 use Rattle.frame.specs.Frames.{classOf}
@@ -42,8 +44,9 @@ answered number old new = kept number (refusedAs number old) (acceptedAs new)
 unfoldable pub beginNumber : ℕ → ℕ
 beginNumber room = cond (ltb room header) bufferFull 0
 
-unfoldable pub beginAnswer : List ℕ → Writer → Bool → Written
-beginAnswer b w ero = answered (beginNumber (length b)) w (record { ero = ero; at = header })
+-- "Begin takes the form (the PST; not 1 is SRv6's). The state keeps it."
+unfoldable pub beginAnswer : List ℕ → Writer → Bool → ℕ → Written
+beginAnswer b w ero pst = answered (beginNumber (length b)) w (record { ero = ero; at = header; form = formOf pst .setup })
 
 -- "Begin writes the header with length 4."
 unfoldable pub beginBuffer : List ℕ → Writer → Bool → List ℕ
@@ -51,12 +54,21 @@ beginBuffer b w ero = kept (beginNumber (length b)) b (over (headerOf ero header
 
 -- add ----------------------------------------------------------------------------------------------------------
 
-unfoldable pub addAnswer : List ℕ → Writer → Segment → Written
-addAnswer b w g = answered (addNumber (length b) (w .ero) (w .at) g) w (record { ero = w .ero; at = w .at + length (subobjectOf g) })
+-- A segment of a form:
+unfoldable pub addAnswerIn : Form → List ℕ → Writer → Segment → Written
+addAnswerIn form b w g =
+    answered (addNumber form (length b) (w .ero) (w .at) g) w (record { ero = w .ero; at = w .at + length (subobjectOf form g); form = w .form })
 
--- "Each segment is written into the rest of the lent buffer from the present place on; octets behind it stay."
-unfoldable pub addBuffer : List ℕ → Writer → Segment → List ℕ
-addBuffer b w g = kept (addNumber (length b) (w .ero) (w .at) g) b (placed b (w .at) (subobjectOf g))
+-- "each segment is written into the rest of the lent buffer from the present place on; octets behind it stay."
+unfoldable pub addBufferIn : Form → List ℕ → Writer → Segment → List ℕ
+addBufferIn form b w g = kept (addNumber form (length b) (w .ero) (w .at) g) b (placed b (w .at) (subobjectOf form g))
+
+-- The form is the one that the state names.
+abbrev pub addAnswer : List ℕ → Writer → Segment → Written
+addAnswer b w g = addAnswerIn (formOf (w .form)) b w g
+
+abbrev pub addBuffer : List ℕ → Writer → Segment → List ℕ
+addBuffer b w g = addBufferIn (formOf (w .form)) b w g
 
 -- finish -------------------------------------------------------------------------------------------------------
 

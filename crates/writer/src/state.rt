@@ -2,10 +2,11 @@
 ghost use mathlib.Core.Path.{_≡_};
 ghost use Rattle.writer.specs.Writing.{refusedAs, acceptedAs};
 
-// Whether the object is an ERO or an RRO, and the present place in the lent buffer.
+// Whether the object is an ERO or an RRO, the present place in the lent buffer, and the setup type that names the form: 1 is MPLS, any other SRv6.
 pub struct Writer {
     pub ero: bool,
     pub at: usize,
+    pub form: u8,
 }
 
 // The verdict, and the state for the next call.

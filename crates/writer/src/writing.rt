@@ -1,21 +1,40 @@
 // Begin, add and finish. An object starts with its class, its type in the high 4 bits of the next octet,
 // and a length of 2 octets that counts the 4 octets of the header.
 ghost use mathlib.Core.Path.{_≡_};
+ghost use Rattle.forms.specs.Forms.{formOf};
+ghost use Rattle.forms.specs.Sized.{Sized};
 ghost use Rattle.subobject.specs.Segments.{segmentWith};
 ghost use Rattle.writer_spare.specs.Held.{Held};
-ghost use Rattle.writer.specs.Writing.{beginAnswer, beginBuffer, addAnswer, addBuffer, finishAnswer, finishBuffer};
+ghost use Rattle.writer_layout.specs.Readable.{Readable};
+ghost use Rattle.writer.specs.Writing.{beginAnswer, beginBuffer, addAnswerIn, addBufferIn, addAnswer, addBuffer, finishAnswer, finishBuffer};
 use super::state;
 use super::state::Writer;
 use super::state::Written;
+use forms::Form;
 use subobject::Outline;
 use subobject::Segment;
 
 // Type 1 in the high 4 bits; the low bits are 0.
 const TYPE_OCTET: u8 = (objects::OBJECT_TYPE * objects::TYPE_WORTH) as u8;
 
-// Writes the header with length 4.
-pub fn begin(buf: &mut [u8], writer: Writer, ero: bool) -> Written
-    ensures answer { λ r. ⌜ r ≡ beginAnswer (now (buf .entry)) writer ero ⌝ }
+// The setup types of the two forms, as the state keeps them.
+const MPLS_SETUP: u8 = objects::MPLS_SETUP as u8;
+
+const SRV6_SETUP: u8 = objects::SRV6_SETUP as u8;
+
+// The number that the state keeps for a setup type.
+fn kept_form(pst: u64) -> u8
+    ensures form { λ r. ⌜ r ≡ formOf pst .setup ⌝ }
+{
+    if pst == objects::MPLS_SETUP {
+        return MPLS_SETUP;
+    }
+    SRV6_SETUP
+}
+
+// Writes the header with length 4; the setup type names the form.
+pub fn begin(buf: &mut [u8], writer: Writer, ero: bool, pst: u64) -> Written
+    ensures answer { λ r. ⌜ r ≡ beginAnswer (now (buf .entry)) writer ero pst ⌝ }
     ensures buffer { λ _. ⌜ now (buf .exit) ≡ beginBuffer (now (buf .entry)) writer ero ⌝ }
 {
     if buf.len() < objects::HEADER {
@@ -28,11 +47,40 @@ pub fn begin(buf: &mut [u8], writer: Writer, ero: bool) -> Written
     state::accept(Writer {
         ero: ero,
         at: objects::HEADER,
+        form: kept_form(pst),
     })
 }
 
-// Writes a segment into the rest of the buffer from the present place on. The segment's octets are lent: to hand them on by
+// Writes a segment of a form into the rest of the buffer from the present place on. The segment's octets are lent: to hand them on by
 // value takes longer than to write them.
+fn add_in(
+    buf: &mut [u8],
+    form: Form,
+    writer: Writer,
+    o: Outline,
+    sid: &[u8],
+    nai: &[u8],
+    bits: &[u8],
+) -> Written
+    requires { ⌜ (Held (segmentWith o (now sid) (now nai) (now bits))) × (Sized form) × (Readable form) ⌝ }
+    ensures answer { λ r. ⌜ r ≡ addAnswerIn form (now (buf .entry)) writer (segmentWith o (now (sid .entry)) (now (nai .entry)) (now (bits .entry))) ⌝ }
+    ensures buffer { λ _. ⌜ now (buf .exit) ≡ addBufferIn form (now (buf .entry)) writer (segmentWith o (now (sid .entry)) (now (nai .entry)) (now (bits .entry))) ⌝ }
+{
+    let h = subobject::head_of(form, o);
+    let number = writer_rules::adding(form, buf.len(), writer.ero, writer.at, h, o, sid, nai, bits);
+    if number != 0 {
+        return state::refuse(number, writer);
+    }
+    let at = writer.at;
+    writer_layout::write(&mut buf[at..], form, h, o, sid, nai, bits);
+    state::accept(Writer {
+        ero: writer.ero,
+        at: at + h.size,
+        form: writer.form,
+    })
+}
+
+// The same, of the form that the state names. Each form stands in a branch of its own, so that the compiler knows its numbers there.
 pub fn add_parts(
     buf: &mut [u8],
     writer: Writer,
@@ -45,17 +93,10 @@ pub fn add_parts(
     ensures answer { λ r. ⌜ r ≡ addAnswer (now (buf .entry)) writer (segmentWith o (now (sid .entry)) (now (nai .entry)) (now (bits .entry))) ⌝ }
     ensures buffer { λ _. ⌜ now (buf .exit) ≡ addBuffer (now (buf .entry)) writer (segmentWith o (now (sid .entry)) (now (nai .entry)) (now (bits .entry))) ⌝ }
 {
-    let h = subobject::head_of(o);
-    let number = writer_rules::adding(buf.len(), writer.ero, writer.at, h, o, sid, nai, bits);
-    if number != 0 {
-        return state::refuse(number, writer);
+    if writer.form == MPLS_SETUP {
+        return add_in(buf, forms::mpls(), writer, o, sid, nai, bits);
     }
-    let at = writer.at;
-    writer_layout::write(&mut buf[at..], h, o, sid, nai, bits);
-    state::accept(Writer {
-        ero: writer.ero,
-        at: at + h.size,
-    })
+    add_in(buf, forms::srv6(), writer, o, sid, nai, bits)
 }
 
 // The same, of a segment by value.

@@ -1,24 +1,28 @@
 -- Laws about the runs of octets that a subobject is made of.
-use Prim.Native.Nat.{ℕ, _+_, _≤_, _<_}
+use Prim.Native.Nat.{ℕ, suc, _+_, _*_, _≤_, _<_}
 use mathlib.Core.Path.{_≡_, refl, sym, _∙_, ap}
 use mathlib.Core.Bool.{Bool, true, false, cond, not, _&&_, _||_}
 use mathlib.Core.List.{List, [], _∷_, _++_, append-assoc, append-nil}
-use mathlib.Core.Logic.{_⊎_, inl, inr, ⊎-elim}
-use borrow.Author.Tests.{eqb-true, ne-eqb}
+use borrow.Author.Tests.{ne-eqb, ltb-true, ltb-false, not-false}
 use native.Mathlib.Numerals.{add-one}
-use lib.Dec.{eqb}
+use lib.Dec.{eqb, ltb}
 use lib.ListN.{length, getD, take, drop, replicate, length-append, length-replicate, drop-of-length-le, take-append-drop, length-drop}
 use lib.Seq.{drop-cons, drop-drop, length-take-le, take-all}
 use native.Mathlib.Omega.{arith}
-use Rattle.octets.specs.Octets.{part, over, placed, partOf}
+use Rattle.octets.specs.Octets.{hi, lo, part, over, placed, partOf}
 use Rattle.octets.proofs.Laws.{over-at}
 use Rattle.octets.proofs.Said.{cond-most}
+use Rattle.forms.specs.declared.Form.{Form}
+use Rattle.forms.specs.Forms.{naiLength, knows}
+use Rattle.forms.specs.Sized.{Sized}
+use Rattle.forms.proofs.Laws.{nai-most}
 use Rattle.subobject.specs.declared.segment.Segment.{Segment}
 use Rattle.subobject.specs.declared.head.Head.{Head}
-use Rattle.subobject.specs.Layout.{naiLength, sidLength, structureLength, expectedLength, structureThere}
+use Rattle.subobject.specs.Layout.{sidLength, structureLength, expectedLength, structureThere}
 use Rattle.subobject.specs.Rules.{rule8, hasStructure, flagF}
-use Rattle.subobject.specs.Segments.{headOfSegment, fixedOctets, structureOctets, subobjectOf, bit}
+use Rattle.subobject.specs.Segments.{headOfSegment, flagsOctet, fixedOctets, structureOctets, subobjectOf, bit}
 use Rattle.writer_spare.specs.Held.{Held}
+use Rattle.writer_layout.specs.Readable.{Readable}
 use Rattle.writer_layout.specs.Small.{Small}
 
 -- Four octets one by one.
@@ -46,102 +50,192 @@ pub length-there : (b : Bool) (l : List ℕ) → length (cond b l []) ≡ cond b
 length-there true l = refl
 length-there false l = refl
 
-pub nai-most : (nt : ℕ) → naiLength nt ≤ 40
-unfolding naiLength
-nai-most nt = go (eqb nt 2) (eqb nt 4) (eqb nt 6)
+-- The octets before the SID.
+pub length-fixed : {form : Form} → Sized form → (h : Head) (behaviour : ℕ) → length (fixedOctets form h behaviour) ≡ form .fixed
+unfolding fixedOctets
+length-fixed {form} z h behaviour = go (form .behaves) (z .fixed)
   where
-    go : (a b c : Bool) → cond a 16 (cond b 32 (cond c 40 0)) ≤ 40
-    go true b c = omega arith
-    go false true c = omega arith
-    go false false true = omega arith
-    go false false false = omega arith
+    go : (b : Bool) → form .fixed ≡ cond b 8 4 → suc (suc (suc (suc (length (cond b (0 ∷ 0 ∷ hi behaviour ∷ lo behaviour ∷ []) []))))) ≡ form .fixed
+    go true e = sym e
+    go false e = sym e
 
-pub length-subobject : (g : Segment) → Held g
-    → length (subobjectOf g) ≡ 8 + sidLength (headOfSegment g .s) + naiLength (g .nt) + structureLength (headOfSegment g .s) (headOfSegment g .t)
-unfolding subobjectOf fixedOctets hasStructure
-length-subobject g h =
-    let e1 : length (take (sidLength (headOfSegment g .s)) (g .sid)) ≡ sidLength (headOfSegment g .s)
-    = ap length (part-there (eqb (headOfSegment g .s) 0) (g .sid) 16 (h .sid)) ∙ length-there (eqb (headOfSegment g .s) 0) (g .sid) ∙ rw (h .sid) in
-    let e2 : length (take (naiLength (g .nt)) (g .nai)) ≡ naiLength (g .nt) = length-take-le _ _ (omega (arith, nai-most (g .nt), h .nai)) in
-    let e3 : length (cond (structureThere (headOfSegment g .s) (headOfSegment g .t)) (structureOctets (g .structure)) []) ≡ structureLength (headOfSegment g .s) (headOfSegment g .t)
-    = length-there (structureThere (headOfSegment g .s) (headOfSegment g .t)) (structureOctets (g .structure)) ∙ rw (length-structure (g .structure) (h .structure)) in
-    simp (length-append (take (sidLength (headOfSegment g .s)) (g .sid)), length-append (take (naiLength (g .nt)) (g .nai)), e1, e2, e3) (omega arith)
+-- The octets of a SID that is there or not, of an NAI, of a structure.
+pub length-sid : {form : Form} → Sized form → (g : Segment) → Held g
+    → length (take (sidLength form (headOfSegment form g .s)) (g .sid)) ≡ sidLength form (headOfSegment form g .s)
+length-sid {form} z g h = length-take-le _ (g .sid) (omega (arith, z .sid, h .sid, cond-most (eqb (headOfSegment form g .s) 0) (form .sid)))
+
+pub length-nai : {form : Form} → Sized form → (g : Segment) → Held g → length (take (naiLength form (g .nt)) (g .nai)) ≡ naiLength form (g .nt)
+length-nai z g h = length-take-le _ (g .nai) (omega (arith, nai-most z (g .nt), h .nai))
+
+pub length-subobject : {form : Form} → Sized form → (g : Segment) → Held g
+    → length (subobjectOf form g)
+    ≡ form .fixed + sidLength form (headOfSegment form g .s) + naiLength form (g .nt) + structureLength (headOfSegment form g .s) (headOfSegment form g .t)
+unfolding subobjectOf hasStructure
+length-subobject {form} z g h =
+    let p = headOfSegment form g in
+    let f = fixedOctets form p (g .behaviour) in
+    let a = take (sidLength form (p .s)) (g .sid) in
+    let b = take (naiLength form (g .nt)) (g .nai) in
+    let d = cond (structureThere (p .s) (p .t)) (structureOctets (g .structure)) [] in
+    let e3 : length d ≡ structureLength (p .s) (p .t)
+    = length-there (structureThere (p .s) (p .t)) (structureOctets (g .structure)) ∙ rw (length-structure (g .structure) (h .structure)) in
+    omega (
+      arith,
+      length-append f (a ++ (b ++ d)),
+      length-append a (b ++ d),
+      length-append b d,
+      length-fixed z p (g .behaviour),
+      length-sid z g h,
+      length-nai z g h,
+      e3,
+    )
 
 -- Four runs laid one behind the other.
-pub written : (f sid nai last b w x y z : List ℕ) (k n m : ℕ) → length f ≡ 8 → w ≡ over f b → x ≡ placed w 8 (take k sid) → y ≡ placed x (8 + k) (take n nai)
-    → z ≡ placed y (8 + k + n) (take m last) → k ≤ length sid → n ≤ length nai → 8 + k + n ≤ length b
+pub written : (f sid nai last b w x y z : List ℕ) (l k n m : ℕ) → length f ≡ l → w ≡ over f b → x ≡ placed w l (take k sid) → y ≡ placed x (l + k) (take n nai)
+    → z ≡ placed y (l + k + n) (take m last) → k ≤ length sid → n ≤ length nai → l + k + n ≤ length b
     → z ≡ over (f ++ (take k sid ++ (take n nai ++ take m last))) b
-written f sid nai last b w x y z k n m lf ew ex ey ez hk hn hb =
-    let l1 : length (f ++ take k sid) ≡ 8 + k = omega (arith, length-append f (take k sid), length-take-le k sid hk) in
-    let l2 : length ((f ++ take k sid) ++ take n nai) ≡ 8 + k + n = omega (arith, length-append (f ++ take k sid) (take n nai), length-take-le n nai hn) in
+written f sid nai last b w x y z l k n m lf ew ex ey ez hk hn hb =
+    let l1 : length (f ++ take k sid) ≡ l + k = omega (arith, length-append f (take k sid), length-take-le k sid hk) in
+    let l2 : length ((f ++ take k sid) ++ take n nai) ≡ l + k + n = omega (arith, length-append (f ++ take k sid) (take n nai), length-take-le n nai hn) in
     ez ∙ rw (
       ey,
       ex,
       ew,
-      over-at f (take k sid) b 8 lf (omega arith),
-      over-at (f ++ take k sid) (take n nai) b (8 + k) l1 (omega arith),
-      over-at ((f ++ take k sid) ++ take n nai) (take m last) b (8 + k + n) l2 hb,
+      over-at f (take k sid) b l lf (omega arith),
+      over-at (f ++ take k sid) (take n nai) b (l + k) l1 (omega arith),
+      over-at ((f ++ take k sid) ++ take n nai) (take m last) b (l + k + n) l2 hb,
     ) (simp append-assoc)
 
--- The head of a segment whose NT is known fits its bits.
-pub nt-known : (g : Segment) → rule8 (headOfSegment g) ≡ false → g .nt < 16
-unfolding rule8 headOfSegment
-nt-known g e = go (g .nt) (known (eqb (g .nt) 0) (eqb (g .nt) 2) (eqb (g .nt) 4) (eqb (g .nt) 6) e)
+-- The first four octets and the four behind them, where the form has these.
+pub fixed-eight : (form : Form) (h : Head) (behaviour : ℕ) (b w x : List ℕ) → form .behaves ≡ true → 8 ≤ length b
+    → w ≡ over ((h .l * 128 + h .kind) ∷ h .size ∷ (h .nt * 16) ∷ flagsOctet form h ∷ []) b → x ≡ placed w 4 (0 ∷ 0 ∷ hi behaviour ∷ lo behaviour ∷ [])
+    → x ≡ over (fixedOctets form h behaviour) b
+unfolding fixedOctets flagsOctet
+fixed-eight form h behaviour b w x e l ew ex =
+    let first = (h .l * 128 + h .kind) ∷ h .size ∷ (h .nt * 16) ∷ flagsOctet form h ∷ [] in
+    ex ∙ rw (ew, e) (over-at first (0 ∷ 0 ∷ hi behaviour ∷ lo behaviour ∷ []) b 4 refl (omega arith))
+
+pub fixed-four : (form : Form) (h : Head) (behaviour : ℕ) (b w : List ℕ) → form .behaves ≡ false
+    → w ≡ over ((h .l * 128 + h .kind) ∷ h .size ∷ (h .nt * 16) ∷ flagsOctet form h ∷ []) b → w ≡ over (fixedOctets form h behaviour) b
+unfolding fixedOctets
+fixed-four form h behaviour b w e ew = ew ∙ rw e
+
+-- How many octets these are.
+pub fixed-long : {form : Form} → Sized form → form .behaves ≡ true → form .fixed ≡ 8
+fixed-long z e = z .fixed ∙ rw e
+
+pub fixed-least : {form : Form} → Sized form → 4 ≤ form .fixed
+fixed-least {form} z = go (form .behaves) (z .fixed)
   where
-    known : (a b c d : Bool) → not (a || (b || (c || d))) ≡ false → (a ≡ true) ⊎ ((b ≡ true) ⊎ ((c ≡ true) ⊎ (d ≡ true)))
-    known true b c d e = inl refl
-    known false true c d e = inr (inl refl)
-    known false false true d e = inr (inr (inl refl))
-    known false false false true e = inr (inr (inr refl))
-    known false false false false e = inr (inr (inr (sym e)))
+    go : (b : Bool) → form .fixed ≡ cond b 8 4 → 4 ≤ form .fixed
+    go true e = omega arith
+    go false e = omega arith
 
-    go : (n : ℕ) → (eqb n 0 ≡ true) ⊎ ((eqb n 2 ≡ true) ⊎ ((eqb n 4 ≡ true) ⊎ (eqb n 6 ≡ true))) → n < 16
-    go n k =
-        ⊎-elim (λ h. omega (arith, eqb-true n 0 h))
-        (λ k. ⊎-elim (λ h. omega (arith, eqb-true n 2 h)) (λ k. ⊎-elim (λ h. omega (arith, eqb-true n 4 h)) (λ h. omega (arith, eqb-true n 6 h)) k) k) k
+pub fixed-most : {form : Form} → Sized form → form .fixed ≤ 8
+fixed-most {form} z = go (form .behaves) (z .fixed)
+  where
+    go : (b : Bool) → form .fixed ≡ cond b 8 4 → form .fixed ≤ 8
+    go true e = omega arith
+    go false e = omega arith
 
-bit-most : (b : Bool) → bit b ≤ 1
+-- An NT that a form knows is at most 6.
+pub nt-known : (form : Form) (nt : ℕ) → knows form nt ≡ true → nt ≤ 6
+unfolding knows naiLength
+nt-known form nt e = go (ltb 6 nt) refl
+  where
+    go : (b : Bool) → ltb 6 nt ≡ b → nt ≤ 6
+    go false h = ltb-false 6 nt h
+    go true h =
+        let k = ltb-true 6 nt h in
+        let q : (eqb nt 0 || not (eqb (naiLength form nt) 0)) ≡ false
+        = rw (
+          ne-eqb nt 0 (λ z. omega arith),
+          ne-eqb nt 1 (λ z. omega arith),
+          ne-eqb nt 2 (λ z. omega arith),
+          ne-eqb nt 3 (λ z. omega arith),
+          ne-eqb nt 4 (λ z. omega arith),
+          ne-eqb nt 5 (λ z. omega arith),
+          ne-eqb nt 6 (λ z. omega arith),
+        ) in
+        absurd (let w : _≡_ {A = Bool} true false = sym e ∙ q in let v : _≡_ {A = ℕ} 0 1 = cc in omega arith)
+
+pub bit-most : (b : Bool) → bit b ≤ 1
 bit-most true = omega arith
 bit-most false = omega arith
 
+-- A flag adds no more than it is worth.
+pub bit-times : (n w : ℕ) → n ≤ 1 → n * w ≤ w
+bit-times ℕ.zero w h = omega arith
+bit-times (ℕ.suc ℕ.zero) w h = omega arith
+bit-times (ℕ.suc (ℕ.suc n)) w h = absurd (omega arith)
+
+pub flags-small : {form : Form} → Readable form → (h : Head) → h .v ≤ 1 → h .t ≤ 1 → h .f ≤ 1 → h .s ≤ 1 → h .c ≤ 1 → h .m ≤ 1 → flagsOctet form h < 256
+unfolding flagsOctet
+flags-small {form} r h v t f s c m =
+    omega (
+      arith,
+      r .most,
+      bit-times (h .v) (form .v) v,
+      bit-times (h .t) (form .t) t,
+      bit-times (h .f) (form .f) f,
+      bit-times (h .s) (form .s) s,
+      bit-times (h .c) (form .c) c,
+      bit-times (h .m) (form .m) m,
+    )
+
 -- The head of an outline whose NT is known fits its bits.
-pub small-head : (g : Segment) (h : Head) → h ≡ headOfSegment g → rule8 h ≡ false → Small h
-unfolding headOfSegment expectedLength
-small-head g h e r =
+pub small-head : {form : Form} → Sized form → Readable form → (g : Segment) (h : Head) → h ≡ headOfSegment form g → rule8 form h ≡ false → Small form h
+unfolding headOfSegment expectedLength rule8
+small-head {form} z r g h e q =
+    let k : g .nt ≤ 6 = nt-known form (g .nt) (not-false _ (sym (ap (λ (x : Head). not (knows form (x .nt))) e) ∙ q)) in
     rw e (record {
       l = bit-most (g .loose);
-      kind = omega arith;
-      size = omega (arith, nai-most (g .nt), cond-most (eqb (bit (not (g .hassid))) 0) 16, cond-most (structureThere (bit (not (g .hassid))) (bit (g .structured))) 8);
-      nt = nt-known g (sym (ap rule8 e) ∙ r);
+      kind = r .kind;
+      size = omega (
+        arith,
+        fixed-most z,
+        z .sid,
+        nai-most z (g .nt),
+        cond-most (eqb (bit (not (g .hassid))) 0) (form .sid),
+        cond-most (structureThere (bit (not (g .hassid))) (bit (g .structured))) 8,
+      );
+      nt = omega arith;
       v = bit-most (g .verify);
       t = bit-most (g .structured);
       f = cond-most (eqb (g .nt) 0) 1;
       s = bit-most (not (g .hassid));
+      c = bit-most (g .complete);
+      m = bit-most (g .labelled);
+      flags = flags-small r (headOfSegment form g) (bit-most (g .verify)) (bit-most (g .structured)) (cond-most (eqb (g .nt) 0) 1) (bit-most (not (g .hassid)))
+          (bit-most (g .complete)) (bit-most (g .labelled));
     })
 
 -- Where a subobject fits, its parts do.
-pub room : (g : Segment) (h : Head) (most : ℕ) → Held g → h ≡ headOfSegment g → length (subobjectOf g) ≤ most
-    → 8 + cond (eqb (h .s) 0) 16 0 + naiLength (h .nt) + cond (hasStructure h) 8 0 ≤ most
+pub room : {form : Form} → Sized form → (g : Segment) (h : Head) (most : ℕ) → Held g → h ≡ headOfSegment form g → length (subobjectOf form g) ≤ most
+    → form .fixed + sidLength form (h .s) + naiLength form (h .nt) + cond (hasStructure h) 8 0 ≤ most
 unfolding hasStructure headOfSegment
-room g h most hg e hl = rw e (omega (arith, length-subobject g hg))
+room z g h most hg e hl = rw e (omega (arith, length-subobject z g hg))
 
 -- The fixed octets, SID, NAI and structure laid one behind the other are the subobject.
-pub written-subobject : (g : Segment) (h : Head) (last b w x y z : List ℕ) (k n : ℕ) (there : Bool) → Held g → h ≡ headOfSegment g
-    → last ≡ structureOctets (g .structure) → k ≡ cond (eqb (h .s) 0) 16 0 → n ≡ naiLength (h .nt) → there ≡ hasStructure h
-    → length (subobjectOf g) ≤ length b → w ≡ over (fixedOctets h (g .behaviour)) b → x ≡ placed w 8 (take (cond (eqb (h .s) 0) 16 0) (g .sid))
-    → y ≡ placed x (8 + k) (take (naiLength (h .nt)) (g .nai)) → z ≡ placed y (8 + k + n) (take (cond there 8 0) last) → z ≡ over (subobjectOf g) b
-unfolding subobjectOf fixedOctets headOfSegment
-written-subobject g h last b w x y z k n there hg eh el ek en et hb ew ex ey ez =
-    let l : take (cond there 8 0) last ≡ cond there (structureOctets (g .structure)) []
+pub written-subobject : {form : Form} → Sized form → (g : Segment) (h : Head) (last b w x y z : List ℕ) (l k n : ℕ) (there : Bool) → Held g → h ≡ headOfSegment form g
+    → last ≡ structureOctets (g .structure) → l ≡ form .fixed → k ≡ sidLength form (h .s) → n ≡ naiLength form (h .nt) → there ≡ hasStructure h
+    → length (subobjectOf form g) ≤ length b → w ≡ over (fixedOctets form h (g .behaviour)) b → x ≡ placed w l (take k (g .sid))
+    → y ≡ placed x (l + k) (take n (g .nai)) → z ≡ placed y (l + k + n) (take (cond there 8 0) last) → z ≡ over (subobjectOf form g) b
+unfolding subobjectOf headOfSegment
+written-subobject {form} sz g h last b w x y z l k n there hg eh el ef ek en et hb ew ex ey ez =
+    let q : take (cond there 8 0) last ≡ cond there (structureOctets (g .structure)) []
     = rw el (part-there there (structureOctets (g .structure)) 8 (length-structure (g .structure) (hg .structure))) in
-    let en' : n ≡ naiLength (g .nt) = en ∙ rw eh in
-    let ek' : k ≡ cond (eqb (headOfSegment g .s) 0) 16 0 = ek ∙ rw eh in
-    written (fixedOctets h (g .behaviour)) (g .sid) (g .nai) last b w x y z k n (cond there 8 0) refl ew
-    (ex ∙ rw ek) (ey ∙ rw en) ez
-    (omega (arith, hg .sid, cond-most (eqb (h .s) 0) 16))
-    (omega (arith, hg .nai, nai-most (h .nt)))
-    (omega (arith, room g h (length b) hg eh hb))
-    ∙ rw (l, ek', en', et, eh)
+    let en' : n ≡ naiLength form (g .nt) = en ∙ rw eh in
+    let ek' : k ≡ sidLength form (headOfSegment form g .s) = ek ∙ rw eh in
+    written (fixedOctets form h (g .behaviour)) (g .sid) (g .nai) last b w x y z l k n (cond there 8 0) (length-fixed sz h (g .behaviour) ∙ sym ef) ew ex ey ez
+    (omega (arith, hg .sid, sz .sid, cond-most (eqb (h .s) 0) (form .sid)))
+    (omega (arith, hg .nai, nai-most sz (h .nt)))
+    (omega (arith, room sz g h (length b) hg eh hb))
+    ∙ rw (q, ek', en', et, eh)
+
+-- The length of a SID that is there or not, as the code works it out.
+pub sid-picked : (form : Form) (s w k : ℕ) → w ≡ form .sid → k ≡ cond (eqb s 0) w 0 → k ≡ sidLength form s
+sid-picked form s w k e q = q ∙ rw e
 
 -- A run of no octets.
 pub placed-none : (b : List ℕ) (at : ℕ) → placed b at [] ≡ b
@@ -171,31 +265,26 @@ pub room-there : (there : Bool) (l : List ℕ) (at n room : ℕ) → length l �
 room-there true l at n room e t h = rw e h
 room-there false l at n room e t h = absurd (let z : _≡_ {A = ℕ} 0 1 = cc in omega arith)
 
--- The octets of an NAI, by NT.
-pub nai-node : (nt : ℕ) → nt ≡ 2 → naiLength nt ≡ 16
-unfolding naiLength
-nai-node nt e = rw e
+-- The first n octets of a part laid, through an array of its own or not.
+pub laid-first : (l a b x : List ℕ) (at n m k : ℕ) → length l ≡ k → a ≡ partOf l 0 k k → n ≡ m → x ≡ placed b at (take m a) → x ≡ placed b at (take n l)
+laid-first l a b x at n m k e q d h = h ∙ rw (own l a k e q, d)
 
-pub nai-adjacency : (nt : ℕ) → nt ≡ 4 → naiLength nt ≡ 32
-unfolding naiLength
-nai-adjacency nt e = rw e
+pub laid-whole : (l a b x : List ℕ) (at n m : ℕ) → a ≡ partOf l 0 m m → m ≤ length l → n ≡ m → x ≡ placed b at a → x ≡ placed b at (take n l)
+unfolding partOf part over
+laid-whole l a b x at n m q h d e =
+    let z : List ℕ = replicate m 0 in
+    let y : length z ≤ length (take m l) = omega (arith, length-replicate {A = ℕ} m 0, length-take-le m l h) in
+    e ∙ rw (q, drop-of-length-le z y, append-nil (take m l), d)
 
-pub nai-link : (nt : ℕ) → nt ≡ 6 → naiLength nt ≡ 40
-unfolding naiLength
-nai-link nt e = rw e
+pub first-long : (l a : List ℕ) (n k : ℕ) → length l ≡ k → a ≡ partOf l 0 k k → n ≤ k → n ≡ length (take n a)
+first-long l a n k e q h = sym (length-take-le n a (omega (arith, ap length (own l a k e q))))
 
-pub nai-none : (nt : ℕ) → (nt ≡ 2 → ⊥) → (nt ≡ 4 → ⊥) → (nt ≡ 6 → ⊥) → naiLength nt ≡ 0
-unfolding naiLength
-nai-none nt a b c = rw (ne-eqb nt 2 a, ne-eqb nt 4 b, ne-eqb nt 6 c)
+pub first-room : (l a : List ℕ) (n m at room k : ℕ) → length l ≡ k → a ≡ partOf l 0 k k → n ≡ m → m ≤ k → at + n ≤ room → at + length (take m a) ≤ room
+first-room l a n m at room k e q d h i = let z = first-long l a m k e q h in omega arith
 
-pub room-nai : (nt n at room : ℕ) (l : List ℕ) → naiLength nt ≡ n → n ≤ length l → at + naiLength nt ≤ room → at + length (take n l) ≤ room
-room-nai nt n at room l e q h = let z = length-take-le n l q in omega arith
+-- What a flag adds.
+pub worth-none : (n w : ℕ) → n ≡ 0 → (0 ≡ n * w) × (0 < 256)
+worth-none n w e = (rw e (omega arith), omega arith)
 
-pub laid-nai : (nt n at : ℕ) (b l x : List ℕ) → naiLength nt ≡ n → x ≡ placed b at (take n l) → x ≡ placed b at (take (naiLength nt) l)
-laid-nai nt n at b l x e q = rw e q
-
-pub laid-nai-whole : (nt at : ℕ) (b l x : List ℕ) → length l ≡ 40 → naiLength nt ≡ 40 → x ≡ placed b at l → x ≡ placed b at (take (naiLength nt) l)
-laid-nai-whole nt at b l x h e q = q ∙ rw (e, take-all 40 l (omega arith))
-
-pub laid-nai-none : (nt at : ℕ) (b l : List ℕ) → naiLength nt ≡ 0 → b ≡ placed b at (take (naiLength nt) l)
-laid-nai-none nt at b l e = sym (rw e (placed-none b at))
+pub worth-some : (n w r : ℕ) → n ≤ 1 → (n ≡ 0 → ⊥) → (r ≡ w) × (r < 256) → (r ≡ n * w) × (r < 256)
+worth-some n w r h z p = let e : n ≡ 1 = omega arith in (p .0 ∙ rw e (omega arith), p .1)

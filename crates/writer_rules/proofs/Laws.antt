@@ -1,6 +1,6 @@
 -- What an acceptance says, in the order of specs/Refusals. Assumes nothing.
 use Prim.Native.Nat.{ℕ, suc, _+_, _%_, _≤_}
-use mathlib.Core.Path.{_≡_, refl, sym}
+use mathlib.Core.Path.{_≡_, refl, sym, _∙_}
 use mathlib.Core.Bool.{Bool, true, false, cond, not, _||_}
 use lib.Dec.{eqb, ltb}
 use lib.ListN.{length}
@@ -8,9 +8,11 @@ use borrow.Author.Tests.{eqb-true, eqb-false, ltb-false, not-false}
 use native.Mathlib.Omega.{arith}
 use Rattle.octets.proofs.Said.{either-false}
 use Rattle.objects.specs.Objects.{header, unit}
+use Rattle.forms.specs.declared.Form.{Form}
+use Rattle.forms.specs.Sized.{Sized}
 use Rattle.subobject.specs.declared.segment.Segment.{Segment}
 use Rattle.subobject.specs.Layout.{expectedLength}
-use Rattle.subobject.specs.Rules.{rule8, rule9, rule11}
+use Rattle.subobject.specs.Rules.{rule8, rule9, rule11, labelAt, timeAt, rule29, rule30}
 use Rattle.subobject.specs.Segments.{headOfSegment, subobjectOf, bitsOf}
 use Rattle.writer_spare.specs.Held.{Held}
 use Rattle.writer_layout.proofs.Laws.{length-subobject}
@@ -52,29 +54,34 @@ proper at room e =
 -- add ----------------------------------------------------------------------------------------------------------
 
 -- What an acceptance says of the segment and the place.
-pub record Taken (room : ℕ) (ero : Bool) (at : ℕ) (g : Segment) : Type 0 where
-  pub r8 : rule8 (headOfSegment g) ≡ false
-  pub r9 : rule9 (headOfSegment g) ≡ false
-  pub fit : unfit ero g ≡ false
-  pub r11 : rule11 (headOfSegment g) (bitsOf g) ≡ false
+pub record Taken (form : Form) (room : ℕ) (ero : Bool) (at : ℕ) (g : Segment) : Type 0 where
+  pub r8 : rule8 form (headOfSegment form g) ≡ false
+  pub r9 : rule9 (headOfSegment form g) ≡ false
+  pub fit : unfit form ero g ≡ false
+  pub r11 : rule11 (headOfSegment form g) (bitsOf g) ≡ false
+  pub r29 : rule29 (headOfSegment form g) (labelAt (g .sid) 0) ≡ false
+  pub r30 : rule30 (headOfSegment form g) (timeAt (g .sid) 0) ≡ false
   pub place : Proper at room
-  pub end : Within (at + length (subobjectOf g)) room
+  pub end : Within (at + length (subobjectOf form g)) room
 
-pub taken : (room : ℕ) (ero : Bool) (at : ℕ) (g : Segment) → addNumber room ero at g ≡ 0 → Taken room ero at g
+pub taken : (form : Form) (room : ℕ) (ero : Bool) (at : ℕ) (g : Segment) → addNumber form room ero at g ≡ 0 → Taken form room ero at g
 unfolding addNumber noRoom
-taken room ero at g e =
-    let e8 = no-refusal (rule8 (headOfSegment g)) 7 _ e in
-    let e9 = no-refusal (rule9 (headOfSegment g)) 8 _ (e8 .1) in
-    let e7 = no-refusal (unfit ero g) 6 _ (e9 .1) in
-    let e11 = no-refusal (rule11 (headOfSegment g) (bitsOf g)) 10 _ (e7 .1) in
-    let e16 = no-refusal (badPlace at room || passes (at + length (subobjectOf g)) room) 15 0 (e11 .1) in
-    let p = either-false (badPlace at room) (passes (at + length (subobjectOf g)) room) (e16 .0) in
-    record { r8 = e8 .0; r9 = e9 .0; fit = e7 .0; r11 = e11 .0; place = proper at room (p .0); end = within _ room (p .1) }
+taken form room ero at g e =
+    let h = headOfSegment form g in
+    let e8 = no-refusal (rule8 form h) 7 _ e in
+    let e9 = no-refusal (rule9 h) 8 _ (e8 .1) in
+    let e7 = no-refusal (unfit form ero g) 6 _ (e9 .1) in
+    let e11 = no-refusal (rule11 h (bitsOf g)) 10 _ (e7 .1) in
+    let e29 = no-refusal (rule29 h (labelAt (g .sid) 0)) 28 _ (e11 .1) in
+    let e30 = no-refusal (rule30 h (timeAt (g .sid) 0)) 29 _ (e29 .1) in
+    let e16 = no-refusal (badPlace at room || passes (at + length (subobjectOf form g)) room) 15 0 (e30 .1) in
+    let p = either-false (badPlace at room) (passes (at + length (subobjectOf form g)) room) (e16 .0) in
+    record { r8 = e8 .0; r9 = e9 .0; fit = e7 .0; r11 = e11 .0; r29 = e29 .0; r30 = e30 .0; place = proper at room (p .0); end = within _ room (p .1) }
 
 -- The octets of a subobject are as many as its head says.
-pub size-subobject : (g : Segment) → Held g → headOfSegment g .size ≡ length (subobjectOf g)
+pub size-subobject : {form : Form} → Sized form → (g : Segment) → Held g → headOfSegment form g .size ≡ length (subobjectOf form g)
 unfolding headOfSegment expectedLength
-size-subobject g h = sym (length-subobject g h)
+size-subobject z g h = sym (length-subobject z g h)
 
 -- finish -------------------------------------------------------------------------------------------------------
 
@@ -88,3 +95,10 @@ done room at e =
     let e16 = no-refusal (badPlace at room) 15 _ e in
     let e5 = no-refusal (eqb at header) 4 0 (e16 .1) in
     record { place = proper at room (e16 .0); filled = eqb-false at header (e5 .0) }
+
+-- The place is bad, or else the segment passes the end.
+pub crowd-place : (m p q : Bool) → m ≡ p → m ≡ true → true ≡ (p || q)
+crowd-place m p q e t = rw (sym e ∙ t)
+
+pub crowd-end : (m p q r : Bool) → m ≡ p → m ≡ false → r ≡ q → r ≡ (p || q)
+crowd-end m p q r e t h = rw (sym e ∙ t) h

@@ -1,13 +1,15 @@
--- What adding to a route object and finishing it refuse (document 01, "Writing a route").
+-- What adding to a route object and finishing it refuse (document 01, "Writing a route"; document 02, C-16).
 use Prim.Native.Nat.{ℕ, _+_, _%_}
 use mathlib.Core.Bool.{Bool, cond, not, _&&_, _||_}
 use lib.Dec.{eqb, ltb}
 use lib.ListN.{length}
-use Rattle.answers.specs.Numbers.{routeEmpty, lengthWrong, naiUnknown, nothingThere, structureTooLong, bufferFull}
+use Rattle.answers.specs.Numbers.{routeEmpty, lengthWrong, naiUnknown, nothingThere, structureTooLong, bufferFull, labelValue, labelFormat}
 use Rattle.objects.specs.Objects.{header, unit}
+use Rattle.forms.specs.declared.Form.{Form}
+use Rattle.subobject.specs.declared.segment.Outline.{Outline}
 use Rattle.subobject.specs.declared.segment.Segment.{Segment}
-use Rattle.subobject.specs.Rules.{rule8, rule9, rule11}
-use Rattle.subobject.specs.Segments.{headOfSegment, subobjectOf, bitsOf}
+use Rattle.subobject.specs.Rules.{rule8, rule9, malformed, rule11, labelAt, timeAt, rule29, rule30}
+use Rattle.subobject.specs.Segments.{outlineOf, headOfSegment, subobjectOf, bitsOf}
 use Rattle.writer_spare.specs.Spare.{tidyOf}
 
 -- the place ----------------------------------------------------------------------------------------------------
@@ -26,22 +28,32 @@ badPlace at room = ltb at header || (not (eqb (at % unit) 0) || passes at room)
 
 -- add ----------------------------------------------------------------------------------------------------------
 
--- 7: "structure without a SID, L or V in an RRO, such octets not 0"
-unfoldable pub unfit : Bool → Segment → Bool
-unfit ero g = (g .structured && not (g .hassid)) || ((not ero && (g .loose || g .verify)) || not (tidyOf g))
+-- "For SRv6 M and C must be 0, for MPLS behaviour .. must be 0 and there is no structure": what the form has no flag and no place for.
+unfoldable pub foreign : Form → Outline → Bool
+foreign form o =
+    (eqb (form .m) 0 && o .labelled)
+    || ((eqb (form .c) 0 && o .complete) || ((eqb (form .t) 0 && o .structured) || (not (form .behaves) && not (eqb (o .behaviour) 0))))
+
+-- 7: "structure without a SID, L or V in an RRO, such octets not 0"; what is foreign to the form, and flags that are malformed, as in reading.
+unfoldable pub unfit : Form → Bool → Segment → Bool
+unfit form ero g =
+    (g .structured && not (g .hassid))
+    || ((not ero && (g .loose || g .verify)) || (not (tidyOf form g) || (foreign form (outlineOf g) || malformed (headOfSegment form g))))
 
 -- 16: the object would pass that end, or the place is bad.
-unfoldable pub noRoom : ℕ → ℕ → Segment → Bool
-noRoom at room g = badPlace at room || passes (at + length (subobjectOf g)) room
+unfoldable pub noRoom : Form → ℕ → ℕ → Segment → Bool
+noRoom form at room g = badPlace at room || passes (at + length (subobjectOf form g)) room
 
--- "Adding checks 8, 9, 7 (..), 11, then 16." The head is the one that the segment is written with: "F follows from NT".
-unfoldable pub addNumber : ℕ → Bool → ℕ → Segment → ℕ
-addNumber room ero at g =
-    cond (rule8 (headOfSegment g)) naiUnknown
-    (cond (rule9 (headOfSegment g)) nothingThere
-    (cond (unfit ero g) lengthWrong
-    (cond (rule11 (headOfSegment g) (bitsOf g)) structureTooLong
-    (cond (noRoom at room g) bufferFull 0))))
+-- "Adding checks 8, 9, 7 (..), 11, then 16"; "29 and 30 after 11, before 16". The head is the one that the segment is written with: "F follows from NT". A label
+-- and its TTL are those of the segment's SID.
+unfoldable pub addNumber : Form → ℕ → Bool → ℕ → Segment → ℕ
+addNumber form room ero at g =
+    cond (rule8 form (headOfSegment form g)) naiUnknown
+    (cond (rule9 (headOfSegment form g)) nothingThere
+    (cond (unfit form ero g) lengthWrong
+    (cond (rule11 (headOfSegment form g) (bitsOf g)) structureTooLong
+    (cond (rule29 (headOfSegment form g) (labelAt (g .sid) 0)) labelValue
+    (cond (rule30 (headOfSegment form g) (timeAt (g .sid) 0)) labelFormat (cond (noRoom form at room g) bufferFull 0))))))
 
 -- finish -------------------------------------------------------------------------------------------------------
 

@@ -12,15 +12,17 @@ use check::Checked;
 use std::ffi::{OsStr, OsString};
 use std::io::{self, BufWriter, Write};
 use std::process::ExitCode;
+use strundevi::Form;
 
 const HELP: &str = "\
-strundevi check [--plain] FILE..     judges a PCC OPEN, a PCE OPEN and an ERO that stand one behind the other in each file
-strundevi segments FILE..            the same, and shows the segments of an accepted route
-strundevi explain NUMBER..           what a number means, what to do, and its PCErr
-strundevi --help                     this text
+strundevi check [--mpls] [--plain] FILE..   judges a PCC OPEN, a PCE OPEN and an ERO that stand one behind the other in each file
+strundevi segments [--mpls] FILE..          the same, and shows the segments of an accepted route
+strundevi explain NUMBER..                  what a number means, what to do, and its PCErr
+strundevi --help                            this text
 
 FILE     octets as they are, or text of hexadecimal digits with spaces and line ends; - is standard input. The first 65,536
          octets count, and what stands behind the ERO does not.
+--mpls   the ERO is one of MPLS, setup type 1; without it, one of SRv6, setup type 3
 --plain  prints the line of the checking program: number, place, count, stray segments
 --       what follows is a FILE or a NUMBER, whatever it begins with
 
@@ -35,7 +37,7 @@ const REFUSED: u8 = 1;
 const UNREADABLE: u8 = 2;
 
 #[derive(Clone, Copy, PartialEq)]
-enum Form {
+enum Shape {
     Verdict,
     Plain,
     Segments,
@@ -68,6 +70,7 @@ fn obey(arguments: &[OsString], out: &mut impl Write) -> io::Result<u8> {
         return misused("no command");
     };
     let mut plain = false;
+    let mut form = Form::Srv6;
     let mut names = Vec::new();
     let mut options = true;
     for word in rest {
@@ -75,6 +78,7 @@ fn obey(arguments: &[OsString], out: &mut impl Write) -> io::Result<u8> {
             Some("--") if options => options = false,
             Some("--help" | "-h") if options => return help(out),
             Some("--plain") if options => plain = true,
+            Some("--mpls") if options => form = Form::Mpls,
             Some(option) if options && option.len() > 1 && option.starts_with('-') => return misused(&format!("there is no option {option}")),
             _ => names.push(word.as_os_str()),
         }
@@ -82,8 +86,9 @@ fn obey(arguments: &[OsString], out: &mut impl Write) -> io::Result<u8> {
     match command.to_str() {
         Some("--help" | "-h" | "help") => help(out),
         Some("segments" | "explain") if plain => misused("--plain goes with check"),
-        Some("check") => files(&names, if plain { Form::Plain } else { Form::Verdict }, out),
-        Some("segments") => files(&names, Form::Segments, out),
+        Some("explain") if form == Form::Mpls => misused("--mpls goes with check and segments"),
+        Some("check") => files(&names, if plain { Shape::Plain } else { Shape::Verdict }, form, out),
+        Some("segments") => files(&names, Shape::Segments, form, out),
         Some("explain") => explain(&names, out),
         _ => misused(&format!("there is no command {}", command.to_string_lossy())),
     }
@@ -94,7 +99,7 @@ fn help(out: &mut impl Write) -> io::Result<u8> {
     Ok(ACCEPTED)
 }
 
-fn files(names: &[&OsStr], form: Form, out: &mut impl Write) -> io::Result<u8> {
+fn files(names: &[&OsStr], shape: Shape, form: Form, out: &mut impl Write) -> io::Result<u8> {
     if names.is_empty() {
         return misused("no file is named, and - is standard input");
     }
@@ -105,7 +110,7 @@ fn files(names: &[&OsStr], form: Form, out: &mut impl Write) -> io::Result<u8> {
     for name in names {
         let shown = if *name == "-" { "standard input".into() } else { name.to_string_lossy() };
         match input::octets(name) {
-            Ok(octets) => status = status.max(answer(&shown, &check::check(&octets), form, out)?),
+            Ok(octets) => status = status.max(answer(&shown, &check::check(&octets, form), shape, out)?),
             Err(fault) => {
                 out.flush()?;
                 complain(&format!("{shown}: {fault}"));
@@ -116,17 +121,17 @@ fn files(names: &[&OsStr], form: Form, out: &mut impl Write) -> io::Result<u8> {
     Ok(status)
 }
 
-fn answer(name: &str, checked: &Checked, form: Form, out: &mut impl Write) -> io::Result<u8> {
-    match form {
-        Form::Plain => writeln!(out, "{}", text::plain(checked))?,
-        Form::Verdict | Form::Segments => writeln!(out, "{name}: {}", text::verdict(checked))?,
+fn answer(name: &str, checked: &Checked, shape: Shape, out: &mut impl Write) -> io::Result<u8> {
+    match shape {
+        Shape::Plain => writeln!(out, "{}", text::plain(checked))?,
+        Shape::Verdict | Shape::Segments => writeln!(out, "{name}: {}", text::verdict(checked))?,
     }
     match checked {
         Checked::Refused(..) => Ok(REFUSED),
         Checked::Accepted(route) => {
-            if form == Form::Segments {
+            if shape == Shape::Segments {
                 for (i, (segment, strays)) in route.segments().enumerate() {
-                    writeln!(out, "  {i}: {}", text::segment(&segment, &strays))?;
+                    writeln!(out, "  {i}: {}", text::segment(&segment, &strays, route.form))?;
                 }
             }
             Ok(ACCEPTED)

@@ -7,12 +7,19 @@ pub struct Row {
     pub name: &'static str,
     pub says: &'static str,
     pub advice: &'static str,
+    pub srv6: Pcerrs,
+    pub mpls: Pcerrs,
+}
+
+/// What to send for a route of one form.
+#[derive(Clone, Copy, PartialEq)]
+pub struct Pcerrs {
     pub ero: Pcerr,
     pub rro: Pcerr,
 }
 
 /// A cell of the page: an Error-Type and Error-value, perhaps with a word behind it; or that there is none.
-#[derive(Clone, Copy)]
+#[derive(Clone, Copy, PartialEq)]
 pub struct Pcerr(&'static str);
 
 impl Pcerr {
@@ -28,11 +35,15 @@ impl Pcerr {
 
     /// `10/3 (Unsupported number of SR-ERO subobjects)`, where there is one.
     pub fn with_name(self) -> Option<String> {
-        let figures = self.figures()?;
-        Some(match rows().find(|cells| cells.first() == Some(&figures)).and_then(|cells| cells.get(1).copied()) {
-            Some(name) => format!("{figures} ({name})"),
-            None => figures.to_string(),
-        })
+        self.figures().map(named)
+    }
+}
+
+/// `10/3 (Unsupported number of SR-ERO subobjects)`, or the figures alone where the page has no name for them.
+pub fn named(figures: &str) -> String {
+    match rows().find(|cells| cells.first() == Some(&figures)).and_then(|cells| cells.get(1).copied()) {
+        Some(name) => format!("{figures} ({name})"),
+        None => figures.to_string(),
     }
 }
 
@@ -44,8 +55,11 @@ fn rows() -> impl Iterator<Item = Vec<&'static str>> {
 pub fn row(number: u64) -> Option<Row> {
     let number = number.to_string();
     let cells = rows().find(|cells| cells.first() == Some(&number.as_str()))?;
+    let pcerrs = |ero, rro| Pcerrs { ero: Pcerr(ero), rro: Pcerr(rro) };
     match cells[..] {
-        [_, name, says, advice, ero, rro] => Some(Row { name, says, advice, ero: Pcerr(ero), rro: Pcerr(rro) }),
+        // of both forms
+        [_, name, says, advice, ero, rro] => Some(Row { name, says, advice, srv6: pcerrs(ero, rro), mpls: pcerrs(ero, rro) }),
+        [_, name, says, advice, ero, rro, mpls_ero, mpls_rro] => Some(Row { name, says, advice, srv6: pcerrs(ero, rro), mpls: pcerrs(mpls_ero, mpls_rro) }),
         _ => None,
     }
 }

@@ -1,16 +1,16 @@
 //! Answers as people read them.
 
 use crate::behaviour;
-use crate::check::{Checked, Object};
-use crate::numbers::{self, Pcerr, Row};
+use crate::check::{Checked, Object, Why};
+use crate::numbers::{self, Pcerr, Pcerrs, Row};
 use std::net::Ipv6Addr;
-use strundevi::{Nai, Refusal, Segment, Strays};
+use strundevi::{Form, MplsSid, Nai, Segment, Strays};
 
 /// One line: accepted with so many segments, or the rule, the place and the PCErr.
 pub fn verdict(checked: &Checked) -> String {
     match checked {
         Checked::Accepted(route) => format!("accepted, {}{}", counted(route.count), strayed(route.stray)),
-        Checked::Refused(object, refusal) => refused(object, refusal),
+        Checked::Refused(object, why) => refused(object, why),
     }
 }
 
@@ -18,7 +18,7 @@ pub fn verdict(checked: &Checked) -> String {
 pub fn plain(checked: &Checked) -> String {
     match checked {
         Checked::Accepted(route) => format!("0 0 {} {}", route.count, route.stray),
-        Checked::Refused(_, refusal) => format!("{} {} 0 0", refusal.number as u64, refusal.place),
+        Checked::Refused(_, why) => format!("{} {} 0 0", why.refusal.number as u64, why.refusal.place),
     }
 }
 
@@ -38,29 +38,31 @@ fn strayed(stray: usize) -> String {
     }
 }
 
-fn refused(object: &Object, refusal: &Refusal) -> String {
-    let number = refusal.number as u64;
-    let row = numbers::row(number);
-    let name = row.as_ref().map_or("", |row| row.name);
-    let place = match refusal.place {
+fn refused(object: &Object, why: &Why) -> String {
+    let number = why.refusal.number as u64;
+    let name = numbers::row(number).map_or(why.refusal.number.text(), |row| row.name);
+    let whose = if why.form == Some(Form::Mpls) { " (MPLS)" } else { "" };
+    let place = match why.refusal.place {
         0 => format!("in the {}, which begins at octet {} of the input", object.name, object.start),
         place => format!("at octet {place} of the {}, octet {} of the input", object.name, object.start + place),
     };
-    let pcerr = match row.and_then(|row| row.ero.with_name()) {
-        Some(pcerr) => format!("PCErr {pcerr}"),
+    let pcerr = match why.pcerr {
+        Some(pcerr) => format!("PCErr {}", numbers::named(&format!("{}/{}", pcerr.error_type, pcerr.error_value))),
         None => "no PCErr".to_string(),
     };
-    format!("refused by {number}, {name}, {place}; {pcerr}")
+    format!("refused by {number}, {name}{whose}, {place}; {pcerr}")
 }
 
-/// A segment: what it has, and nothing of what it has not.
-pub fn segment(segment: &Segment, strays: &Strays) -> String {
+/// A segment of a route of this form: what it has, and nothing of what it has not.
+pub fn segment(segment: &Segment, strays: &Strays, form: Form) -> String {
     let mut parts = Vec::new();
-    match segment.sid() {
-        Some(sid) => parts.push(format!("SID {}", Ipv6Addr::from(*sid))),
-        None => parts.push("no SID".to_string()),
+    match form {
+        Form::Srv6 => {
+            parts.push(segment.sid().map_or("no SID".to_string(), |sid| format!("SID {}", Ipv6Addr::from(*sid))));
+            parts.push(format!("behaviour {} ({})", segment.behaviour(), behaviour::name(segment.behaviour())));
+        }
+        Form::Mpls => parts.push(segment.mpls_sid().map_or("no SID".to_string(), |sid| mpls_sid(&sid))),
     }
-    parts.push(format!("behaviour {} ({})", segment.behaviour(), behaviour::name(segment.behaviour())));
     if let Some(nai) = segment.nai() {
         parts.push(self::nai(&nai));
     }
@@ -85,11 +87,25 @@ pub fn segment(segment: &Segment, strays: &Strays) -> String {
     parts.join("; ")
 }
 
-/// An NAI: a node, an adjacency, or a link-local adjacency with its interfaces.
+/// An index, or a label; with C, what goes with it.
+fn mpls_sid(sid: &MplsSid) -> String {
+    match sid {
+        MplsSid::Index(index) => format!("index {index}"),
+        MplsSid::Label(entry) => format!("label {}", entry.label()),
+        MplsSid::Entry(entry) => format!("label {} with TC {}, S {}, TTL {} (C)", entry.label(), entry.tc(), entry.s() as u8, entry.ttl()),
+    }
+}
+
+/// An NAI: a node, an adjacency, or an adjacency with its interfaces.
 fn nai(nai: &Nai) -> String {
     match nai {
+        Nai::Node4(node) => format!("node {node}"),
         Nai::Node(node) => format!("node {node}"),
+        Nai::Adjacency4 { local, remote } => format!("adjacency from {local} to {remote}"),
         Nai::Adjacency { local, remote } => format!("adjacency from {local} to {remote}"),
+        Nai::Unnumbered { local, local_interface, remote, remote_interface } => {
+            format!("adjacency from {local} on interface {local_interface} to {remote} on interface {remote_interface}")
+        }
         Nai::LinkLocal { local, local_interface, remote, remote_interface } => {
             format!("adjacency from {local} on interface {local_interface} to {remote} on interface {remote_interface}")
         }
@@ -103,6 +119,14 @@ pub fn explained(number: u64, row: &Row) -> String {
 }
 
 fn pcerrs(row: &Row) -> String {
+    let (srv6, mpls) = (of_form(row.srv6), of_form(row.mpls));
+    match srv6 == mpls {
+        true => srv6,
+        false => format!("of SRv6 {srv6}; of MPLS {mpls}"),
+    }
+}
+
+fn of_form(row: Pcerrs) -> String {
     let side = |pcerr: Pcerr, of: &str| match pcerr.with_name() {
         Some(pcerr) => format!("{pcerr} for an {of}"),
         None if pcerr.word() == "-" => format!("none for an {of}"),

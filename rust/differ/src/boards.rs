@@ -5,9 +5,9 @@ use crate::objects;
 use crate::octets::{damage, hex};
 use crate::plain;
 use crate::random::Random;
-use crate::reading::{some_addresses, some_pst, some_session};
+use crate::reading::{some_addresses, some_form, some_pst, some_session};
 use crate::tally::{Call, Tally};
-use reference::{Board, Change, Session, PLACES, PLACE_OCTETS, STORE_OCTETS};
+use reference::{Board, Change, Form, Mpls, Session, PLACES, PLACE_OCTETS, STORE_OCTETS};
 use std::collections::BTreeMap;
 use strundevi::raw;
 
@@ -41,13 +41,13 @@ struct Pair {
 }
 
 fn record(b: &Board) -> raw::Record {
-    raw::Record { keys: b.keys, versions: b.versions, lengths: b.lengths, version: b.version, floor: b.floor, order: b.order(), tops: b.tops() }
+    raw::Record { keys: b.keys, versions: b.versions, lengths: b.lengths, version: b.version, floor: b.floor, order: b.order(), tops: b.tops(), forms: b.forms }
 }
 
 /// The record's numbers, a line for the board and one for each place in use.
 fn numbers(b: &raw::Record) -> Vec<String> {
-    let used = (0..PLACES).filter(|&i| (b.keys[i], b.versions[i], b.lengths[i]) != (0, 0, 0));
-    let places = used.map(|i| format!("place {i}: key {} version {} length {}", b.keys[i], b.versions[i], b.lengths[i]));
+    let used = (0..PLACES).filter(|&i| (b.keys[i], b.versions[i], b.lengths[i], b.forms[i]) != (0, 0, 0, 0));
+    let places = used.map(|i| format!("place {i}: key {} version {} length {} form {}", b.keys[i], b.versions[i], b.lengths[i], b.forms[i]));
     let order: Vec<&u8> = b.order.iter().collect();
     let ends = order.len() - order.iter().rev().take_while(|&&&n| n == 0).count();
     [format!("version {} floor {}", b.version, b.floor), format!("order {:?}", &order[..ends]), format!("tops {:?}", b.tops)].into_iter().chain(places).collect()
@@ -57,22 +57,23 @@ fn only_left(name: &str, left: &[String], right: &[String]) -> String {
     left.iter().filter(|line| !right.contains(line)).map(|line| format!("{name} {line}\n")).collect()
 }
 
-/// Number, kind of change, key, version, place, length.
-type Handed = (usize, usize, u64, u64, usize, usize);
+/// Number, kind of change, key, version, place, length, form.
+type Handed = (usize, usize, u64, u64, usize, usize, usize);
 
 fn handed(answer: &reference::Answer<Change>) -> Handed {
     match *answer {
-        Ok(Change::Path { key, version, place, length }) => (0, 1, key.into(), version, place, length),
-        Ok(Change::Removed { key, version }) => (0, 2, key.into(), version, 0, 0),
-        Ok(Change::Level { version }) => (0, 3, 0, version, 0, 0),
-        Err(refusal) => (refusal.number as usize, 0, 0, 0, 0, 0),
+        Ok(Change::Path { key, version, form, place, length }) => (0, 1, key.into(), version, place, length, form.into()),
+        Ok(Change::Removed { key, version }) => (0, 2, key.into(), version, 0, 0, 0),
+        Ok(Change::Level { version }) => (0, 3, 0, version, 0, 0, 0),
+        Err(refusal) => (refusal.number as usize, 0, 0, 0, 0, 0, 0),
     }
 }
 
 impl Pair {
     fn new() -> Pair {
         let store: Vec<u8> = (0..STORE_OCTETS + 8).map(|i| (i / 7) as u8).collect();
-        let mut ours = raw::Record { keys: [1; PLACES], versions: [1; PLACES], lengths: [1; PLACES], version: 1, floor: 1, order: [1; PLACES], tops: [1; PLACES / 8] };
+        let (keys, versions, lengths, order, tops, forms) = ([1; PLACES], [1; PLACES], [1; PLACES], [1; PLACES], [1; PLACES / 8], [1; PLACES]);
+        let mut ours = raw::Record { keys, versions, lengths, version: 1, floor: 1, order, tops, forms };
         raw::empty(&mut ours);
         Pair { theirs: Board::default(), their_store: store.clone(), ours, our_store: store, size: STORE_OCTETS }
     }
@@ -88,7 +89,7 @@ impl Pair {
             Step::Report { key, ero, session, pst, addresses } => {
                 let answer = self.theirs.report(&mut self.their_store[..size], *key, ero, session, *pst, addresses);
                 let ours = doors::report(door, &mut self.ours, &mut self.our_store[..n], *key, ero, session, *pst, addresses);
-                (Call::Report, plain::ours(ours), plain::their_counts(&answer))
+                (Call::Report.of(*pst), plain::ours(ours), plain::their_counts(&answer))
             }
             Step::Remove { key } => {
                 let answer = self.theirs.remove(&self.their_store[..size], *key);
@@ -101,14 +102,14 @@ impl Pair {
             Step::Body { key } => {
                 let answer = self.theirs.body(&self.their_store[..size], *key);
                 let start = |body: &[u8]| body.as_ptr() as usize - self.their_store.as_ptr() as usize;
-                let theirs = answer.map_or_else(|e| (e.number as usize, 0, 0, 0), |body| (0, start(body), body.len(), 0));
+                let theirs = answer.map_or_else(|e| (e.number as usize, 0, 0, 0), |(form, body)| (0, start(body), body.len(), form.into()));
                 let part = doors::body(door, &mut self.ours, &mut self.our_store[..n], *key);
-                (Call::Body, (part.number, part.start, part.length, 0), theirs)
+                (Call::Body, (part.number, part.start, part.length, part.form), theirs)
             }
             Step::Next { s, w } => {
                 let theirs = handed(&self.theirs.next(&self.their_store[..size], *s, *w));
                 let (r, mark) = doors::next(door, &mut self.ours, &mut self.our_store[..n], *s, *w);
-                let ours = (r.number, r.kind, r.key, r.version, r.place, r.length);
+                let ours = (r.number, r.kind, r.key, r.version, r.place, r.length, r.form);
                 let expected = match theirs {
                     (0, 3, _, version, ..) => (version, version),
                     (0, _, _, version, ..) => (*s, version),
@@ -118,7 +119,7 @@ impl Pair {
                     return Err(format!("the mark after {ours:?}\nlibrary   {mark:?}\nexpected  {expected:?}"));
                 }
                 if ours != theirs {
-                    return Err(format!("library   {ours:?}\nreference {theirs:?} (number, kind, key, version, place, length)"));
+                    return Err(format!("library   {ours:?}\nreference {theirs:?} (number, kind, key, version, place, length, form)"));
                 }
                 (Call::Next, (ours.0, 0, 0, 0), (theirs.0, 0, 0, 0))
             }
@@ -149,6 +150,7 @@ impl Pair {
                     0 => self.theirs.keys[*at] = *value as u32,
                     1 => self.theirs.versions[*at] = *value,
                     2 => self.theirs.lengths[*at] = *value as u16,
+                    7 => self.theirs.forms[*at] = *value as u8,
                     3 => self.theirs.version = *value,
                     _ => self.theirs.floor = *value,
                 }
@@ -173,7 +175,7 @@ impl Pair {
             }
         };
         if ours != theirs {
-            return Err(format!("library   {ours:?}\nreference {theirs:?} (number, place or start, count or length, stray)"));
+            return Err(format!("library   {ours:?}\nreference {theirs:?} (number, place or start, count or length, stray or form)"));
         }
         let mut expected = record(&self.theirs);
         if lied && !matches!(step, Step::Empty) {
@@ -229,15 +231,16 @@ fn shown(mut steps: Vec<(Door, Step)>) -> String {
 /// The shortest route for each report, and the fewest places of a record, that still differ.
 fn simplify(steps: &mut [(Door, Step)]) {
     let short = [7, 0x10, 0, 28, 40, 24, 0, 2].into_iter().chain([0; 20]).collect::<Vec<u8>>();
+    let label = vec![7, 0x10, 0, 12, 36, 8, 0, 9, 3, 0xe8, 0x10, 0];
     for at in 0..steps.len() {
         let held = steps[at].clone();
         match &mut steps[at].1 {
-            Step::Report { ero, .. } => *ero = short.clone(),
+            Step::Report { ero, pst, .. } => *ero = if *pst == 1 { label.clone() } else { short.clone() },
             Step::Put { .. } => {
                 for i in 0..PLACES {
                     let held = steps[at].clone();
                     if let Step::Put { board } = &mut steps[at].1 {
-                        (board.keys[i], board.versions[i], board.lengths[i]) = (0, 0, 0);
+                        (board.keys[i], board.versions[i], board.lengths[i], board.forms[i]) = (0, 0, 0, 0);
                     }
                     if run(steps).is_none() {
                         steps[at] = held;
@@ -257,7 +260,7 @@ fn simplify(steps: &mut [(Door, Step)]) {
 struct Follower {
     s: u64,
     w: u64,
-    held: BTreeMap<u32, Vec<u8>>,
+    held: BTreeMap<u32, (u8, Vec<u8>)>,
     forgetful: bool,
 }
 
@@ -270,9 +273,9 @@ impl Follower {
     /// Takes what it was handed. When level it must hold what the board holds.
     fn take(&mut self, change: &Change, pair: &Pair) -> Result<(), String> {
         match *change {
-            Change::Path { key, version, place, length } => {
+            Change::Path { key, version, form, place, length } => {
                 let start = place * PLACE_OCTETS;
-                self.held.insert(key, pair.our_store[start..start + length].to_vec());
+                self.held.insert(key, (form, pair.our_store[start..start + length].to_vec()));
                 self.w = version;
             }
             Change::Removed { key, version } => {
@@ -282,8 +285,8 @@ impl Follower {
             Change::Level { version } => {
                 let b = &pair.theirs;
                 let paths = (0..PLACES).filter(|&i| b.lengths[i] != 0);
-                let board: BTreeMap<u32, Vec<u8>> =
-                    paths.map(|i| (b.keys[i], pair.our_store[i * PLACE_OCTETS..][..b.lengths[i] as usize].to_vec())).collect();
+                let body = |i: usize| pair.our_store[i * PLACE_OCTETS..][..b.lengths[i] as usize].to_vec();
+                let board: BTreeMap<u32, (u8, Vec<u8>)> = paths.map(|i| (b.keys[i], (pair.ours.forms[i], body(i)))).collect();
                 if board != self.held {
                     return Err(format!("a follower is level at {version} and does not hold what the board holds"));
                 }
@@ -311,7 +314,11 @@ fn some_board(r: &mut Random) -> Board {
         let at = if stride == 7919 { i * 77 % PLACES } else { i };
         b.keys[at] = 1 + (i as u32).wrapping_mul(stride) % 1_048_574;
         b.versions[at] = version;
-        b.lengths[at] = if version > b.floor && r.one_in(3) { 0 } else { 24 + 4 * r.below(91) as u16 };
+        (b.forms[at], b.lengths[at]) = match r.of(&[Form::Srv6, Form::Mpls]) {
+            _ if version > b.floor && r.one_in(3) => (0, 0),
+            Form::Srv6 => (3, 24 + 4 * r.below(91) as u16),
+            Form::Mpls => (1, 8 + 4 * r.below(95) as u16),
+        };
         version -= 1 + r.below(2) as u64 * u64::from(version > 1000);
         if version == 0 {
             break;
@@ -331,11 +338,12 @@ fn some_set(r: &mut Random, b: &Board) -> Step {
         let at = r.below(PLACES);
         return Step::Swap { at, other: (at + r.of(&[0, 1, 1, 2, 64])) % PLACES };
     }
-    let (part, at, other) = (r.below(7), r.below(PLACES), r.below(PLACES));
+    let (part, at, other) = (r.below(8), r.below(PLACES), r.below(PLACES));
     let value = match part {
         0 => r.of(&[0, 1, 1_048_574, 1_048_575, u64::from(u32::MAX), u64::from(b.keys[other])]),
         1 => r.of(&[0, 1, b.version, b.version.wrapping_add(1), b.floor, b.floor + 1, b.versions[other], u64::MAX]),
-        2 => r.of(&[0, 4, 20, 22, 24, 25, 380, 384, 386, 388, 65_535]),
+        2 => r.of(&[0, 4, 8, 10, 12, 20, 22, 24, 25, 380, 384, 386, 388, 65_535]),
+        7 => r.of(&[0, 1, 2, 3, 4, 255, u64::from(b.forms[other])]),
         3 => r.of(&[0, b.version.wrapping_sub(1), b.floor, b.floor.wrapping_sub(1), u64::MAX, u64::MAX - 1, b.versions[other]]),
         4 => r.of(&[0, b.version, b.version.wrapping_add(1), b.versions[at], b.versions[other], u64::MAX]),
         6 => {
@@ -366,7 +374,7 @@ impl History {
         match answer {
             Ok(Some((call, number))) => {
                 tally.count(door, call, number);
-                tally.evictions += u64::from(matches!(call, Call::Report) && self.pair.theirs.floor != floor);
+                tally.evictions += u64::from(matches!(call, Call::Report | Call::MplsReport) && self.pair.theirs.floor != floor);
                 self.calls += 1;
                 Ok(())
             }
@@ -410,27 +418,32 @@ fn some_moved(r: &mut Random, b: &Board, keys: usize) -> Step {
 fn life(tally: &mut Tally, r: &mut Random, most: usize) -> Result<usize, String> {
     let keys = r.of(&[3, 20, 125, 140, 300]);
     let removals = r.of(&[2, 4, 12]);
-    let agreed = Session { agreed: true, n: true, ..Session::default() };
+    let agreed = Session { agreed: true, n: true, mpls: Some(Mpls { n: true, limit: None }), ..Session::default() };
     let mut h = History { pair: Pair::new(), steps: Vec::new(), calls: 0 };
     let mut followers: Vec<Follower> = Vec::new();
     while h.calls < most {
         match r.below(24) {
             0..=9 => {
                 let key = some_key(r, keys);
-                let mut ero = objects::good_ero(r, PLACE_OCTETS);
+                let form = some_form(r);
+                let mut ero = objects::good_ero(r, form, PLACE_OCTETS);
                 if r.one_in(40) {
-                    let n = 8 + r.below(8);
-                    ero = objects::route(r, true, n, usize::MAX);
+                    let n = if form == Form::Srv6 { 8 + r.below(8) } else { 20 + r.below(30) };
+                    ero = objects::route(r, form, true, n, usize::MAX);
                 }
-                let (mut session, mut pst) = (agreed, 3);
+                let (mut session, mut pst) = (agreed, form.pst().into());
                 if r.one_in(8) {
                     damage(r, &mut ero);
                 }
+                if r.one_in(16) {
+                    let n = 1 + r.below(4);
+                    ero = objects::route(r, form, true, n, 2);
+                }
                 if r.one_in(12) {
-                    (session, pst) = (some_session(r), some_pst(r));
+                    (session, pst) = (some_session(r), some_pst(r, form));
                     if r.one_in(2) {
                         let n = r.below(6);
-                        ero = objects::route(r, true, n, 3);
+                        ero = objects::route(r, form, true, n, 3);
                     }
                 }
                 let addresses = some_addresses(r, &ero, 40);
@@ -482,12 +495,13 @@ fn life(tally: &mut Tally, r: &mut Random, most: usize) -> Result<usize, String>
                 h.step(tally, r, Step::Lend { size })?;
                 let key = some_key(r, keys);
                 let step = r.below(5);
-                let ero = objects::good_ero(r, PLACE_OCTETS);
+                let form = some_form(r);
+                let ero = objects::good_ero(r, form, PLACE_OCTETS);
                 h.step(
                     tally,
                     r,
                     match step {
-                        0 => Step::Report { key, ero, session: agreed, pst: 3, addresses: Vec::new() },
+                        0 => Step::Report { key, ero, session: agreed, pst: form.pst().into(), addresses: Vec::new() },
                         1 => Step::Remove { key },
                         2 => Step::Compact { c: 0 },
                         3 => Step::Body { key },
@@ -535,7 +549,7 @@ fn records(tally: &mut Tally, r: &mut Random) -> Result<usize, String> {
         let set = some_set(r, &h.pair.theirs);
         h.step(tally, r, set)?;
     }
-    let agreed = Session { agreed: true, n: true, ..Session::default() };
+    let agreed = Session { agreed: true, n: true, mpls: Some(Mpls { n: true, limit: None }), ..Session::default() };
     for _ in 0..6 {
         let b = h.pair.theirs;
         let known = u64::from(b.keys[r.below(PLACES)]);
@@ -546,9 +560,13 @@ fn records(tally: &mut Tally, r: &mut Random) -> Result<usize, String> {
             2 => b.version.wrapping_add(r.below(3) as u64).wrapping_sub(1),
             _ => r.number(),
         };
+        let form = some_form(r);
         let step = match r.below(7) {
             6 => some_moved(r, &b, 300),
-            0 | 1 => Step::Report { key, ero: objects::good_ero(r, PLACE_OCTETS), session: agreed, pst: 3, addresses: Vec::new() },
+            0 | 1 => {
+                let ero = objects::good_ero(r, form, PLACE_OCTETS);
+                Step::Report { key, ero, session: agreed, pst: form.pst().into(), addresses: Vec::new() }
+            }
             2 => Step::Remove { key },
             3 => Step::Compact { c: near(r) },
             4 => Step::Body { key },

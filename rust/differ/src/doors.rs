@@ -4,7 +4,7 @@
 use crate::header;
 use crate::plain;
 use reference as theirs;
-use strundevi::{raw, Board, Change, Mark, Refusal, PLACE_OCTETS};
+use strundevi::{raw, Board, Change, Form, Mark, Refusal, PLACE_OCTETS};
 
 #[derive(Clone, Copy, Debug, PartialEq, Eq)]
 pub enum Door {
@@ -48,20 +48,21 @@ pub fn read_open(door: Door, at: theirs::Setup, s: &[u8]) -> raw::Opened {
                 v: o.v.unwrap_or(0),
                 hasm: o.m.is_some() as u8,
                 m: o.m.unwrap_or(0),
+                mpls: o.mpls.is_some() as u8,
+                mplsn: o.mpls.is_some_and(|mpls| mpls.n) as u8,
+                mplslimited: o.mpls.is_some_and(|mpls| mpls.limit.is_some()) as u8,
+                form: 0,
+                mplslimit: o.mpls.and_then(|mpls| mpls.limit).unwrap_or(0),
             },
-            Err(refusal) => raw::Opened {
-                number: refused(refusal).number + refusal.place,
-                srv6: 0,
-                n: 0,
-                limited: 0,
-                limit: 0,
-                a: 0,
-                r: 0,
-                hasv: 0,
-                v: 0,
-                hasm: 0,
-                m: 0,
-            },
+            Err(refusal) => {
+                let form = match refusal.form {
+                    None => 0,
+                    Some(Form::Mpls) => 1,
+                    Some(Form::Srv6) => 3,
+                };
+                let refused = refused(refusal.into());
+                raw::Opened { form, ..plain::opened(&Err(theirs::Fault { number: (refused.number + refused.place) as u8, form })) }
+            }
         },
     }
 }
@@ -74,7 +75,8 @@ pub fn agree(door: Door, opens: [raw::Opened; 2], at: theirs::Setup, octets: [&[
         Door::Wrapper => {
             let [pcc, pce] = octets.map(|s| strundevi::read_open(strundevi::Setup { a: at.a, r: at.r }, s));
             let s = strundevi::Session::agree(&pcc, &pce);
-            plain::session(&theirs::Session { agreed: s.agreed, n: s.n, limit: s.limit, a: s.a, r: s.r, v: s.v, m: s.m })
+            let mpls = s.mpls.map(|mpls| theirs::Mpls { n: mpls.n, limit: mpls.limit });
+            plain::session(&theirs::Session { agreed: s.agreed, n: s.n, limit: s.limit, a: s.a, r: s.r, v: s.v, m: s.m, mpls })
         }
     }
 }
@@ -105,42 +107,52 @@ pub fn segment(door: Door, s: &[u8], ero: bool, session: &theirs::Session, pst: 
     }
 }
 
-pub fn step(door: Door, s: &[u8], ero: bool, at: usize) -> raw::Stepped {
+pub fn step(door: Door, s: &[u8], ero: bool, pst: u64, at: usize) -> raw::Stepped {
     match door {
-        Door::Archive => raw::step(s, ero as u8, at),
-        Door::Header => header::step(s, ero as u8, at),
-        Door::Wrapper => match strundevi::step(s, plain::safe_kind(ero), at) {
+        Door::Archive => raw::step(s, ero as u8, pst, at),
+        Door::Header => header::step(s, ero as u8, pst, at),
+        Door::Wrapper => match strundevi::step(s, plain::safe_kind(ero), pst, at) {
             Ok((segment, next)) => raw::Stepped { verdict: verdict(Ok(0)), segment: plain::told(&segment), next },
             Err(refusal) => raw::Stepped { verdict: refused(refusal), segment: raw::Segment::ZERO, next: at },
         },
     }
 }
 
-pub fn begin(door: Door, buffer: &mut [u8], writer: raw::Writer, ero: bool) -> raw::Written {
-    match door {
-        Door::Archive => raw::begin(buffer, writer, ero as u8),
-        Door::Header => header::begin(buffer, writer, ero as u8),
-        Door::Wrapper => match strundevi::Writer::begin(buffer, plain::safe_kind(ero)) {
+/// The wrapper begins routes of the two forms, and goes on with these: other setup types go by the archive.
+fn form(pst: u64) -> Option<Form> {
+    match pst {
+        1 => Some(Form::Mpls),
+        3 => Some(Form::Srv6),
+        _ => None,
+    }
+}
+
+pub fn begin(door: Door, buffer: &mut [u8], writer: raw::Writer, ero: bool, pst: u64) -> raw::Written {
+    match (door, form(pst)) {
+        (Door::Header, _) => header::begin(buffer, writer, ero as u8, pst),
+        (Door::Wrapper, Some(form)) => match strundevi::Writer::begin(buffer, plain::safe_kind(ero), form) {
             Ok(w) => raw::Written { verdict: verdict(Ok(0)), writer: state(&w) },
             Err(refusal) => raw::Written { verdict: refused(refusal), writer },
         },
+        _ => raw::begin(buffer, writer, ero as u8, pst),
     }
 }
 
 fn state(writer: &strundevi::Writer) -> raw::Writer {
-    raw::Writer { ero: (writer.kind() == strundevi::Kind::Ero) as u8, at: writer.at() }
+    raw::Writer { ero: (writer.kind() == strundevi::Kind::Ero) as u8, form: if writer.form() == Form::Mpls { 1 } else { 3 }, at: writer.at() }
 }
 
 /// The segment's flags are yes by this octet. The wrapper has no segments that say nothing or too much: those go by the archive.
 pub fn add(door: Door, buffer: &mut [u8], writer: raw::Writer, segment: &theirs::Segment, flag: u8) -> raw::Written {
     let mut s = plain::segment(segment);
-    for yes in [&mut s.loose, &mut s.verify, &mut s.hassid, &mut s.structured] {
+    for yes in [&mut s.loose, &mut s.verify, &mut s.hassid, &mut s.structured, &mut s.labelled, &mut s.complete] {
         *yes *= flag;
     }
-    match (door, plain::built(segment)) {
-        (Door::Header, _) => header::add(buffer, writer, &s),
-        (Door::Wrapper, Some(built)) => {
-            let mut w = strundevi::Writer::resume(buffer, plain::safe_kind(writer.ero != 0), writer.at);
+    let form = form(writer.form.into());
+    match (door, form, form.and_then(|form| plain::built(segment, form))) {
+        (Door::Header, ..) => header::add(buffer, writer, &s),
+        (Door::Wrapper, Some(form), Some(built)) => {
+            let mut w = strundevi::Writer::resume(buffer, plain::safe_kind(writer.ero != 0), form, writer.at);
             let answer = w.add(&built);
             raw::Written { verdict: verdict(answer.map(|()| 0)), writer: state(&w) }
         }
@@ -149,12 +161,11 @@ pub fn add(door: Door, buffer: &mut [u8], writer: raw::Writer, segment: &theirs:
 }
 
 pub fn finish(door: Door, buffer: &mut [u8], writer: raw::Writer) -> raw::Written {
-    match door {
-        Door::Archive => raw::finish(buffer, writer),
-        Door::Header => header::finish(buffer, writer),
-        Door::Wrapper => {
+    match (door, form(writer.form.into())) {
+        (Door::Header, _) => header::finish(buffer, writer),
+        (Door::Wrapper, Some(form)) => {
             let start = buffer.as_ptr();
-            let mut w = strundevi::Writer::resume(buffer, plain::safe_kind(writer.ero != 0), writer.at);
+            let mut w = strundevi::Writer::resume(buffer, plain::safe_kind(writer.ero != 0), form, writer.at);
             let answer = w.finish().map(|object| (object.as_ptr(), object.len()));
             let writer = state(&w);
             let verdict = match answer {
@@ -164,6 +175,7 @@ pub fn finish(door: Door, buffer: &mut [u8], writer: raw::Writer) -> raw::Writte
             };
             raw::Written { verdict, writer }
         }
+        _ => raw::finish(buffer, writer),
     }
 }
 
@@ -230,8 +242,8 @@ pub fn body(door: Door, b: &mut raw::Record, store: &mut [u8], key: u64) -> raw:
     match (door, small(key)) {
         (Door::Header, _) => header::body(b, store, key),
         (Door::Wrapper, Some(key)) => with(b, store, |board| match board.body(key) {
-            Ok(octets) => raw::Part { number: 0, start: octets.as_ptr() as usize - first, length: octets.len() },
-            Err(refusal) => raw::Part { number: refused(refusal).number + refusal.place, start: 0, length: 0 },
+            Ok(path) => raw::Part { number: 0, start: path.body.as_ptr() as usize - first, length: path.body.len(), form: path.form.pst() as usize },
+            Err(refusal) => raw::Part { number: refused(refusal).number + refusal.place, start: 0, length: 0, form: 0 },
         }),
         _ => raw::body(b, store, key),
     }
@@ -256,14 +268,14 @@ pub fn next(door: Door, b: &mut raw::Record, store: &mut [u8], s: u64, w: u64) -
             (r, Some((mark.s, mark.w)))
         }
         Door::Wrapper => with(b, store, |board| {
-            let none = raw::Next { number: 0, kind: 0, key: 0, version: 0, place: 0, length: 0 };
+            let none = raw::Next { number: 0, kind: 0, key: 0, version: 0, place: 0, length: 0, form: 0 };
             let answer = board.next(Mark { s, w });
             let mark = answer.as_ref().ok().map(|change| Mark { s, w }.after(change)).map(|mark| (mark.s, mark.w));
             let r = match answer {
-                Ok(Change::Path { key, version, body }) => {
+                Ok(Change::Path { key, version, form, body }) => {
                     let start = body.as_ptr() as usize - first;
                     let place = if start % PLACE_OCTETS == 0 { start / PLACE_OCTETS } else { NEVER };
-                    raw::Next { kind: 1, key: key.into(), version, place, length: body.len(), ..none }
+                    raw::Next { kind: 1, key: key.into(), version, place, length: body.len(), form: form.pst() as usize, ..none }
                 }
                 Ok(Change::Removed { key, version }) => raw::Next { kind: 2, key: key.into(), version, ..none },
                 Ok(Change::Level { version }) => raw::Next { kind: 3, version, ..none },

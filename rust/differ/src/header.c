@@ -19,12 +19,12 @@ strundevi_picked header_segment_at(const uint8_t *octets, size_t length, uint8_t
     return strundevi_segment_at(octets, length, ero ? STRUNDEVI_ERO : STRUNDEVI_RRO, session, pst, addresses, given, i);
 }
 
-strundevi_stepped header_step(const uint8_t *octets, size_t length, uint8_t ero, size_t at) {
-    return strundevi_step(octets, length, ero ? STRUNDEVI_ERO : STRUNDEVI_RRO, at);
+strundevi_stepped header_step(const uint8_t *octets, size_t length, uint8_t ero, uint64_t pst, size_t at) {
+    return strundevi_step(octets, length, ero ? STRUNDEVI_ERO : STRUNDEVI_RRO, pst, at);
 }
 
-strundevi_written header_begin(uint8_t *buffer, size_t size, strundevi_writer writer, uint8_t ero) {
-    return strundevi_begin(buffer, size, writer, ero ? STRUNDEVI_ERO : STRUNDEVI_RRO);
+strundevi_written header_begin(uint8_t *buffer, size_t size, strundevi_writer writer, uint8_t ero, uint64_t pst) {
+    return strundevi_begin(buffer, size, writer, ero ? STRUNDEVI_ERO : STRUNDEVI_RRO, pst);
 }
 
 strundevi_written header_add(uint8_t *buffer, size_t size, strundevi_writer writer, const strundevi_segment *segment) {
@@ -80,8 +80,28 @@ const char *header_text(size_t number) {
     return strundevi_text(number);
 }
 
-strundevi_pcerr header_pcerr(size_t number, uint8_t ero) {
-    return strundevi_pcerr_of(number, ero ? STRUNDEVI_ERO : STRUNDEVI_RRO);
+strundevi_pcerr header_pcerr(size_t number, uint8_t ero, uint64_t form) {
+    return strundevi_pcerr_of(number, ero ? STRUNDEVI_ERO : STRUNDEVI_RRO, form);
+}
+
+strundevi_label header_label_of(const strundevi_segment *segment) {
+    return strundevi_label_of(segment);
+}
+
+int header_set_label(strundevi_segment *segment, strundevi_label entry, uint8_t complete) {
+    return strundevi_set_label(segment, entry, complete);
+}
+
+uint32_t header_index_of(const strundevi_segment *segment) {
+    return strundevi_index_of(segment);
+}
+
+void header_set_index(strundevi_segment *segment, uint32_t index) {
+    strundevi_set_index(segment, index);
+}
+
+size_t header_nai_octets(uint64_t pst, uint8_t nt) {
+    return strundevi_nai_octets(pst, nt);
 }
 
 #define AT(record, field) offsetof(strundevi_##record, field)
@@ -91,19 +111,22 @@ static const size_t layout[] = {
     sizeof(strundevi_verdict), AT(verdict, number), AT(verdict, place), AT(verdict, count), AT(verdict, stray),
     sizeof(strundevi_setup), AT(setup, a), AT(setup, r),
     sizeof(strundevi_opened), AT(opened, number), AT(opened, srv6), AT(opened, n), AT(opened, limited), AT(opened, limit), AT(opened, a),
-    AT(opened, r), AT(opened, hasv), AT(opened, v), AT(opened, hasm), AT(opened, m),
+    AT(opened, r), AT(opened, hasv), AT(opened, v), AT(opened, hasm), AT(opened, m), AT(opened, mpls), AT(opened, mplsn), AT(opened, mplslimited),
+    AT(opened, form), AT(opened, mplslimit),
     sizeof(strundevi_session), AT(session, agreed), AT(session, n), AT(session, a), AT(session, r), AT(session, hasv), AT(session, v), AT(session, hasm),
-    AT(session, m), AT(session, limited), AT(session, limit),
+    AT(session, m), AT(session, limited), AT(session, mpls), AT(session, mplsn), AT(session, mplslimited), AT(session, limit), AT(session, mplslimit),
     sizeof(strundevi_segment), AT(segment, loose), AT(segment, verify), AT(segment, nt), AT(segment, behaviour), AT(segment, hassid),
-    AT(segment, sid), AT(segment, nai), AT(segment, structured), AT(segment, structure),
+    AT(segment, sid), AT(segment, nai), AT(segment, structured), AT(segment, structure), AT(segment, labelled), AT(segment, complete),
+    sizeof(strundevi_label), AT(label, label), AT(label, tc), AT(label, bottom), AT(label, ttl),
     sizeof(strundevi_picked), AT(picked, verdict), AT(picked, segment), AT(picked, flags), AT(picked, sflags), AT(picked, reserved),
     sizeof(strundevi_stepped), AT(stepped, verdict), AT(stepped, segment), AT(stepped, next),
-    sizeof(strundevi_writer), AT(writer, ero), AT(writer, at),
+    sizeof(strundevi_writer), AT(writer, ero), AT(writer, form), AT(writer, at),
     sizeof(strundevi_written), AT(written, verdict), AT(written, writer),
     sizeof(strundevi_board), AT(board, keys), AT(board, versions), AT(board, lengths), AT(board, version), AT(board, floor),
-    AT(board, order), AT(board, tops),
-    sizeof(strundevi_part), AT(part, number), AT(part, start), AT(part, length),
+    AT(board, order), AT(board, tops), AT(board, forms),
+    sizeof(strundevi_part), AT(part, number), AT(part, start), AT(part, length), AT(part, form),
     sizeof(strundevi_change), AT(change, number), AT(change, kind), AT(change, key), AT(change, version), AT(change, place), AT(change, length),
+    AT(change, form),
     sizeof(strundevi_mark), AT(mark, s), AT(mark, w),
 };
 
@@ -111,11 +134,13 @@ static const size_t layout[] = {
 static const uint64_t numbers[] = {
     STRUNDEVI_ACCEPTED, STRUNDEVI_OPEN_MALFORMED, STRUNDEVI_CAPABILITY_MISSING, STRUNDEVI_WRONG_MSD, STRUNDEVI_FRAME_BROKEN, STRUNDEVI_ROUTE_EMPTY,
     STRUNDEVI_KINDS_MIXED, STRUNDEVI_LENGTH_WRONG, STRUNDEVI_NAI_UNKNOWN, STRUNDEVI_NOTHING_THERE, STRUNDEVI_SID_NEEDED,
-    STRUNDEVI_STRUCTURE_TOO_LONG, STRUNDEVI_TOO_MANY_SEGMENTS, STRUNDEVI_NOT_AGREED, STRUNDEVI_NO_SRV6, STRUNDEVI_NO_SUCH_SEGMENT,
+    STRUNDEVI_STRUCTURE_TOO_LONG, STRUNDEVI_TOO_MANY_SEGMENTS, STRUNDEVI_NOT_AGREED, STRUNDEVI_NONE_OF_FORM, STRUNDEVI_NO_SUCH_SEGMENT,
     STRUNDEVI_BUFFER_FULL, STRUNDEVI_NOT_A_BOARD, STRUNDEVI_KEY_OUT_OF_RANGE, STRUNDEVI_BODY_TOO_LONG, STRUNDEVI_VERSIONS_USED_UP,
     STRUNDEVI_ALL_PATHS, STRUNDEVI_NO_PATH, STRUNDEVI_MARK_TOO_OLD, STRUNDEVI_MARK_AHEAD, STRUNDEVI_NOT_USABLE,
-    STRUNDEVI_FIRST_PLACE, STRUNDEVI_SID_OCTETS, STRUNDEVI_NAI_OCTETS, STRUNDEVI_STRUCTURE_OCTETS, STRUNDEVI_ADDRESS_OCTETS, STRUNDEVI_POSITION_MOST, STRUNDEVI_OBJECT_MOST, STRUNDEVI_PLACES, STRUNDEVI_PLACE_OCTETS,
-    STRUNDEVI_STORE_OCTETS, STRUNDEVI_KEY_MOST, STRUNDEVI_VERSION_MOST, STRUNDEVI_PST_SRV6, STRUNDEVI_RRO, STRUNDEVI_ERO, STRUNDEVI_REFUSED,
+    STRUNDEVI_BAD_LABEL_VALUE, STRUNDEVI_BAD_LABEL_FORMAT,
+    STRUNDEVI_FIRST_PLACE, STRUNDEVI_SID_OCTETS, STRUNDEVI_MPLS_SID_OCTETS, STRUNDEVI_NAI_OCTETS, STRUNDEVI_STRUCTURE_OCTETS, STRUNDEVI_ADDRESS_OCTETS,
+    STRUNDEVI_POSITION_MOST, STRUNDEVI_LABEL_MOST, STRUNDEVI_TC_MOST, STRUNDEVI_OBJECT_MOST, STRUNDEVI_PLACES, STRUNDEVI_PLACE_OCTETS,
+    STRUNDEVI_STORE_OCTETS, STRUNDEVI_KEY_MOST, STRUNDEVI_VERSION_MOST, STRUNDEVI_PST_MPLS, STRUNDEVI_PST_SRV6, STRUNDEVI_RRO, STRUNDEVI_ERO, STRUNDEVI_REFUSED,
     STRUNDEVI_PATH, STRUNDEVI_REMOVED, STRUNDEVI_LEVEL, STRUNDEVI_VERSION_MAJOR, STRUNDEVI_VERSION_MINOR, STRUNDEVI_VERSION_PATCH, STRUNDEVI_VERSION,
 };
 

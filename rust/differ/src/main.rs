@@ -47,8 +47,8 @@ fn main() -> ExitCode {
         println!("seed {seed}: never answered: {}", missing.join(", "));
         return ExitCode::FAILURE;
     }
-    let judged = tally.calls(&[Call::Open, Call::Ero, Call::Rro]);
-    let board = tally.calls(&[Call::Report, Call::Remove, Call::Compact, Call::Body, Call::Next, Call::Moved]);
+    let judged = tally.calls(&[Call::Open, Call::Ero, Call::Rro, Call::MplsEro, Call::MplsRro]);
+    let board = tally.calls(&[Call::Report, Call::MplsReport, Call::Remove, Call::Compact, Call::Body, Call::Next, Call::Moved]);
     println!("seed {seed}: {judged} objects judged, {board} board calls, no difference ({:.0} s)", start.elapsed().as_secs_f64());
     ExitCode::SUCCESS
 }

@@ -2,6 +2,7 @@
 
 use crate::octets::seal;
 use crate::random::Random;
+use reference::Form;
 
 /// An item with its padding.
 fn item(kind: u16, value: &[u8], padding: impl FnMut() -> u8) -> Vec<u8> {
@@ -27,21 +28,40 @@ fn capability(r: &mut Random) -> Vec<u8> {
     value
 }
 
+/// The value of sub-TLV 26.
+fn mpls_capability(r: &mut Random) -> Vec<u8> {
+    let mut value = r.octets(4);
+    value[2] &= r.of(&[0xfe, 0xfe, 0xff, 3, 2]);
+    value[3] = r.of(&[0, 1, 2, 3, 4, 10, 255, value[3], value[3]]);
+    if r.one_in(16) {
+        let size = r.below(9);
+        value.resize(size, 1);
+    }
+    value
+}
+
 fn setup(r: &mut Random) -> Vec<u8> {
     let mut value = r.octets(3);
     let count = if r.one_in(50) { r.below(256) } else { r.below(7) };
     value.push(count as u8);
-    let mut types: Vec<u8> = (0..count).map(|_| r.of(&[0, 1, 2, 4])).collect();
-    if count > 0 && !r.one_in(5) {
-        let at = r.below(count);
-        types[at] = 3;
+    let mut types: Vec<u8> = (0..count).map(|_| r.of(&[0, 0, 2, 4])).collect();
+    for (form, rare) in [(3, 5), (1, 3)] {
+        if count > 0 && !r.one_in(rare) {
+            let at = r.below(count);
+            types[at] = form;
+        }
     }
-    types.resize(count.div_ceil(4) * 4, if r.one_in(4) { 3 } else { 0 });
+    types.resize(count.div_ceil(4) * 4, r.of(&[0, 0, 3, 1]));
     value.extend_from_slice(&types);
     let mut last = 0;
-    for _ in 0..r.of(&[0, 1, 1, 1, 2, 3]) {
-        let kind = if r.one_in(4) { r.of(&[26, 0, 34, 28, 0x1b00]) } else { 27 };
-        let inner = if kind == 27 || r.one_in(2) { capability(r) } else { r.octets(5) };
+    for _ in 0..r.of(&[0, 1, 2, 2, 2, 3]) {
+        let kind = if r.one_in(8) { r.of(&[0, 34, 28, 0x1a00, 0x1b00]) } else { r.of(&[26, 27]) };
+        let inner = match kind {
+            26 => mpls_capability(r),
+            27 => capability(r),
+            _ if r.one_in(2) => capability(r),
+            _ => r.octets(5),
+        };
         last = (4 - inner.len() % 4) % 4;
         let fill = r.octet();
         value.extend_from_slice(&item(kind, &inner, || fill));
@@ -76,8 +96,69 @@ pub fn open(r: &mut Random) -> Vec<u8> {
     octets
 }
 
-/// A subobject; one in `faults` has something wrong with it.
-fn subobject(r: &mut Random, ero: bool, faults: usize) -> Vec<u8> {
+/// A subobject of a form; one in `faults` has something wrong with it.
+fn subobject(r: &mut Random, form: Form, ero: bool, faults: usize) -> Vec<u8> {
+    match form {
+        Form::Srv6 => srv6_subobject(r, ero, faults),
+        Form::Mpls => mpls_subobject(r, ero, faults),
+    }
+}
+
+/// A label, TC, S and TTL, good but for one in `faults`.
+fn entry(r: &mut Random, faults: usize) -> [u8; 4] {
+    let label = if r.one_in(faults) { r.below(18) } else { r.of(&[7, 16, 17, 16_001, 0xf_ffff, 16 + (1 << 19), 0x10000]) };
+    let ttl = if r.one_in(faults) { 0 } else { 1 + r.below(255) };
+    ((label << 12 | r.below(16) << 8 | ttl) as u32).to_be_bytes()
+}
+
+fn mpls_subobject(r: &mut Random, ero: bool, faults: usize) -> Vec<u8> {
+    let nt = r.of(&[0u8, 0, 1, 2, 3, 4, 5, 6]);
+    let mut s = nt != 0 && r.one_in(4);
+    let mut f = nt == 0;
+    let (mut m, mut c) = if s { (false, false) } else { r.of(&[(false, false), (true, false), (true, false), (true, true)]) };
+    let (mut kind, mut named, mut length_off) = (36u8, nt, 0i32);
+    if ero && r.one_in(6) {
+        kind |= 0x80;
+    }
+    let mut sid = if m { entry(r, usize::MAX) } else { [r.octet(), r.octet(), r.octet(), r.octet()] };
+    if m && !c && r.one_in(2) {
+        // as routers send them
+        sid = [sid[0], sid[1], sid[2] & 0xf0, 0];
+    }
+    if r.one_in(faults) {
+        match r.below(9) {
+            0 => named = r.below(16) as u8,
+            1 => (s, f) = (true, true),
+            2 => f = !f,
+            3 => length_off = r.of(&[-16, -8, -4, 4, 8, 16, 1, 2]),
+            4 => sid = entry(r, 2),
+            5 => (m, c, sid) = (true, true, entry(r, 2)),
+            6 => kind = r.of(&[1, 2, 32, 35, 37, 40, 0xa8, 0xa4]),
+            7 => (m, c) = (r.one_in(2), r.one_in(2)),
+            _ => s = true,
+        }
+    }
+    let ignored = r.of(&[0, 0, 0xe0, 0xff]);
+    let flags = m as u8 | (c as u8) << 1 | (s as u8) << 2 | (f as u8) << 3 | (r.one_in(4) as u8) << 4 | r.octet() & ignored & 0xe0;
+    let mut octets = vec![kind, 0, named << 4 | r.octet() & ignored & 15, flags];
+    if !s {
+        octets.extend_from_slice(&sid);
+    }
+    let nai = [0, 4, 16, 8, 32, 16, 40][nt as usize];
+    octets.extend_from_slice(&r.octets(nai));
+    // one bit alone that ought to be 0
+    if r.one_in(8) {
+        let (at, unassigned) = r.of(&[(2, 0x0f), (3, 0xe0)]);
+        octets[at] |= (1u8 << r.below(8)) & unassigned;
+    }
+    octets[1] = (octets.len() as i32 + length_off) as u8;
+    if length_off != 0 && r.one_in(2) {
+        octets.resize(octets[1] as usize, 0);
+    }
+    octets
+}
+
+fn srv6_subobject(r: &mut Random, ero: bool, faults: usize) -> Vec<u8> {
     let nt = r.of(&[0u8, 0, 2, 4, 6]);
     let mut s = nt != 0 && r.one_in(4);
     let mut f = nt == 0;
@@ -133,11 +214,13 @@ fn subobject(r: &mut Random, ero: bool, faults: usize) -> Vec<u8> {
     octets
 }
 
-/// A route object of `n` subobjects.
-pub fn route(r: &mut Random, ero: bool, n: usize, faults: usize) -> Vec<u8> {
+/// A route object of `n` subobjects of a form. Where there are faults, some routes mix the two.
+pub fn route(r: &mut Random, form: Form, ero: bool, n: usize, faults: usize) -> Vec<u8> {
     let mut octets = vec![if ero { 7 } else { 8 }, 0x10 | r.octet() & 15, 0, 0];
+    let mixed = faults != usize::MAX && r.one_in(30);
     for _ in 0..n {
-        let sub = subobject(r, ero, faults);
+        let form = if mixed { r.of(&[Form::Srv6, Form::Mpls]) } else { form };
+        let sub = subobject(r, form, ero, faults);
         if octets.len() + sub.len() > 65_532 {
             break;
         }
@@ -146,7 +229,7 @@ pub fn route(r: &mut Random, ero: bool, n: usize, faults: usize) -> Vec<u8> {
     if faults != usize::MAX && r.one_in(30) {
         let mut at = 4;
         while at + 1 < octets.len() {
-            octets[at] = r.of(&[1, 32, 36]);
+            octets[at] = r.of(&[1, 32, 36, 40]);
             at += (octets[at + 1] as usize).max(1);
         }
     }
@@ -154,15 +237,29 @@ pub fn route(r: &mut Random, ero: bool, n: usize, faults: usize) -> Vec<u8> {
     octets
 }
 
-/// A good route of 2,730 segments and 65,532 octets, cut or drawn out to this size; its length octets say the size as far as they can.
-pub fn long_route(r: &mut Random, ero: bool, size: usize) -> Vec<u8> {
+/// A good route of 65,532 octets, of 2,730 SRv6 segments or of 8,190 MPLS ones, cut or drawn out to this size; its length octets say the size as far as they can.
+pub fn long_route(r: &mut Random, form: Form, ero: bool, size: usize) -> Vec<u8> {
     let mut octets = vec![if ero { 7 } else { 8 }, 0x10, 0, 0];
-    let long = r.below(2730);
-    for i in 0..2730 {
-        octets.extend_from_slice(&[40, if i == long { 32 } else { 24 }, 0, if i == long { 6 } else { 2 }, 0, 0, 0, 1]);
-        octets.extend_from_slice(&r.octets(16));
-        if i == long {
-            octets.extend_from_slice(&[40, 24, 16, 0, 0, 0, 0, 0]);
+    match form {
+        Form::Srv6 => {
+            let long = r.below(2730);
+            for i in 0..2730 {
+                octets.extend_from_slice(&[40, if i == long { 32 } else { 24 }, 0, if i == long { 6 } else { 2 }, 0, 0, 0, 1]);
+                octets.extend_from_slice(&r.octets(16));
+                if i == long {
+                    octets.extend_from_slice(&[40, 24, 16, 0, 0, 0, 0, 0]);
+                }
+            }
+        }
+        Form::Mpls => {
+            let long = r.below(8190);
+            for i in 0..8190 {
+                octets.extend_from_slice(&[36, if i == long { 16 } else { 8 }, if i == long { 0x30 } else { 0 }, if i == long { 1 } else { 9 }]);
+                octets.extend_from_slice(&entry(r, usize::MAX));
+                if i == long {
+                    octets.extend_from_slice(&r.octets(8));
+                }
+            }
         }
     }
     octets.resize(size, 0);
@@ -171,10 +268,10 @@ pub fn long_route(r: &mut Random, ero: bool, size: usize) -> Vec<u8> {
 }
 
 /// An ERO that breaks no rule under an agreed session without a limit, with a body of at most `most` octets.
-pub fn good_ero(r: &mut Random, most: usize) -> Vec<u8> {
+pub fn good_ero(r: &mut Random, form: Form, most: usize) -> Vec<u8> {
     loop {
         let n = 1 + r.below(8);
-        let octets = route(r, true, n, usize::MAX);
+        let octets = route(r, form, true, n, usize::MAX);
         if octets.len() - 4 <= most {
             return octets;
         }

@@ -6,11 +6,15 @@ use crate::octets::{damage, hex, seal, shrink};
 use crate::plain;
 use crate::random::Random;
 use crate::tally::{Call, Tally};
-use reference::{Session, Setup};
+use reference::{Form, Mpls, Session, Setup};
 use strundevi::raw;
 
 const O: &str = "01100020201E7807002200120000000103000000001B0006000000002C040000";
 const E: &str = "0710001C281800020000000120010DB8000000010000000000000001";
+/// Both forms: sub-TLV 26 with N and a depth of 5, sub-TLV 27 with H.Encaps 4.
+const BOTH: &str = "01100028201E78070022001A0000000201030000001A000400000205001B0006000000002C040000";
+/// Labels as routers send them, with an IPv4 node, an IPv4 adjacency and an unnumbered one.
+const LABELS: &str = "07100038240C100103E81000C000020124103001061A8000C0000201C000020224185001061A9000C000020100000003C000020200000004";
 
 fn octets(hex: &str) -> Vec<u8> {
     (0..hex.len()).step_by(2).map(|i| u8::from_str_radix(&hex[i..i + 2], 16).unwrap()).collect()
@@ -18,10 +22,11 @@ fn octets(hex: &str) -> Vec<u8> {
 
 // ---- OPEN
 
-type OpenFacts = (usize, [u8; 3], usize, [u8; 6]);
+type OpenFacts = (usize, [u8; 3], usize, [u8; 6], [u8; 3], usize, u8);
 
 fn facts(r: raw::Opened) -> OpenFacts {
-    (r.number, [r.srv6, r.n, r.limited], r.limit, [r.a, r.r, r.hasv, r.v, r.hasm, r.m])
+    let mpls = [r.mpls, r.mplsn, r.mplslimited];
+    (r.number, [r.srv6, r.n, r.limited], r.limit, [r.a, r.r, r.hasv, r.v, r.hasm, r.m], mpls, r.mplslimit, r.form)
 }
 
 fn our_open(door: Door, at: Setup, s: &[u8]) -> OpenFacts {
@@ -46,15 +51,16 @@ pub fn some_setup(r: &mut Random, faults: usize) -> Setup {
 pub fn check_open(tally: &mut Tally, door: Door, at: Setup, s: &[u8]) -> Result<(), String> {
     let theirs = their_open(at, s);
     tally.count(door, Call::Open, theirs.0);
+    if theirs.4[0] != 0 || theirs.6 == 1 {
+        tally.count(door, Call::MplsOpen, theirs.0);
+    }
     if our_open(door, at, s) == theirs {
         return Ok(());
     }
     let small = shrink(s.to_vec(), |s| our_open(door, at, s) != their_open(at, s));
     let (ours, theirs) = (our_open(door, at, &small), their_open(at, &small));
-    Err(format!(
-        "{door:?}: pcc {} at {at:?}\nlibrary   {ours:?}\nreference {theirs:?} (number, SRv6, N, limited, limit, A, R, has v, v, has m, m)",
-        hex(&small)
-    ))
+    let told = "number, SRv6, N, limited, limit, A, R, has v, v, has m, m, MPLS, N, limited, limit, form";
+    Err(format!("{door:?}: pcc {} at {at:?}\nlibrary   {ours:?}\nreference {theirs:?} ({told})", hex(&small)))
 }
 
 /// The session of two answers, and the same with the refused side's other fields filled with what must not count.
@@ -65,8 +71,13 @@ fn check_session(r: &mut Random, door: Door, at: Setup, octets: [&[u8]; 2]) -> R
     if r.one_in(2) {
         for side in &mut ours {
             if side.number != 0 {
-                let [srv6, n, limited, a, on, hasv, v, hasm, m] = std::array::from_fn(|_| r.octet());
-                *side = raw::Opened { number: side.number, srv6, n, limited, limit: r.below(9), a, r: on, hasv, v, hasm, m };
+                let [srv6, n, limited, a, on, hasv, v, hasm, m, mpls, mplsn, mplslimited] = std::array::from_fn(|_| r.octet());
+                let (number, limit, mplslimit, form) = (side.number, r.below(9), r.below(9), r.octet());
+                *side = raw::Opened { number, srv6, n, limited, limit, a, r: on, hasv, v, hasm, m, mpls, mplsn, mplslimited, form, mplslimit };
+            }
+            side.form = r.octet();
+            if side.mplslimited == 0 {
+                side.mplslimit = r.below(9);
             }
             if side.limited == 0 {
                 side.limit = r.below(9);
@@ -79,7 +90,7 @@ fn check_session(r: &mut Random, door: Door, at: Setup, octets: [&[u8]; 2]) -> R
             }
         }
     }
-    let told = |s: raw::Session| (s.agreed, s.n, s.limited, s.limit, s.a, s.r, [s.hasv, s.v, s.hasm, s.m]);
+    let told = |s: raw::Session| ([s.agreed, s.n, s.limited], s.limit, [s.a, s.r, s.hasv, s.v, s.hasm, s.m], [s.mpls, s.mplsn, s.mplslimited], s.mplslimit);
     let ours = told(doors::agree(door, ours, at, octets));
     if ours != told(plain::session(&theirs)) {
         return Err(format!("{door:?}: session of {pcc:?} and {pce:?}\nlibrary   {ours:?}\nreference {theirs:?}"));
@@ -114,7 +125,16 @@ pub fn some_session(r: &mut Random) -> Session {
     // mostly the limit that v and m set, as in every session of two OPENs
     let permits = v.map(|v| usize::from(v.max(1))).into_iter().chain(m.map(|m| usize::from(m) + 1)).min();
     let limit = if r.one_in(3) { limit } else { permits };
-    Session { agreed: !r.one_in(20), n: !r.one_in(3), limit, a: r.one_in(2), r: r.one_in(4), v, m }
+    let mpls = (!r.one_in(12)).then(|| {
+        let limit = match r.below(6) {
+            0..=2 => None,
+            3 => Some(1 + r.below(4)),
+            4 => Some(r.below(256)),
+            _ => Some(r.number() as usize),
+        };
+        Mpls { n: !r.one_in(3), limit }
+    });
+    Session { agreed: !r.one_in(20), n: !r.one_in(3), limit, a: r.one_in(2), r: r.one_in(4), v, m, mpls }
 }
 
 /// Addresses of the head end, for routes of one kind mostly with one that the first segment may have; one in `faults` is no list.
@@ -135,20 +155,25 @@ pub fn some_addresses(r: &mut Random, s: &[u8], faults: usize) -> Vec<u8> {
     list
 }
 
-pub fn some_pst(r: &mut Random) -> u64 {
+/// Mostly that of the form.
+pub fn some_pst(r: &mut Random, form: Form) -> u64 {
     if r.one_in(16) {
-        return r.of(&[0, 1, 2, 4, 3 << 8, 3 + (1 << 32), 3 + (1 << 8), u64::MAX, 1 << 63]);
+        return r.of(&[0, 1, 1, 3, 3, 2, 4, 3 << 8, 3 + (1 << 32), 3 + (1 << 8), 1 + (1 << 8), 1 + (1 << 32), u64::MAX, 1 << 63]);
     }
-    3
+    form.pst().into()
 }
 
-fn question(r: &mut Random, ero: bool, s: &[u8]) -> Question {
+pub fn some_form(r: &mut Random) -> Form {
+    r.of(&[Form::Srv6, Form::Mpls])
+}
+
+fn question(r: &mut Random, form: Form, ero: bool, s: &[u8]) -> Question {
     let i = match r.below(3) {
         0 => 0,
         1 => r.below(8) as u64,
         _ => r.number(),
     };
-    Question { door: r.of(&DOORS), ero, session: some_session(r), pst: some_pst(r), addresses: some_addresses(r, s, 40), i }
+    Question { door: r.of(&DOORS), ero, session: some_session(r), pst: some_pst(r, form), addresses: some_addresses(r, s, 40), i }
 }
 
 fn our_judge(s: &[u8], q: &Question) -> plain::Verdict {
@@ -184,14 +209,14 @@ fn shown(s: &[u8], q: &Question) -> String {
 
 pub fn check_route(tally: &mut Tally, s: &[u8], q: &Question) -> Result<(), String> {
     let theirs = their_judge(s, q);
-    tally.count(q.door, if q.ero { Call::Ero } else { Call::Rro }, theirs.0);
+    tally.count(q.door, if q.ero { Call::Ero } else { Call::Rro }.of(q.pst), theirs.0);
     if our_judge(s, q) != theirs {
         let small = shrink(s.to_vec(), |s| our_judge(s, q) != their_judge(s, q));
         let (ours, theirs) = (our_judge(&small, q), their_judge(&small, q));
         return Err(format!("{}\nlibrary   {ours:?}\nreference {theirs:?} (number, place, count, stray)", shown(&small, q)));
     }
     let picked = their_segment(s, q);
-    tally.count(q.door, Call::Segment, picked.0 .0);
+    tally.count(q.door, Call::Segment.of(q.pst), picked.0 .0);
     if our_segment(s, q) != picked {
         let small = shrink(s.to_vec(), |s| our_segment(s, q) != their_segment(s, q));
         let (ours, theirs) = (our_segment(&small, q), their_segment(&small, q));
@@ -204,13 +229,13 @@ pub fn check_route(tally: &mut Tally, s: &[u8], q: &Question) -> Result<(), Stri
 
 type Stepped = (plain::Verdict, Option<reference::Segment>, usize);
 
-fn our_step(door: Door, s: &[u8], ero: bool, at: usize) -> Stepped {
-    let r = doors::step(door, s, ero, at);
+fn our_step(s: &[u8], q: &Question, at: usize) -> Stepped {
+    let r = doors::step(q.door, s, q.ero, q.pst, at);
     (plain::ours(r.verdict), plain::segment_back(&r.segment), r.next)
 }
 
-fn their_step(s: &[u8], ero: bool, at: usize) -> Stepped {
-    let r = reference::step(s, plain::kind(ero), at);
+fn their_step(s: &[u8], q: &Question, at: usize) -> Stepped {
+    let r = reference::step(s, plain::kind(q.ero), q.pst, at);
     let (segment, next) = r.unwrap_or((reference::Segment::default(), at));
     (plain::theirs(&r, |_| 0), Some(segment), next)
 }
@@ -220,8 +245,8 @@ fn check_steps(tally: &mut Tally, s: &[u8], q: &Question, from: usize) -> Result
     let mut handed = Vec::new();
     let mut at = from;
     loop {
-        let (ours, theirs) = (our_step(q.door, s, q.ero, at), their_step(s, q.ero, at));
-        tally.count(q.door, Call::Step, theirs.0 .0);
+        let (ours, theirs) = (our_step(s, q, at), their_step(s, q, at));
+        tally.count(q.door, Call::Step.of(q.pst), theirs.0 .0);
         if ours != theirs {
             return Err(format!("step at {at} of {}\nlibrary   {ours:?}\nreference {theirs:?}", shown(s, q)));
         }
@@ -280,15 +305,17 @@ fn around(sample: &[u8], mut look: impl FnMut(&[u8]) -> Result<(), String>) -> R
     Ok(())
 }
 
-fn sample_routes(r: &mut Random) -> Vec<(bool, Vec<u8>)> {
-    let e = octets(E);
-    let mut samples = vec![(true, e.clone())];
-    let mut rro = e;
-    rro[0] = 8;
-    samples.push((false, rro));
-    for n in [1, 1, 2, 2, 3, 5] {
-        for ero in [true, false] {
-            samples.push((ero, objects::route(r, ero, n, usize::MAX)));
+fn sample_routes(r: &mut Random) -> Vec<(Form, bool, Vec<u8>)> {
+    let mut samples = Vec::new();
+    for (form, object) in [(Form::Srv6, octets(E)), (Form::Mpls, octets(LABELS))] {
+        samples.push((form, true, object.clone()));
+        let mut rro = object;
+        rro[0] = 8;
+        samples.push((form, false, rro));
+        for n in [1, 1, 2, 2, 3, 5] {
+            for ero in [true, false] {
+                samples.push((form, ero, objects::route(r, form, ero, n, usize::MAX)));
+            }
         }
     }
     samples
@@ -296,10 +323,11 @@ fn sample_routes(r: &mut Random) -> Vec<(bool, Vec<u8>)> {
 
 /// All the objects on either side of good samples.
 pub fn exhaust(tally: &mut Tally, r: &mut Random) -> Result<(), String> {
-    let mut opens = vec![octets(O)];
-    while opens.len() < 8 {
+    let mut opens = vec![octets(O), octets(BOTH)];
+    while opens.len() < 10 {
         let open = objects::open(r);
-        if reference::read_open(Setup { a: 0, r: 1 }, &open).is_ok_and(|o| o.srv6) {
+        let wanted = opens.len() % 3;
+        if reference::read_open(Setup { a: 0, r: 1 }, &open).is_ok_and(|o| (o.srv6 || wanted == 0) && (o.mpls.is_some() || wanted == 1)) {
             opens.push(open);
         }
     }
@@ -307,12 +335,17 @@ pub fn exhaust(tally: &mut Tally, r: &mut Random) -> Result<(), String> {
         let at = some_setup(r, usize::MAX);
         around(sample, |s| check_open(tally, Door::Archive, at, s))?;
     }
-    let free = Session { agreed: true, n: true, ..Session::default() };
+    let free = Session { agreed: true, n: true, mpls: Some(Mpls { n: true, limit: None }), ..Session::default() };
     let one = Session { limit: Some(1), v: Some(1), a: true, ..free };
-    for (ero, sample) in sample_routes(r) {
+    let less = Session { n: false, limit: Some(1), mpls: Some(Mpls { n: false, limit: Some(1) }), ..free };
+    for (form, ero, sample) in sample_routes(r) {
         let local = sample.get(28..44).unwrap_or_default().to_vec();
-        for session in [free, Session { n: false, limit: Some(1), ..free }, one, Session { r: true, ..one }] {
-            let q = Question { door: Door::Archive, ero, session, pst: 3, addresses: local.clone(), i: 1 };
+        let sessions = match form {
+            Form::Srv6 => &[free, less, one, Session { r: true, ..one }][..],
+            Form::Mpls => &[free, less],
+        };
+        for &session in sessions {
+            let q = Question { door: Door::Archive, ero, session, pst: form.pst().into(), addresses: local.clone(), i: 1 };
             around(&sample, |s| check_route(tally, s, &q).and_then(|()| check_steps(tally, s, &q, 4)))?;
         }
     }
@@ -338,7 +371,7 @@ pub fn opens(tally: &mut Tally, r: &mut Random, n: usize) -> Result<(), String> 
         let at = some_setup(r, 30);
         check_open(tally, door, at, &object)?;
         check_session(r, door, at, [&object, &before])?;
-        if !r.one_in(4) || reference::read_open(Setup { a: 0, r: 1 }, &object).is_ok_and(|o| o.srv6) {
+        if !r.one_in(4) || reference::read_open(Setup { a: 0, r: 1 }, &object).is_ok_and(|o| o.srv6 || o.mpls.is_some()) {
             before = object;
         }
     }
@@ -348,17 +381,18 @@ pub fn opens(tally: &mut Tally, r: &mut Random, n: usize) -> Result<(), String> 
 /// So many routes made up.
 pub fn routes(tally: &mut Tally, r: &mut Random, n: usize) -> Result<(), String> {
     for size in 65_524..=65_540 {
-        for ero in [true, false] {
-            let object = objects::long_route(r, ero, size);
+        for (form, ero) in [(Form::Srv6, true), (Form::Srv6, false), (Form::Mpls, true), (Form::Mpls, false)] {
+            let object = objects::long_route(r, form, ero, size);
             for door in DOORS {
-                for i in [0, 2729, 2730] {
-                    check_route(tally, &object, &Question { door, i, ..question(r, ero, &object) })?;
+                for i in if form == Form::Srv6 { [0, 2729, 2730] } else { [0, 8189, 8190] } {
+                    check_route(tally, &object, &Question { door, i, ..question(r, form, ero, &object) })?;
                 }
             }
         }
     }
     for _ in 0..n {
         let ero = !r.one_in(3);
+        let form = some_form(r);
         let count = match r.below(1000) {
             0 => 2729,
             1..=10 => r.below(200),
@@ -369,7 +403,7 @@ pub fn routes(tally: &mut Tally, r: &mut Random, n: usize) -> Result<(), String>
             r.octets(size)
         } else {
             let faults = r.of(&[4, 12, 60, usize::MAX]);
-            objects::route(r, ero, count, faults)
+            objects::route(r, form, ero, count, faults)
         };
         if r.one_in(3) {
             for _ in 0..r.of(&[1, 1, 2, 3]) {
@@ -377,11 +411,11 @@ pub fn routes(tally: &mut Tally, r: &mut Random, n: usize) -> Result<(), String>
             }
         }
         let asked = if r.one_in(30) { !ero } else { ero };
-        let q = question(r, asked, &object);
+        let q = question(r, form, asked, &object);
         check_route(tally, &object, &q)?;
         if count < 200 || r.one_in(20) {
             let place = r.number() as usize;
-            let from = r.of(&[4, 4, 0, 2, 8, 28, 68, object.len(), object.len().saturating_sub(4), place]);
+            let from = r.of(&[4, 4, 0, 2, 8, 12, 28, 68, object.len(), object.len().saturating_sub(4), place]);
             check_steps(tally, &object, &q, from)?;
         }
     }

@@ -21,9 +21,32 @@ pub enum Call {
     Moved,
     FreshMark,
     Empty,
+    MplsOpen,
+    MplsEro,
+    MplsRro,
+    MplsSegment,
+    MplsStep,
+    MplsAdd,
+    MplsReport,
 }
 
-const CALLS: [(&str, &[usize]); 16] = [
+impl Call {
+    /// The call as it is asked of a route of this setup type.
+    pub fn of(self, pst: u64) -> Call {
+        match self {
+            _ if pst != 1 => self,
+            Call::Ero => Call::MplsEro,
+            Call::Rro => Call::MplsRro,
+            Call::Segment => Call::MplsSegment,
+            Call::Step => Call::MplsStep,
+            Call::Add => Call::MplsAdd,
+            Call::Report => Call::MplsReport,
+            other => other,
+        }
+    }
+}
+
+const CALLS: [(&str, &[usize]); 23] = [
     ("open", &[0, 1, 2, 3, 28]),
     ("ero", &[0, 4, 5, 6, 7, 8, 9, 10, 11, 12, 13, 14, 28]),
     ("rro", &[0, 4, 5, 6, 7, 8, 9, 11, 13, 14, 28]),
@@ -40,11 +63,18 @@ const CALLS: [(&str, &[usize]); 16] = [
     ("moved", &[0, 17, 23, 24]),
     ("mark", &[0]),
     ("empty", &[0]),
+    ("MPLS open", &[0, 1, 2, 3]),
+    ("MPLS ero", &[0, 4, 5, 6, 7, 8, 9, 10, 12, 13, 14, 28, 29, 30]),
+    ("MPLS rro", &[0, 4, 5, 6, 7, 8, 9, 13, 14, 28, 29, 30]),
+    ("MPLS segment", &[0, 4, 5, 6, 7, 8, 9, 10, 12, 13, 14, 15, 28, 29, 30]),
+    ("MPLS step", &[0, 4, 7, 8, 9, 14, 15, 29, 30]),
+    ("MPLS add", &[0, 7, 8, 9, 16, 29, 30]),
+    ("MPLS report", &[0, 4, 5, 6, 7, 8, 9, 10, 12, 13, 14, 17, 18, 19, 20, 21, 28, 29, 30]),
 ];
 
 #[derive(Default)]
 pub struct Tally {
-    counts: [[u64; 29]; CALLS.len()],
+    counts: [[u64; 31]; CALLS.len()],
     /// Acceptances of each call by each door.
     accepted: [[u64; DOORS.len()]; CALLS.len()],
     /// Reports that took the place of the oldest removal.
@@ -84,7 +114,7 @@ impl Tally {
 impl fmt::Display for Tally {
     fn fmt(&self, f: &mut fmt::Formatter<'_>) -> fmt::Result {
         for (counts, (name, _)) in self.counts.iter().zip(CALLS) {
-            write!(f, "{name:8}")?;
+            write!(f, "{name:13}")?;
             for (number, count) in counts.iter().enumerate().filter(|(_, &count)| count > 0) {
                 write!(f, " {number}:{count}")?;
             }

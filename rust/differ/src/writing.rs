@@ -5,19 +5,66 @@ use crate::octets::hex;
 use crate::plain;
 use crate::random::Random;
 use crate::tally::{Call, Tally};
-use reference::{Kind, Segment, Writer};
+use reference::{Form, Kind, Segment, Writer};
 use strundevi::raw;
 
 #[derive(Clone, Debug)]
 enum Step {
-    Begin { ero: bool },
+    Begin { ero: bool, pst: u64 },
     Add { segment: Segment, flag: u8 },
     Finish,
     /// The caller comes back with another state.
-    Resume { ero: bool, at: usize },
+    Resume { ero: bool, form: u8, at: usize },
 }
 
-fn some_segment(r: &mut Random, ero: bool) -> Segment {
+/// Mostly one of the form; now and then the other's.
+fn some_segment(r: &mut Random, form: Form, ero: bool) -> Segment {
+    match if r.one_in(40) { Form::Mpls } else { form } {
+        Form::Srv6 => srv6_segment(r, ero),
+        Form::Mpls => mpls_segment(r, ero),
+    }
+}
+
+fn mpls_segment(r: &mut Random, ero: bool) -> Segment {
+    let nt = if r.one_in(25) { r.octet() } else { r.of(&[0, 0, 1, 2, 3, 4, 5, 6]) };
+    let nai = [0, 4, 16, 8, 32, 16, 40].get(nt as usize).copied().unwrap_or(0);
+    let has_sid = if nt == 0 { !r.one_in(25) } else { !r.one_in(4) };
+    let labelled = if has_sid { !r.one_in(3) } else { r.one_in(25) };
+    let complete = if labelled { r.one_in(3) } else { r.one_in(25) };
+    let mut s = Segment {
+        loose: ero && r.one_in(3) || r.one_in(25),
+        verify: ero && r.one_in(3) || r.one_in(25),
+        nt,
+        has_sid,
+        labelled,
+        complete,
+        structured: r.one_in(40),
+        ..Segment::default()
+    };
+    if r.one_in(25) {
+        s.behaviour = r.of(&[1, 256, 65_535]);
+    }
+    if has_sid {
+        let (special, any) = (r.below(17) as u32, r.next() as u32 >> 12);
+        let label = r.of(&[7, 16, 16_001, 0xf_ffff, special, any]);
+        let entry = label << 12 | r.next() as u32 & r.of(&[0, 0xf00, 0xfff]);
+        s.sid[..4].copy_from_slice(&entry.to_be_bytes());
+    }
+    if r.one_in(20) {
+        let from = if has_sid { 4 } else { 0 };
+        s.sid[from + r.below(16 - from)] = 1;
+    }
+    s.nai[..nai].copy_from_slice(&r.octets(nai));
+    if nai < 40 && r.one_in(20) {
+        s.nai[nai + r.below(40 - nai)] = 128;
+    }
+    if r.one_in(30) {
+        s.structure[r.below(4)] = r.of(&[1, 200]);
+    }
+    s
+}
+
+fn srv6_segment(r: &mut Random, ero: bool) -> Segment {
     let nt = if r.one_in(25) { r.octet() } else { r.of(&[0, 0, 2, 4, 6]) };
     let nai = match nt {
         2 => 16,
@@ -34,6 +81,8 @@ fn some_segment(r: &mut Random, ero: bool) -> Segment {
         behaviour: r.next() as u16,
         has_sid,
         structured,
+        labelled: r.one_in(40),
+        complete: r.one_in(40),
         ..Segment::default()
     };
     if has_sid {
@@ -57,9 +106,13 @@ fn some_segment(r: &mut Random, ero: bool) -> Segment {
     s
 }
 
-fn some_step(r: &mut Random, ero: bool, size: usize) -> Step {
+fn some_pst(r: &mut Random) -> u64 {
+    r.of(&[1, 1, 1, 3, 3, 3, 0, 2, 257, 259, 1 << 32 | 1, u64::MAX])
+}
+
+fn some_step(r: &mut Random, form: Form, ero: bool, size: usize) -> Step {
     match r.below(20) {
-        0 => Step::Begin { ero: r.one_in(2) },
+        0 => Step::Begin { ero: r.one_in(2), pst: some_pst(r) },
         1 | 2 => Step::Finish,
         3 => {
             let at = match r.below(5) {
@@ -69,10 +122,10 @@ fn some_step(r: &mut Random, ero: bool, size: usize) -> Step {
                 3 => r.number() as usize,
                 _ => r.below(size + 8) / 4 * 4,
             };
-            Step::Resume { ero: r.one_in(2), at }
+            Step::Resume { ero: r.one_in(2), form: r.of(&[1, 1, 3, 3, 0, 2, 255]), at }
         }
         _ => {
-            let segment = some_segment(r, ero);
+            let segment = some_segment(r, form, ero);
             Step::Add { segment, flag: r.of(&[1, 1, 1, 2, 128, 255]) }
         }
     }
@@ -89,18 +142,21 @@ struct Pair {
 impl Pair {
     fn new(size: usize) -> Pair {
         let buffer: Vec<u8> = (0..size).map(|i| 0xEE ^ i as u8).collect();
-        Pair { theirs: Writer { kind: Kind::Ero, at: 0 }, their_buffer: buffer.clone(), ours: raw::Writer { ero: 1, at: 0 }, our_buffer: buffer }
+        let (theirs, ours) = (Writer { kind: Kind::Ero, form: 0, at: 0 }, raw::Writer { ero: 1, form: 0, at: 0 });
+        Pair { theirs, their_buffer: buffer.clone(), ours, our_buffer: buffer }
     }
 
     /// One step on both sides: the number, or what differs.
     fn step(&mut self, door: Door, step: &Step) -> Result<usize, String> {
         let (answer, written) = match step {
-            Step::Resume { ero, at } => {
-                self.theirs = Writer { kind: plain::kind(*ero), at: *at };
-                self.ours = raw::Writer { ero: *ero as u8, at: *at };
+            Step::Resume { ero, form, at } => {
+                self.theirs = Writer { kind: plain::kind(*ero), form: *form, at: *at };
+                self.ours = raw::Writer { ero: *ero as u8, form: *form, at: *at };
                 return Ok(0);
             }
-            Step::Begin { ero } => (Writer::begin(&mut self.their_buffer, plain::kind(*ero)), doors::begin(door, &mut self.our_buffer, self.ours, *ero)),
+            Step::Begin { ero, pst } => {
+                (Writer::begin(&mut self.their_buffer, plain::kind(*ero), *pst), doors::begin(door, &mut self.our_buffer, self.ours, *ero, *pst))
+            }
             Step::Add { segment, flag } => {
                 (self.theirs.add(&mut self.their_buffer, segment), doors::add(door, &mut self.our_buffer, self.ours, segment, *flag))
             }
@@ -109,10 +165,11 @@ impl Pair {
         let verdict = plain::theirs(&answer, |_| 0);
         self.theirs = answer.unwrap_or(self.theirs);
         self.ours = written.writer;
-        let expected = ((self.theirs.kind == Kind::Ero) as u8, self.theirs.at);
+        let expected = ((self.theirs.kind == Kind::Ero) as u8, self.theirs.form, self.theirs.at);
         let ours = plain::ours(written.verdict);
-        if ours != verdict || (self.ours.ero, self.ours.at) != expected {
-            return Err(format!("library   {ours:?}, writer {} {}\nreference {verdict:?}, writer {} {}", self.ours.ero, self.ours.at, expected.0, expected.1));
+        let state = (self.ours.ero, self.ours.form, self.ours.at);
+        if ours != verdict || state != expected {
+            return Err(format!("library   {ours:?}, writer {state:?}\nreference {verdict:?}, writer {expected:?} (ERO, form, place)"));
         }
         if self.our_buffer != self.their_buffer {
             let at = self.our_buffer.iter().zip(&self.their_buffer).position(|(a, b)| a != b).unwrap();
@@ -153,12 +210,13 @@ pub fn steps(tally: &mut Tally, r: &mut Random, n: usize) -> Result<(), String> 
             1..=4 => r.below(8),
             _ => r.below(700),
         };
-        let mut ero = r.one_in(2);
+        let (mut ero, first) = (r.one_in(2), some_pst(r));
         let mut pair = Pair::new(size);
         let mut steps = Vec::new();
         for turn in 0..r.below(40) {
-            let step = if turn == 0 { Step::Begin { ero } } else { some_step(r, ero, size) };
-            if let Step::Begin { ero: kind } | Step::Resume { ero: kind, .. } = step {
+            let form = pair.theirs.form.into();
+            let step = if turn == 0 { Step::Begin { ero, pst: first } } else { some_step(r, Form::of(form), ero, size) };
+            if let Step::Begin { ero: kind, .. } | Step::Resume { ero: kind, .. } = step {
                 ero = kind;
             }
             let door = r.of(&DOORS);
@@ -166,7 +224,7 @@ pub fn steps(tally: &mut Tally, r: &mut Random, n: usize) -> Result<(), String> 
             let number = pair.step(door, &step).map_err(|_| shown(size, steps.clone()))?;
             match step {
                 Step::Begin { .. } => tally.count(door, Call::Begin, number),
-                Step::Add { .. } => tally.count(door, Call::Add, number),
+                Step::Add { .. } => tally.count(door, Call::Add.of(form), number),
                 Step::Finish => tally.count(door, Call::Finish, number),
                 Step::Resume { .. } => {}
             }

@@ -21,7 +21,7 @@ pub const SID_NEEDED: u8 = 10;
 pub const STRUCTURE_TOO_LONG: u8 = 11;
 pub const TOO_MANY_SEGMENTS: u8 = 12;
 pub const NOT_AGREED: u8 = 13;
-pub const NO_SRV6: u8 = 14;
+pub const NONE_OF_FORM: u8 = 14;
 pub const NO_SUCH_SEGMENT: u8 = 15;
 pub const BUFFER_FULL: u8 = 16;
 pub const NOT_A_BOARD: u8 = 17;
@@ -33,6 +33,8 @@ pub const NO_PATH: u8 = 22;
 pub const MARK_TOO_OLD: u8 = 23;
 pub const MARK_AHEAD: u8 = 24;
 pub const NOT_USABLE: u8 = 28;
+pub const BAD_LABEL_VALUE: u8 = 29;
+pub const BAD_LABEL_FORMAT: u8 = 30;
 
 /// A refusal of the whole: its place is 0.
 #[inline]

@@ -3,10 +3,13 @@
 //!
 //! A key of 0 is an empty place, a length of 0 at a key a removal. A call refuses with 17 a store that is too short or a record that is not
 //! proper: keys in range and distinct, versions distinct and from 1 to the board's, removals above the floor, floor at most the version, that at
-//! most 2^64-2, lengths of paths multiples of 4 from 24 to 384, all numbers of empty places 0.
+//! most 2^64-2, a path's form 1 or 3 and its length a multiple of 4 from 8 (form 1) or 24 (form 3) to 384, forms of removals and all numbers of empty
+//! places 0.
 
 use crate::answer::*;
-use crate::route::{judge, Counts, Kind};
+use crate::form::{PST_MPLS, PST_SRV6};
+use crate::route::{judge, Kind};
+use crate::segment::Counts;
 use crate::session::Session;
 
 pub const PLACES: usize = 128;
@@ -14,7 +17,8 @@ pub const PLACE_OCTETS: usize = 384;
 pub const STORE_OCTETS: usize = PLACES * PLACE_OCTETS;
 pub const KEY_MOST: u64 = 1_048_574;
 pub const VERSION_MOST: u64 = u64::MAX - 1;
-pub const BODY_LEAST: u16 = 24;
+pub const MPLS_BODY_LEAST: u16 = 8;
+pub const SRV6_BODY_LEAST: u16 = 24;
 
 #[derive(Clone, Copy, Debug, PartialEq, Eq)]
 pub struct Board {
@@ -23,19 +27,21 @@ pub struct Board {
     pub lengths: [u16; PLACES],
     pub version: u64,
     pub floor: u64,
+    /// The setup type of a place's path; 0 for a removal and an empty place.
+    pub forms: [u8; PLACES],
 }
 
 /// What a follower is handed.
 #[derive(Clone, Copy, Debug, PartialEq, Eq)]
 pub enum Change {
-    Path { key: u32, version: u64, place: usize, length: usize },
+    Path { key: u32, version: u64, form: u8, place: usize, length: usize },
     Removed { key: u32, version: u64 },
     Level { version: u64 },
 }
 
 impl Default for Board {
     fn default() -> Board {
-        Board { keys: [0; PLACES], versions: [0; PLACES], lengths: [0; PLACES], version: 0, floor: 0 }
+        Board { keys: [0; PLACES], versions: [0; PLACES], lengths: [0; PLACES], version: 0, floor: 0, forms: [0; PLACES] }
     }
 }
 
@@ -68,9 +74,9 @@ impl Board {
         let mut keys = Seen([0; 2 * PLACES]);
         let mut versions = Seen([0; 2 * PLACES]);
         for i in 0..PLACES {
-            let (key, version, length) = (self.keys[i], self.versions[i], self.lengths[i]);
+            let (key, version, length, form) = (self.keys[i], self.versions[i], self.lengths[i], self.forms[i]);
             if key == 0 {
-                if version != 0 || length != 0 {
+                if version != 0 || length != 0 || form != 0 {
                     return false;
                 }
                 continue;
@@ -79,11 +85,18 @@ impl Board {
                 return false;
             }
             if length == 0 {
-                if version <= self.floor {
+                if version <= self.floor || form != 0 {
                     return false;
                 }
-            } else if length % 4 != 0 || length < BODY_LEAST || length as usize > PLACE_OCTETS {
-                return false;
+            } else {
+                let least = match u64::from(form) {
+                    PST_MPLS => MPLS_BODY_LEAST,
+                    PST_SRV6 => SRV6_BODY_LEAST,
+                    _ => return false,
+                };
+                if length % 4 != 0 || length < least || length as usize > PLACE_OCTETS {
+                    return false;
+                }
             }
             if !keys.insert(u64::from(key), i, &self.keys) || !versions.insert(version, i, &self.versions) {
                 return false;
@@ -154,6 +167,7 @@ impl Board {
         self.keys[place] = key;
         self.versions[place] = version;
         self.lengths[place] = body.len() as u16;
+        self.forms[place] = pst as u8;
         self.version = version;
         Ok(counts)
     }
@@ -164,6 +178,7 @@ impl Board {
         let version = self.next_version()?;
         self.versions[place] = version;
         self.lengths[place] = 0;
+        self.forms[place] = 0;
         self.version = version;
         Ok(())
     }
@@ -183,11 +198,12 @@ impl Board {
         Ok(())
     }
 
-    pub fn body<'a>(&self, store: &'a [u8], key: u64) -> Answer<&'a [u8]> {
+    /// The form of a key's path, and its octets.
+    pub fn body<'a>(&self, store: &'a [u8], key: u64) -> Answer<(u8, &'a [u8])> {
         self.check(store)?;
         let place = self.path_of(key)?;
         let start = place * PLACE_OCTETS;
-        Ok(&store[start..start + self.lengths[place] as usize])
+        Ok((self.forms[place], &store[start..start + self.lengths[place] as usize]))
     }
 
     pub fn next(&self, store: &[u8], s: u64, w: u64) -> Answer<Change> {
@@ -213,7 +229,7 @@ impl Board {
         let key = self.keys[best];
         Ok(match self.lengths[best] {
             0 => Change::Removed { key, version: least },
-            length => Change::Path { key, version: least, place: best, length: length as usize },
+            length => Change::Path { key, version: least, form: self.forms[best], place: best, length: length as usize },
         })
     }
 

@@ -1,11 +1,11 @@
-//! A session: made of the PCC's and the PCE's OPEN answers. SRv6 is agreed if both carry it; N, the limit, v and m are the PCC's; A and R
-//! are agreed if both set them.
+//! A session: made of the PCC's and the PCE's OPEN answers, with a half for each form. A form is agreed if both carry it; its N and its limit, and SRv6's v
+//! and m, are the PCC's; A and R are agreed if SRv6 is and both set them.
 
-use crate::answer::Answer;
-use crate::open::Open;
+use crate::open::{Mpls, Open, OpenAnswer};
 
 #[derive(Clone, Copy, Debug, Default, PartialEq, Eq)]
 pub struct Session {
+    /// SRv6 is agreed; without it the six that follow are false or none.
     pub agreed: bool,
     pub n: bool,
     pub limit: Option<usize>,
@@ -13,16 +13,20 @@ pub struct Session {
     pub r: bool,
     pub v: Option<u8>,
     pub m: Option<u8>,
+    /// MPLS, if it is agreed.
+    pub mpls: Option<Mpls>,
 }
 
 impl Session {
-    /// A refused OPEN carries no SRv6, and without SRv6 there is neither N nor a limit.
-    pub fn agree(pcc: &Answer<Open>, pce: &Answer<Open>) -> Session {
+    /// A refused OPEN carries neither form, and without a form there is neither its N nor its limit.
+    pub fn agree(pcc: &OpenAnswer, pce: &OpenAnswer) -> Session {
         let pcc = pcc.unwrap_or_default();
         let pce = pce.unwrap_or_default();
+        let mpls = pcc.mpls.filter(|_| pce.mpls.is_some());
         if !pcc.srv6 || !pce.srv6 {
-            return Session::default();
+            return Session { mpls, ..Session::default() };
         }
-        Session { agreed: true, n: pcc.n, limit: pcc.limit, a: pcc.a && pce.a, r: pcc.r && pce.r, v: pcc.v, m: pcc.m }
+        let Open { n, limit, v, m, .. } = pcc;
+        Session { agreed: true, n, limit, a: pcc.a && pce.a, r: pcc.r && pce.r, v, m, mpls }
     }
 }

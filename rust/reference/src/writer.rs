@@ -1,30 +1,32 @@
 //! Writing a route: begun, given one segment at a time, finished, in a lent buffer. What was refused changes nothing.
 //!
-//! Adding is refused with 8, 9, 7 (a structure without a SID, L or V in an RRO, octets not 0 where a part is absent or shorter), 11, then
-//! 16 if the object would pass the buffer's end or 65,532 octets. A place under 4, no multiple of 4 or past that end is 16; a finish at 4 is 5.
+//! Adding is refused with 8, 9, 7 (a structure without a SID, L or V in an RRO, what the form has not, octets not 0 where a part is absent or shorter), 11, 29,
+//! 30, then 16 if the object would pass the buffer's end or 65,532 octets. A place under 4, no multiple of 4 or past that end is 16; a finish at 4 is 5.
 
 use crate::answer::*;
-use crate::route::{bits, nai_size, Kind, Segment, FLAG_F, FLAG_S, FLAG_T, FLAG_V, MOST_BITS, OBJECT_TYPE, SRV6};
+use crate::form::Form;
+use crate::mpls::Mpls;
+use crate::route::{Kind, OBJECT_TYPE};
+use crate::segment::{Layout, Segment};
+use crate::srv6::Srv6;
 
 pub const MOST_OCTETS: usize = 65_532;
 
+/// The form is a setup type, which begin makes that of a form.
 #[derive(Clone, Copy, Debug, PartialEq, Eq)]
 pub struct Writer {
     pub kind: Kind,
+    pub form: u8,
     pub at: usize,
 }
 
-fn zero(octets: &[u8]) -> bool {
-    octets.iter().all(|&o| o == 0)
-}
-
 impl Writer {
-    pub fn begin(buffer: &mut [u8], kind: Kind) -> Answer<Writer> {
+    pub fn begin(buffer: &mut [u8], kind: Kind, pst: u64) -> Answer<Writer> {
         let Some(head) = buffer.get_mut(..4) else {
             return refuse(BUFFER_FULL);
         };
         head.copy_from_slice(&[kind.class(), OBJECT_TYPE << 4, 0, 4]);
-        Ok(Writer { kind, at: 4 })
+        Ok(Writer { kind, form: Form::of(pst).pst(), at: 4 })
     }
 
     /// The octets the object may still take, if the place is one.
@@ -38,55 +40,19 @@ impl Writer {
     }
 
     pub fn add(self, buffer: &mut [u8], segment: &Segment) -> Answer<Writer> {
-        let Some(nai) = nai_size(segment.nt) else {
-            return refuse(NAI_UNKNOWN);
-        };
-        if !segment.has_sid && nai == 0 {
-            return refuse(NOTHING_THERE);
+        match Form::of(self.form.into()) {
+            Form::Srv6 => self.add_in::<Srv6>(buffer, segment),
+            Form::Mpls => self.add_in::<Mpls>(buffer, segment),
         }
-        if segment.structured && !segment.has_sid
-            || self.kind == Kind::Rro && (segment.loose || segment.verify)
-            || !segment.has_sid && !zero(&segment.sid)
-            || !zero(&segment.nai[nai..])
-            || !segment.structured && !zero(&segment.structure)
-        {
-            return refuse(LENGTH_WRONG);
-        }
-        if bits(&segment.structure) > MOST_BITS {
-            return refuse(STRUCTURE_TOO_LONG);
-        }
-        let sid = if segment.has_sid { 16 } else { 0 };
-        let size = 8 + sid + nai + if segment.structured { 8 } else { 0 };
+    }
+
+    #[inline]
+    fn add_in<L: Layout>(self, buffer: &mut [u8], segment: &Segment) -> Answer<Writer> {
+        let size = L::size(segment, self.kind == Kind::Ero)?;
         if self.room(buffer).map_or(true, |room| room < size) {
             return refuse(BUFFER_FULL);
         }
-        let sub = &mut buffer[self.at..self.at + size];
-        let mut flags = 0;
-        if !segment.has_sid {
-            flags |= FLAG_S;
-        }
-        if nai == 0 {
-            flags |= FLAG_F;
-        }
-        if segment.structured {
-            flags |= FLAG_T;
-        }
-        if segment.verify {
-            flags |= FLAG_V;
-        }
-        let [high, low] = segment.behaviour.to_be_bytes();
-        let first = SRV6 | if segment.loose { 0x80 } else { 0 };
-        sub[..8].copy_from_slice(&[first, size as u8, segment.nt << 4, flags, 0, 0, high, low]);
-        let (sid_part, rest) = sub[8..].split_at_mut(sid);
-        if segment.has_sid {
-            sid_part.copy_from_slice(&segment.sid);
-        }
-        let (nai_part, rest) = rest.split_at_mut(nai);
-        nai_part.copy_from_slice(&segment.nai[..nai]);
-        if segment.structured {
-            rest[..4].copy_from_slice(&segment.structure);
-            rest[4..].fill(0);
-        }
+        L::write(segment, &mut buffer[self.at..self.at + size]);
         Ok(Writer { at: self.at + size, ..self })
     }
 

@@ -22,6 +22,10 @@ fn refused<T>(number: u8, place: usize) -> Answer<T> {
     Err(Refusal { number, place })
 }
 
+fn at_fault(number: u8, form: u8) -> OpenAnswer {
+    Err(Fault { number, form })
+}
+
 fn session() -> Session {
     Session::agree(&read_open(AT, &O), &read_open(AT, &O))
 }
@@ -52,18 +56,19 @@ fn structured(bits: [u8; 4]) -> Vec<u8> {
 fn opens() {
     assert_eq!(read_open(AT, &O), Ok(Open { srv6: true, limit: Some(4), v: Some(4), ..Open::default() }));
     assert_eq!(read_open(AT, &with(O, 16, 0)), Ok(Open::default()));
-    assert_eq!(read_open(AT, &with(O, 28, 0)), refused(3, 0));
+    assert_eq!(read_open(AT, &with(O, 28, 0)), at_fault(3, 3));
     assert_eq!(read_open(AT, &with(O, 27, 1)), Ok(Open { srv6: true, ..Open::default() }));
     assert_eq!(read_open(AT, &with(with(O, 27, 1), 28, 0)), Ok(Open { srv6: true, ..Open::default() }));
     assert_eq!(read_open(AT, &with(O, 27, 2)), Ok(Open { srv6: true, n: true, limit: Some(4), v: Some(4), ..Open::default() }));
-    assert_eq!(read_open(AT, &with(O, 21, 26)), refused(2, 0));
+    assert_eq!(read_open(AT, &with(O, 21, 26)), at_fault(2, 3));
     assert_eq!(read_open(AT, &with(O, 1, 0x1F)), read_open(AT, &O));
     for n in 0..O.len() {
-        assert_eq!(read_open(AT, &O[..n]), refused(1, 0));
+        assert_eq!(read_open(AT, &O[..n]), at_fault(1, 0));
     }
-    for (at, value) in [(0, 2), (1, 0x20), (3, 0x24), (4, 0x40), (11, 21), (11, 17), (15, 15), (23, 5), (23, 7)] {
-        assert_eq!(read_open(AT, &with(O, at, value)), refused(1, 0), "octet {at}");
+    for (at, value) in [(0, 2), (1, 0x20), (3, 0x24), (4, 0x40), (11, 21), (11, 17), (15, 15), (23, 7)] {
+        assert_eq!(read_open(AT, &with(O, at, value)), at_fault(1, 0), "octet {at}");
     }
+    assert_eq!(read_open(AT, &with(O, 23, 5)), at_fault(1, 3));
 }
 
 #[test]
@@ -82,15 +87,15 @@ fn last_padding_only_may_be_cut() {
         assert_eq!(open(&[&head[..], &vec![0; n]].concat()), good);
     }
     for n in 3..=5 {
-        assert_eq!(open(&[&head[..], &vec![0; n]].concat()), refused(1, 0));
+        assert_eq!(open(&[&head[..], &vec![0; n]].concat()), at_fault(1, 0));
     }
     assert_eq!(open(&[&head[..], &[0; 6]].concat()), good);
     for n in 0..head.len() {
         if n != 8 {
-            assert_eq!(open(&head[..n]), refused(1, 0), "{n}");
+            assert_eq!(open(&head[..n]), at_fault(1, 0), "{n}");
         }
     }
-    assert_eq!(open(&head[..8]), refused(2, 0));
+    assert_eq!(open(&head[..8]), at_fault(2, 3));
 }
 
 /// So many segments, none of them stray.
@@ -170,7 +175,7 @@ fn routes() {
     let s = session();
     assert_eq!(s, Session { agreed: true, limit: Some(4), v: Some(4), ..Session::default() });
     assert_eq!(judge(&E, Kind::Ero, &s, 3, &[]), clean(1));
-    assert_eq!(judge(&E, Kind::Ero, &s, 1, &[]), refused(13, 0));
+    assert_eq!(judge(&E, Kind::Ero, &s, 1, &[]), refused(14, 0));
     assert_eq!(judge(&E, Kind::Ero, &Session::agree(&read_open(AT, &O), &read_open(AT, &with(O, 16, 0))), 3, &[]), refused(13, 0));
     assert_eq!(judge(&with(E, 7, 3), Kind::Ero, &s, 3, &[]), refused(9, 4));
     assert_eq!(judge(&with(E, 7, 6), Kind::Ero, &s, 3, &[]), refused(7, 4));
@@ -203,7 +208,7 @@ fn written_route_is_the_one_read() {
     let s = session();
     for object in [E.to_vec(), route(4), structured([40, 24, 16, 48])] {
         let mut buffer = vec![0xEE; object.len() + 3];
-        let mut writer = Writer::begin(&mut buffer, Kind::Ero).unwrap();
+        let mut writer = Writer::begin(&mut buffer, Kind::Ero, 3).unwrap();
         assert_eq!(writer.finish(&mut buffer), refused(5, 0));
         for i in 0..judge(&object, Kind::Ero, &s, 3, &[]).unwrap().segments {
             writer = writer.add(&mut buffer, &segment(&object, Kind::Ero, &s, 3, &[], i as u64).unwrap().0).unwrap();
@@ -213,7 +218,7 @@ fn written_route_is_the_one_read() {
         assert_eq!(buffer[..object.len()], object);
         assert_eq!(buffer[object.len()..], [0xEE; 3]);
     }
-    assert_eq!(Writer::begin(&mut [0; 3], Kind::Ero), refused(16, 0));
+    assert_eq!(Writer::begin(&mut [0; 3], Kind::Ero, 3), refused(16, 0));
 }
 
 #[test]
@@ -225,11 +230,11 @@ fn the_worked_history() {
     assert_eq!(board.report(&mut store, a, &E, &s, 3, &[]), clean(1));
     assert_eq!(board.report(&mut store, b, &route(2), &s, 3, &[]), clean(2));
     assert_eq!(board.remove(&store, a), Ok(()));
-    let path_b = Change::Path { key: 12, version: 2, place: 1, length: 48 };
+    let path_b = Change::Path { key: 12, version: 2, form: 3, place: 1, length: 48 };
     assert_eq!(board.next(&store, 1, 1), Ok(path_b));
     assert_eq!(board.next(&store, 1, 2), Ok(Change::Removed { key: 11, version: 3 }));
     assert_eq!(board.next(&store, 1, 3), Ok(Change::Level { version: 3 }));
-    assert_eq!(board.body(&store, b), Ok(&route(2)[4..]));
+    assert_eq!(board.body(&store, b), Ok((3, &route(2)[4..])));
     assert_eq!(board.body(&store, a), refused(22, 0));
     assert_eq!(board.compact(&store, 4), refused(24, 0));
     assert_eq!(board.compact(&store, 3), Ok(()));
@@ -295,7 +300,7 @@ fn one_segment_more() {
     assert!(read_open(AT, &with(O, 26, 0x40)).is_ok_and(|o| !o.a && o.r));
     assert!(read_open(Setup { a: 13, r: 8 }, &with(O, 27, 4)).is_ok_and(|o| o.a && !o.r && !o.n));
     for at in [Setup { a: 14, r: 0 }, Setup { a: 0, r: 14 }, Setup { a: 3, r: 3 }, Setup { a: u64::MAX, r: 0 }] {
-        assert_eq!(read_open(at, &[]), refused(28, 0));
+        assert_eq!(read_open(at, &[]), at_fault(28, 0));
     }
     let open = |flags| read_open(AT, &with(O, 26, flags));
     let agree = |pcc, pce| Session::agree(&open(pcc), &open(pce));

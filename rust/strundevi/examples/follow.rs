@@ -3,7 +3,7 @@
 //!     cargo run --release --offline --example follow
 
 use std::collections::BTreeMap;
-use strundevi::{read_open, Board, Change, Mark, Number, Refusal, Session, Setup, PST_SRV6, STORE_OCTETS};
+use strundevi::{read_open, Board, Change, Form, Mark, Number, Refusal, Session, Setup, PST_SRV6, STORE_OCTETS};
 
 const OPEN: [u8; 32] = [
     0x01, 0x10, 0x00, 0x20, 0x20, 0x1E, 0x78, 0x07, 0x00, 0x22, 0x00, 0x12, 0x00, 0x00, 0x00, 0x01, 0x03, 0x00, 0x00, 0x00, 0x00, 0x1B, 0x00, 0x06, 0x00, 0x00,
@@ -38,17 +38,17 @@ impl Keeper {
         Ok(())
     }
 
-    /// The paths on the board.
-    fn paths(&self) -> BTreeMap<u32, Vec<u8>> {
+    /// The paths on the board: their forms and their octets.
+    fn paths(&self) -> BTreeMap<u32, (Form, Vec<u8>)> {
         let keys = self.board.record().keys.iter();
-        keys.filter_map(|&key| Some((key, self.board.body(key).ok()?.to_vec()))).collect()
+        keys.filter_map(|&key| self.board.body(key).ok().map(|path| (key, (path.form, path.body.to_vec())))).collect()
     }
 }
 
 /// The box that follows.
 struct Follower {
     mark: Mark,
-    held: BTreeMap<u32, Vec<u8>>,
+    held: BTreeMap<u32, (Form, Vec<u8>)>,
 }
 
 impl Follower {
@@ -82,8 +82,8 @@ impl Follower {
     /// Makes a change; a path's octets are copied.
     fn make(&mut self, change: &Change) {
         match *change {
-            Change::Path { key, version, body } => {
-                self.held.insert(key, body.to_vec());
+            Change::Path { key, version, form, body } => {
+                self.held.insert(key, (form, body.to_vec()));
                 println!("follower: path {key} at {version}, {} octets, the last {}", body.len(), body.last().unwrap_or(&0));
             }
             Change::Removed { key, version } => {

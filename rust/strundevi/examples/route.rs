@@ -2,7 +2,7 @@
 //!
 //!     cargo run --release --offline --example route
 
-use strundevi::{judge, read_open, segment, segments, Board, Change, Kind, Refusal, Segment, Session, Setup, Writer, PST_SRV6, STORE_OCTETS};
+use strundevi::{judge, read_open, segment, segments, Board, Change, Form, Kind, Refusal, Segment, Session, Setup, Writer, PST_SRV6, STORE_OCTETS};
 
 const OPEN: [u8; 32] = [
     0x01, 0x10, 0x00, 0x20, 0x20, 0x1E, 0x78, 0x07, 0x00, 0x22, 0x00, 0x12, 0x00, 0x00, 0x00, 0x01, 0x03, 0x00, 0x00, 0x00, 0x00, 0x1B, 0x00, 0x06, 0x00, 0x00,
@@ -16,7 +16,7 @@ fn main() -> Result<(), Refusal> {
     println!("open: SRv6 {}, N {}, limit {:?}", open.srv6, open.n, open.limit);
 
     let mut buffer = [0; 256];
-    let mut writer = Writer::begin(&mut buffer, Kind::Ero)?;
+    let mut writer = Writer::begin(&mut buffer, Kind::Ero, Form::Srv6)?;
     for i in 1..=3 {
         let mut sid = [0x20, 0x01, 0x0D, 0xB8, 0, 0, 0, 0, 0, 0, 0, 0, 0, 0, 0, 0];
         sid[15] = i;
@@ -41,12 +41,12 @@ fn main() -> Result<(), Refusal> {
     if let Err(refusal) = board.report(0, route, &session, PST_SRV6, &[]) {
         println!("refused: {refusal}");
     }
-    println!("body of 8: {} octets", board.body(8)?.len());
+    println!("body of 8: {} octets", board.body(8)?.body.len());
 
     loop {
         let change = board.next(mark)?;
         match change {
-            Change::Path { key, version, body } => println!("path {key} at {version}: {} octets, the same {}", body.len(), *body == route[4..]),
+            Change::Path { key, version, body, .. } => println!("path {key} at {version}: {} octets, the same {}", body.len(), *body == route[4..]),
             Change::Removed { key, version } => println!("removed {key} at {version}"),
             Change::Level { version } => println!("level at {version}"),
         }

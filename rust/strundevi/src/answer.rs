@@ -1,5 +1,6 @@
 //! A refusal: the number of the first broken rule, and the octet of the fault or 0.
 
+use crate::form::Form;
 use crate::raw;
 use crate::route::Kind;
 use core::fmt;
@@ -36,18 +37,18 @@ macro_rules! numbers {
 numbers! {
     OpenMalformed = 1, "OPEN ill formed";
     CapabilityMissing = 2, "capability missing";
-    WrongMsd = 3, "wrong MSD type";
+    WrongMsd = 3, "wrong MSD type, or a depth of 0";
     FrameBroken = 4, "route frame broken";
     RouteEmpty = 5, "route empty";
     KindsMixed = 6, "kinds mixed";
-    LengthWrong = 7, "F isn't 1 exactly for NT 0, or Length isn't as expected";
-    NaiUnknown = 8, "NT not 0, 2, 4, 6";
+    LengthWrong = 7, "F isn't 1 exactly for NT 0, or Length or M and C aren't as expected";
+    NaiUnknown = 8, "NT not one of the form's";
     NothingThere = 9, "S and F both 1";
     SidNeeded = 10, "no SID, and the PCC's N is 0";
     StructureTooLong = 11, "four bit lengths sum above 128";
     TooManySegments = 12, "more segments than the limit";
-    NotAgreed = 13, "SRv6 not agreed";
-    NoSrv6 = 14, "no SRv6 subobject";
+    NotAgreed = 13, "form not agreed";
+    NoneOfForm = 14, "no subobject of the form";
     NoSuchSegment = 15, "no such segment";
     BufferFull = 16, "lent buffer full";
     NotABoard = 17, "not a board";
@@ -59,6 +60,8 @@ numbers! {
     MarkTooOld = 23, "mark too old";
     MarkAhead = 24, "mark ahead";
     NotUsable = 28, "unusable bit positions, or address list not a multiple of 16 octets";
+    BadLabelValue = 29, "bad label value";
+    BadLabelFormat = 30, "bad label format";
 }
 
 /// Error-Type and Error-value of a PCErr.
@@ -69,28 +72,41 @@ pub struct PcErr {
 }
 
 impl Number {
-    /// The PCErr to send to the peer for the refusal of an OPEN, or of a route of this kind. None: nothing in PCEP fits, the fault is on this box.
+    /// The PCErr to send to the peer for the refusal of an OPEN with this form at fault, or of a route of this kind and form. None: nothing in PCEP fits, the
+    /// fault is on this box.
     ///
     /// ```
-    /// use strundevi::{Kind, Number};
-    /// let error = Number::KindsMixed.pcerr(Kind::Rro).unwrap();
+    /// use strundevi::{Form, Kind, Number};
+    /// let error = Number::KindsMixed.pcerr(Kind::Rro, Form::Srv6).unwrap();
     /// assert_eq!((error.error_type, error.error_value), (10, 36));
-    /// assert_eq!(Number::NotABoard.pcerr(Kind::Ero), None);
+    /// assert_eq!(Number::BadLabelValue.pcerr(Kind::Ero, Form::Mpls).unwrap().error_value, 2);
+    /// assert_eq!(Number::NotABoard.pcerr(Kind::Ero, Form::Srv6), None);
     /// ```
-    pub fn pcerr(self, kind: Kind) -> Option<PcErr> {
-        let (error_type, error_value) = match (self, kind) {
-            (Number::OpenMalformed | Number::WrongMsd, _) => (1, 1),
-            (Number::CapabilityMissing, _) => (10, 34),
-            (Number::FrameBroken | Number::RouteEmpty | Number::LengthWrong, _) => (10, 11),
-            (Number::KindsMixed, Kind::Ero) => (10, 20),
-            (Number::KindsMixed, Kind::Rro) => (10, 36),
-            (Number::NaiUnknown, _) => (10, 13),
-            (Number::NothingThere, Kind::Ero) => (10, 6),
-            (Number::NothingThere, Kind::Rro) => (10, 35),
-            (Number::SidNeeded, Kind::Ero) => (4, 4),
-            (Number::StructureTooLong, _) => (10, 37),
-            (Number::TooManySegments, Kind::Ero) => (10, 3),
-            (Number::NotAgreed, _) => (19, 19),
+    pub fn pcerr(self, kind: Kind, form: Form) -> Option<PcErr> {
+        use Form::{Mpls, Srv6};
+        use Kind::{Ero, Rro};
+        let (error_type, error_value) = match (self, kind, form) {
+            (Number::OpenMalformed, _, _) => (1, 1),
+            (Number::CapabilityMissing, _, Mpls) => (10, 12),
+            (Number::CapabilityMissing, _, Srv6) => (10, 34),
+            (Number::WrongMsd, _, Mpls) => (10, 21),
+            (Number::WrongMsd, _, Srv6) => (1, 1),
+            (Number::FrameBroken | Number::RouteEmpty | Number::LengthWrong, _, _) => (10, 11),
+            (Number::KindsMixed, Ero, Mpls) => (10, 5),
+            (Number::KindsMixed, Rro, Mpls) => (10, 10),
+            (Number::KindsMixed, Ero, Srv6) => (10, 20),
+            (Number::KindsMixed, Rro, Srv6) => (10, 36),
+            (Number::NaiUnknown, _, _) => (10, 13),
+            (Number::NothingThere, Ero, _) => (10, 6),
+            (Number::NothingThere, Rro, Mpls) => (10, 7),
+            (Number::NothingThere, Rro, Srv6) => (10, 35),
+            (Number::SidNeeded, Ero, _) => (4, 4),
+            (Number::StructureTooLong, _, Srv6) => (10, 37),
+            (Number::TooManySegments, Ero, _) => (10, 3),
+            (Number::NotAgreed, _, Mpls) => (10, 11),
+            (Number::NotAgreed, _, Srv6) => (19, 19),
+            (Number::BadLabelValue, _, Mpls) => (10, 2),
+            (Number::BadLabelFormat, _, Mpls) => (10, 4),
             _ => return None,
         };
         Some(PcErr { error_type, error_value })
@@ -118,7 +134,7 @@ pub type Result<T> = core::result::Result<T, Refusal>;
 /// ```
 /// use strundevi::{read_open, Number, Refusal, Setup};
 /// assert_eq!(read_open(Setup::FIRST_TWO, &[]).unwrap_err().to_string(), "1: OPEN ill formed");
-/// assert_eq!(Refusal { number: Number::NaiUnknown, place: 28 }.to_string(), "8 at 28: NT not 0, 2, 4, 6");
+/// assert_eq!(Refusal { number: Number::NaiUnknown, place: 28 }.to_string(), "8 at 28: NT not one of the form's");
 /// ```
 impl fmt::Display for Refusal {
     fn fmt(&self, f: &mut fmt::Formatter<'_>) -> fmt::Result {

@@ -1,6 +1,7 @@
 //! The board of paths, with its store.
 
 use crate::answer::{answer, Counts, Result};
+use crate::form::Form;
 use crate::open::Session;
 use crate::raw;
 
@@ -36,7 +37,7 @@ const REMOVED: usize = 2;
 ///
 /// ```
 /// use std::collections::BTreeMap;
-/// use strundevi::{Board, Change, Session, PST_SRV6, STORE_OCTETS};
+/// use strundevi::{Board, Change, Form, Session, PST_SRV6, STORE_OCTETS};
 ///
 /// let session = Session { agreed: true, n: true, ..Session::default() };
 /// let route = [7, 16, 0, 28, 40, 24, 0, 2, 0, 0, 0, 1, 32, 1, 13, 184, 0, 0, 0, 1, 0, 0, 0, 0, 0, 0, 0, 1];
@@ -50,13 +51,13 @@ const REMOVED: usize = 2;
 /// loop {
 ///     let change = board.next(mark)?;
 ///     match change {
-///         Change::Path { key, body, .. } => drop(held.insert(key, body.to_vec())),
+///         Change::Path { key, form, body, .. } => drop(held.insert(key, (form, body.to_vec()))),
 ///         Change::Removed { key, .. } => drop(held.remove(&key)),
 ///         Change::Level { .. } => break,
 ///     }
 ///     mark = mark.after(&change);
 /// }
-/// assert_eq!(held, BTreeMap::from([(8, route[4..].to_vec())]));
+/// assert_eq!(held, BTreeMap::from([(8, (Form::Srv6, route[4..].to_vec()))]));
 /// # Ok::<(), strundevi::Refusal>(())
 /// ```
 #[derive(Clone, Debug, PartialEq, Eq)]
@@ -72,10 +73,17 @@ pub struct Mark {
     pub w: u64,
 }
 
+/// A path on the board: its form, and its octets, which are those of the ERO behind its header.
+#[derive(Clone, Copy, Debug, PartialEq, Eq)]
+pub struct Path<'a> {
+    pub form: Form,
+    pub body: &'a [u8],
+}
+
 /// What a follower is handed.
 #[derive(Clone, Copy, Debug, PartialEq, Eq)]
 pub enum Change<'a> {
-    Path { key: u32, version: u64, body: &'a [u8] },
+    Path { key: u32, version: u64, form: Form, body: &'a [u8] },
     Removed { key: u32, version: u64 },
     Level { version: u64 },
 }
@@ -86,7 +94,16 @@ impl<S: AsRef<[u8]> + AsMut<[u8]>> Board<S> {
     /// An old mark may fit a board that was started anew, and its follower would keep paths that are withdrawn: whoever starts a board anew
     /// sees to it that every follower empties itself and takes a fresh mark.
     pub fn new(store: S) -> Board<S> {
-        let mut record = raw::Record { keys: [0; PLACES], versions: [0; PLACES], lengths: [0; PLACES], version: 0, floor: 0, order: [0; PLACES], tops: [0; PLACES / 8] };
+        let mut record = raw::Record {
+            keys: [0; PLACES],
+            versions: [0; PLACES],
+            lengths: [0; PLACES],
+            version: 0,
+            floor: 0,
+            order: [0; PLACES],
+            tops: [0; PLACES / 8],
+            forms: [0; PLACES],
+        };
         raw::empty(&mut record);
         Board { record, store }
     }
@@ -116,8 +133,8 @@ impl<S: AsRef<[u8]> + AsMut<[u8]>> Board<S> {
         self.record.floor
     }
 
-    /// Reports a path: the number of its segments, and of those that are stray. Refused with 28, 17, 18, the route's numbers, 19, 20, 21. The addresses
-    /// are the head end's, as in `judge`.
+    /// Reports a path, whose form is that of its setup type: the number of its segments, and of those that are stray. Refused with 28, 17, 18, the route's
+    /// numbers, 19, 20, 21. The addresses are the head end's, as in `judge`.
     #[inline]
     pub fn report(&mut self, key: u32, ero: &[u8], session: &Session, pst: u64, addresses: &[u8]) -> Result<Counts> {
         raw::report(&mut self.record, self.store.as_mut(), key.into(), ero, session.raw(), pst, addresses).counts()
@@ -135,12 +152,12 @@ impl<S: AsRef<[u8]> + AsMut<[u8]>> Board<S> {
         raw::compact(&mut self.record, self.store.as_ref(), c).counts().map(|_| ())
     }
 
-    /// The octets of a key's path. Refused with 17, 18, 22.
+    /// A key's path. Refused with 17, 18, 22.
     #[inline]
-    pub fn body(&self, key: u32) -> Result<&[u8]> {
+    pub fn body(&self, key: u32) -> Result<Path<'_>> {
         let store = self.store.as_ref();
         let r = raw::body(&self.record, store, key.into());
-        answer(r.number, || &store[r.start..][..r.length])
+        answer(r.number, || Path { form: Form::of(r.form as u64), body: &store[r.start..][..r.length] })
     }
 
     /// What a follower with this mark is handed. Refused with 17, 24, 23.
@@ -149,7 +166,10 @@ impl<S: AsRef<[u8]> + AsMut<[u8]>> Board<S> {
         let store = self.store.as_ref();
         let r = raw::next(&self.record, store, mark.s, mark.w);
         answer(r.number, || match r.kind {
-            PATH => Change::Path { key: r.key as u32, version: r.version, body: &store[r.place * PLACE_OCTETS..][..r.length] },
+            PATH => {
+                let body = &store[r.place * PLACE_OCTETS..][..r.length];
+                Change::Path { key: r.key as u32, version: r.version, form: Form::of(r.form as u64), body }
+            }
             REMOVED => Change::Removed { key: r.key as u32, version: r.version },
             _ => Change::Level { version: r.version },
         })

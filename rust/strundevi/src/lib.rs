@@ -1,10 +1,10 @@
-//! Boxes beside a tram line: read OPEN objects, judge and write SRv6 routes, keep a board of paths that other boxes follow.
+//! Boxes beside a tram line: read OPEN objects, judge and write SRv6 and MPLS routes, keep a board of paths that other boxes follow.
 //!
 //! Every answer comes from the proved library; this crate lends it slices and turns its numbers into `Result`s. A refusal is a number and a
 //! place, and leaves everything as it was. Nothing is allocated, no call recurses, and none needs more than 2,048 octets of stack.
 //!
 //! ```
-//! use strundevi::{judge, read_open, Kind, Segment, Session, Setup, Writer, PST_SRV6};
+//! use strundevi::{judge, read_open, Form, Kind, Segment, Session, Setup, Writer, PST_SRV6};
 //!
 //! let open = [
 //!     0x01, 0x10, 0x00, 0x20, 0x20, 0x1E, 0x78, 0x07, 0x00, 0x22, 0x00, 0x12, 0x00, 0x00, 0x00, 0x01, //
@@ -15,7 +15,7 @@
 //! assert!(session.agreed && session.limit == Some(4));
 //!
 //! let mut buffer = [0; 64];
-//! let mut writer = Writer::begin(&mut buffer, Kind::Ero)?;
+//! let mut writer = Writer::begin(&mut buffer, Kind::Ero, Form::Srv6)?;
 //! writer.add(&Segment::with_sid([0x20; 16], 1))?;
 //! let route = writer.finish()?;
 //! assert_eq!(judge(route, Kind::Ero, &session, PST_SRV6, &[])?.segments, 1);
@@ -26,15 +26,23 @@
 
 mod answer;
 mod board;
+mod form;
+mod label;
+mod nai;
 mod open;
 pub mod raw;
 mod route;
+mod segment;
 mod writer;
 
 pub use answer::{Counts, Number, PcErr, Refusal, Result};
-pub use board::{Board, Change, Mark, KEY_MOST, PLACES, PLACE_OCTETS, STORE_OCTETS, VERSION_MOST};
-pub use open::{read_open, Open, Session, Setup};
-pub use route::{judge, segment, segments, step, Kind, Nai, Segment, Segments, Strays, FIRST_PLACE, PST_SRV6};
+pub use board::{Board, Change, Mark, Path, KEY_MOST, PLACES, PLACE_OCTETS, STORE_OCTETS, VERSION_MOST};
+pub use form::{Form, PST_MPLS, PST_SRV6};
+pub use label::{Label, MplsSid};
+pub use nai::Nai;
+pub use open::{read_open, Mpls, Open, OpenRefusal, OpenResult, Session, Setup};
+pub use route::{judge, segment, segments, step, Kind, Segments, FIRST_PLACE};
+pub use segment::{Segment, Strays};
 pub use writer::{Writer, OBJECT_MOST};
 
 /// The version of this crate, which is that of the header.

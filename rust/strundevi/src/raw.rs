@@ -37,6 +37,11 @@ pub struct Opened {
     pub v: u8,
     pub hasm: u8,
     pub m: u8,
+    pub mpls: u8,
+    pub mplsn: u8,
+    pub mplslimited: u8,
+    pub form: u8,
+    pub mplslimit: usize,
 }
 
 #[repr(C)]
@@ -51,7 +56,11 @@ pub struct Session {
     pub hasm: u8,
     pub m: u8,
     pub limited: u8,
-    pub limit: u32,
+    pub mpls: u8,
+    pub mplsn: u8,
+    pub mplslimited: u8,
+    pub limit: u16,
+    pub mplslimit: u16,
 }
 
 #[repr(C)]
@@ -66,12 +75,25 @@ pub struct Segment {
     pub nai: [u8; 40],
     pub structured: u8,
     pub structure: [u8; 4],
+    pub labelled: u8,
+    pub complete: u8,
 }
 
 impl Segment {
     /// The segment that says nothing.
-    pub const ZERO: Segment =
-        Segment { loose: 0, verify: 0, nt: 0, behaviour: 0, hassid: 0, sid: [0; 16], nai: [0; 40], structured: 0, structure: [0; 4] };
+    pub const ZERO: Segment = Segment {
+        loose: 0,
+        verify: 0,
+        nt: 0,
+        behaviour: 0,
+        hassid: 0,
+        sid: [0; 16],
+        nai: [0; 40],
+        structured: 0,
+        structure: [0; 4],
+        labelled: 0,
+        complete: 0,
+    };
 }
 
 #[repr(C)]
@@ -102,12 +124,15 @@ struct Outline {
     behaviour: u16,
     hassid: u8,
     structured: u8,
+    labelled: u8,
+    complete: u8,
 }
 
 #[repr(C)]
 #[derive(Clone, Copy)]
 pub struct Writer {
     pub ero: u8,
+    pub form: u8,
     pub at: usize,
 }
 
@@ -124,6 +149,7 @@ pub struct Part {
     pub number: usize,
     pub start: usize,
     pub length: usize,
+    pub form: usize,
 }
 
 #[repr(C)]
@@ -135,6 +161,7 @@ pub struct Next {
     pub version: u64,
     pub place: usize,
     pub length: usize,
+    pub form: usize,
 }
 
 #[repr(C)]
@@ -155,6 +182,7 @@ pub struct Record {
     pub floor: u64,
     pub order: [u8; PLACES],
     pub tops: [u64; PLACES / 8],
+    pub forms: [u8; PLACES],
 }
 
 type Keys = [u32; PLACES];
@@ -162,6 +190,7 @@ type Versions = [u64; PLACES];
 type Lengths = [u16; PLACES];
 type Order = [u8; PLACES];
 type Tops = [u64; PLACES / 8];
+type Forms = [u8; PLACES];
 
 extern "C" {
     fn strundevi_raw_read_open(setup: Setup, octets: *const u8, length: usize) -> Opened;
@@ -177,8 +206,8 @@ extern "C" {
         given: usize,
         i: u64,
     ) -> Picked;
-    fn strundevi_raw_step(octets: *const u8, length: usize, ero: u8, at: usize) -> Stepped;
-    fn strundevi_raw_begin(buffer: *mut u8, size: usize, writer: Writer, ero: u8) -> Written;
+    fn strundevi_raw_step(octets: *const u8, length: usize, ero: u8, pst: u64, at: usize) -> Stepped;
+    fn strundevi_raw_begin(buffer: *mut u8, size: usize, writer: Writer, ero: u8, pst: u64) -> Written;
     fn strundevi_raw_add(
         buffer: *mut u8,
         size: usize,
@@ -189,7 +218,16 @@ extern "C" {
         structure: *const [u8; 4],
     ) -> Written;
     fn strundevi_raw_finish(buffer: *mut u8, size: usize, writer: Writer) -> Written;
-    fn strundevi_raw_empty(keys: *mut Keys, versions: *mut Versions, lengths: *mut Lengths, version: *mut u64, floor: *mut u64, order: *mut Order, tops: *mut Tops);
+    fn strundevi_raw_empty(
+        keys: *mut Keys,
+        versions: *mut Versions,
+        lengths: *mut Lengths,
+        version: *mut u64,
+        floor: *mut u64,
+        order: *mut Order,
+        tops: *mut Tops,
+        forms: *mut Forms,
+    );
     fn strundevi_raw_report(
         keys: *mut Keys,
         versions: *mut Versions,
@@ -198,6 +236,7 @@ extern "C" {
         floor: *mut u64,
         order: *mut Order,
         tops: *mut Tops,
+        forms: *mut Forms,
         store: *mut u8,
         size: usize,
         key: u64,
@@ -216,6 +255,7 @@ extern "C" {
         floor: u64,
         order: *mut Order,
         tops: *mut Tops,
+        forms: *mut Forms,
         store: *const u8,
         size: usize,
         key: u64,
@@ -228,6 +268,7 @@ extern "C" {
         floor: *mut u64,
         order: *mut Order,
         tops: *mut Tops,
+        forms: *const Forms,
         store: *const u8,
         size: usize,
         c: u64,
@@ -240,6 +281,7 @@ extern "C" {
         floor: u64,
         order: *const Order,
         tops: *const Tops,
+        forms: *const Forms,
         store: *const u8,
         size: usize,
         key: u64,
@@ -252,6 +294,7 @@ extern "C" {
         floor: u64,
         order: *const Order,
         tops: *const Tops,
+        forms: *const Forms,
         store: *const u8,
         size: usize,
         s: u64,
@@ -265,6 +308,7 @@ extern "C" {
         floor: u64,
         order: *const Order,
         tops: *const Tops,
+        forms: *const Forms,
         store: *const u8,
         size: usize,
         from: u64,
@@ -295,19 +339,19 @@ pub fn segment(octets: &[u8], ero: u8, session: Session, pst: u64, addresses: &[
 }
 
 #[inline]
-pub fn step(octets: &[u8], ero: u8, at: usize) -> Stepped {
-    unsafe { strundevi_raw_step(octets.as_ptr(), octets.len(), ero, at) }
+pub fn step(octets: &[u8], ero: u8, pst: u64, at: usize) -> Stepped {
+    unsafe { strundevi_raw_step(octets.as_ptr(), octets.len(), ero, pst, at) }
 }
 
 #[inline]
-pub fn begin(buffer: &mut [u8], writer: Writer, ero: u8) -> Written {
-    unsafe { strundevi_raw_begin(buffer.as_mut_ptr(), buffer.len(), writer, ero) }
+pub fn begin(buffer: &mut [u8], writer: Writer, ero: u8, pst: u64) -> Written {
+    unsafe { strundevi_raw_begin(buffer.as_mut_ptr(), buffer.len(), writer, ero, pst) }
 }
 
 #[inline]
 pub fn add(buffer: &mut [u8], writer: Writer, segment: &Segment) -> Written {
-    let Segment { loose, verify, nt, behaviour, hassid, ref sid, ref nai, structured, ref structure } = *segment;
-    let outline = Outline { loose, verify, nt, behaviour, hassid, structured };
+    let Segment { loose, verify, nt, behaviour, hassid, ref sid, ref nai, structured, ref structure, labelled, complete } = *segment;
+    let outline = Outline { loose, verify, nt, behaviour, hassid, structured, labelled, complete };
     unsafe { strundevi_raw_add(buffer.as_mut_ptr(), buffer.len(), writer, outline, sid, nai, structure) }
 }
 
@@ -318,7 +362,7 @@ pub fn finish(buffer: &mut [u8], writer: Writer) -> Written {
 
 #[inline]
 pub fn empty(b: &mut Record) {
-    unsafe { strundevi_raw_empty(&mut b.keys, &mut b.versions, &mut b.lengths, &mut b.version, &mut b.floor, &mut b.order, &mut b.tops) }
+    unsafe { strundevi_raw_empty(&mut b.keys, &mut b.versions, &mut b.lengths, &mut b.version, &mut b.floor, &mut b.order, &mut b.tops, &mut b.forms) }
 }
 
 #[inline]
@@ -332,6 +376,7 @@ pub fn report(b: &mut Record, store: &mut [u8], key: u64, ero: &[u8], session: S
             &mut b.floor,
             &mut b.order,
             &mut b.tops,
+            &mut b.forms,
             store.as_mut_ptr(),
             store.len(),
             key,
@@ -347,27 +392,29 @@ pub fn report(b: &mut Record, store: &mut [u8], key: u64, ero: &[u8], session: S
 
 #[inline]
 pub fn remove(b: &mut Record, store: &[u8], key: u64) -> Verdict {
-    unsafe { strundevi_raw_remove(&b.keys, &mut b.versions, &mut b.lengths, &mut b.version, b.floor, &mut b.order, &mut b.tops, store.as_ptr(), store.len(), key) }
+    let (octets, size) = (store.as_ptr(), store.len());
+    unsafe { strundevi_raw_remove(&b.keys, &mut b.versions, &mut b.lengths, &mut b.version, b.floor, &mut b.order, &mut b.tops, &mut b.forms, octets, size, key) }
 }
 
 #[inline]
 pub fn compact(b: &mut Record, store: &[u8], c: u64) -> Verdict {
-    unsafe { strundevi_raw_compact(&mut b.keys, &mut b.versions, &b.lengths, b.version, &mut b.floor, &mut b.order, &mut b.tops, store.as_ptr(), store.len(), c) }
+    let (octets, size) = (store.as_ptr(), store.len());
+    unsafe { strundevi_raw_compact(&mut b.keys, &mut b.versions, &b.lengths, b.version, &mut b.floor, &mut b.order, &mut b.tops, &b.forms, octets, size, c) }
 }
 
 #[inline]
 pub fn body(b: &Record, store: &[u8], key: u64) -> Part {
-    unsafe { strundevi_raw_body(&b.keys, &b.versions, &b.lengths, b.version, b.floor, &b.order, &b.tops, store.as_ptr(), store.len(), key) }
+    unsafe { strundevi_raw_body(&b.keys, &b.versions, &b.lengths, b.version, b.floor, &b.order, &b.tops, &b.forms, store.as_ptr(), store.len(), key) }
 }
 
 #[inline]
 pub fn next(b: &Record, store: &[u8], s: u64, w: u64) -> Next {
-    unsafe { strundevi_raw_next(&b.keys, &b.versions, &b.lengths, b.version, b.floor, &b.order, &b.tops, store.as_ptr(), store.len(), s, w) }
+    unsafe { strundevi_raw_next(&b.keys, &b.versions, &b.lengths, b.version, b.floor, &b.order, &b.tops, &b.forms, store.as_ptr(), store.len(), s, w) }
 }
 
 #[inline]
 pub fn moved(b: &Record, store: &[u8], from: u64, to: u64, v: u64) -> Verdict {
-    unsafe { strundevi_raw_moved(&b.keys, &b.versions, &b.lengths, b.version, b.floor, &b.order, &b.tops, store.as_ptr(), store.len(), from, to, v) }
+    unsafe { strundevi_raw_moved(&b.keys, &b.versions, &b.lengths, b.version, b.floor, &b.order, &b.tops, &b.forms, store.as_ptr(), store.len(), from, to, v) }
 }
 
 #[inline]

@@ -1,8 +1,10 @@
 //! Writing a route: begun, given one segment at a time, finished, in a borrowed buffer.
 
 use crate::answer::Result;
+use crate::form::Form;
 use crate::raw;
-use crate::route::{Kind, Segment};
+use crate::route::Kind;
+use crate::segment::Segment;
 
 /// The most octets of an object that is written.
 pub const OBJECT_MOST: usize = 65_532;
@@ -12,26 +14,27 @@ pub const OBJECT_MOST: usize = 65_532;
 pub struct Writer<'a> {
     buffer: &'a mut [u8],
     kind: Kind,
+    form: Form,
     at: usize,
 }
 
 impl<'a> Writer<'a> {
-    /// Refused with 16 if the buffer has no 4 octets.
+    /// A route of this form. Refused with 16 if the buffer has no 4 octets.
     #[inline]
-    pub fn begin(buffer: &'a mut [u8], kind: Kind) -> Result<Writer<'a>> {
-        let r = raw::begin(buffer, raw::Writer { ero: kind.raw(), at: 0 }, kind.raw());
+    pub fn begin(buffer: &'a mut [u8], kind: Kind, form: Form) -> Result<Writer<'a>> {
+        let r = raw::begin(buffer, raw::Writer { ero: kind.raw(), form: 0, at: 0 }, kind.raw(), form.pst());
         r.verdict.counts()?;
-        Ok(Writer { buffer, kind: Kind::of(r.writer.ero), at: r.writer.at })
+        Ok(Writer { buffer, kind: Kind::of(r.writer.ero), form: Form::of(r.writer.form.into()), at: r.writer.at })
     }
 
     /// Goes on at a place of an object begun before. A place that cannot be one is refused by the calls that follow.
-    pub fn resume(buffer: &'a mut [u8], kind: Kind, at: usize) -> Writer<'a> {
-        Writer { buffer, kind, at }
+    pub fn resume(buffer: &'a mut [u8], kind: Kind, form: Form, at: usize) -> Writer<'a> {
+        Writer { buffer, kind, form, at }
     }
 
     #[inline]
     fn raw(&self) -> raw::Writer {
-        raw::Writer { ero: self.kind.raw(), at: self.at }
+        raw::Writer { ero: self.kind.raw(), form: self.form.pst() as u8, at: self.at }
     }
 
     #[inline]
@@ -40,7 +43,7 @@ impl<'a> Writer<'a> {
         r.verdict.counts().map(|_| ())
     }
 
-    /// Refused with 8, 9, 7, 11, 16.
+    /// Refused with 8, 9, 7, 11, 29, 30, 16.
     #[inline]
     pub fn add(&mut self, segment: &Segment) -> Result<()> {
         let r = raw::add(self.buffer, self.raw(), segment.raw());
@@ -57,6 +60,10 @@ impl<'a> Writer<'a> {
 
     pub fn kind(&self) -> Kind {
         self.kind
+    }
+
+    pub fn form(&self) -> Form {
+        self.form
     }
 
     /// Where the next segment goes.

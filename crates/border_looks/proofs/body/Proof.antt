@@ -13,16 +13,16 @@ body-number-requires c κs = search needs
 returns : tie.Need-returns
 returns c =
     let args = c .before .before .before .before .args in
-    part-none (withRows (tableOf (args .keys .now) (args .versions .now) (args .lengths .now) (args .version) (args .floor)) (args .order .now) (args .tops .now))
+    part-none (withRows (tableOf (args .keys .now) (args .versions .now) (args .lengths .now) (args .version) (args .floor) (args .forms .now)) (args .order .now) (args .tops .now))
     (args .store .now) (args .key) _ (c .before .before .body-number .ensures) (c .if1 .taken)
 
 place-of-requires : tie.Need-place-of-requires
 place-of-requires c κs = search needs
 
-mul-t13 : tie.Need-mul-t13
-mul-t13 c =
+mul-t14 : tie.Need-mul-t14
+mul-t14 c =
     let args = c .before .before .before .before .before .args in
-    let t = tableOf (args .keys .now) (args .versions .now) (args .lengths .now) (args .version) (args .floor) in
+    let t = tableOf (args .keys .now) (args .versions .now) (args .lengths .now) (args .version) (args .floor) (args .forms .now) in
     let taken = body-taken (withRows t (args .order .now) (args .tops .now)) (args .store .now) (args .key) _ (c .before .before .before .body-number .ensures) (c .before .if1 .left) in
     let h = body-here t (args .store .now) (args .key) _ (taken .1) (c .before .if1 .left) in
     omega (arith, c .place-of .ensures)
@@ -30,14 +30,17 @@ mul-t13 c =
 length-at-requires : tie.Need-length-at-requires
 length-at-requires c κs = search needs
 
+form-at-requires : tie.Need-form-at-requires
+form-at-requires c κs = search needs
+
 returns-2 : tie.Need-returns-2
 returns-2 c =
-    let args = c .before .before .before .before .before .before .args in
-    part-here (withRows (tableOf (args .keys .now) (args .versions .now) (args .lengths .now) (args .version) (args .floor)) (args .order .now) (args .tops .now))
-    (args .store .now) (args .key) _ _ _ (c .before .before .before .before .body-number .ensures)
-    (c .before .before .if1 .left) (c .before .place-of .ensures) (c .length-at .ensures)
+    let args = c .before .before .before .before .before .before .before .args in
+    part-here (withRows (tableOf (args .keys .now) (args .versions .now) (args .lengths .now) (args .version) (args .floor) (args .forms .now)) (args .order .now) (args .tops .now))
+    (args .store .now) (args .key) _ _ _ _ (c .before .before .before .before .before .body-number .ensures)
+    (c .before .before .before .if1 .left) (c .before .before .place-of .ensures) (c .before .length-at .ensures) (c .form-at .ensures)
 
 pub body-spec : {M : Type 1} → statement M
 body-spec =
     tie.close
-    (tie.spec body-number-requires returns place-of-requires mul-t13 length-at-requires returns-2)
+    (tie.spec body-number-requires returns place-of-requires mul-t14 length-at-requires form-at-requires returns-2)

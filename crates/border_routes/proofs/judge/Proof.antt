@@ -6,8 +6,8 @@ use Rattle.border_routes.proofs.judge.Tie as tie
 yes-requires : tie.Need-yes-requires
 yes-requires c κs = search needs
 
-session-in-requires : tie.Need-session-in-requires
-session-in-requires c κs = search needs
+sessions-in-requires : tie.Need-sessions-in-requires
+sessions-in-requires c κs = search needs
 
 judge-requires : tie.Need-judge-requires
 judge-requires c κs = search needs
@@ -20,7 +20,7 @@ returns c =
     let judged = c .before .before .before in
     let came = judged .before in
     let args = came .before .before .before .before .args in
-    judge-told (args .octets .now) (args .addresses .now) (args .ero) (args .session) _ _ (came .before .yes .ensures) (came .session-in .ensures) (args .pst) _ _
+    judge-told (args .octets .now) (args .addresses .now) (args .ero) (args .session) _ _ (came .before .yes .ensures) (came .sessions-in .ensures) (args .pst) _ _
     (judged .judge .ensures) (c .verdict-out .ensures)
 
 returns-2 : tie.Need-returns-2
@@ -28,7 +28,7 @@ returns-2 c =
     let judged = c .before .before in
     let came = judged .before in
     let args = came .before .before .before .before .args in
-    judge-counted (args .octets .now) (args .addresses .now) (args .ero) (args .session) _ _ (came .before .yes .ensures) (came .session-in .ensures) (args .pst) _
+    judge-counted (args .octets .now) (args .addresses .now) (args .ero) (args .session) _ _ (came .before .yes .ensures) (came .sessions-in .ensures) (args .pst) _
     (judged .judge .ensures) (c .if1 .left)
 
 pub judge-spec : {M : Type 1} → statement M
@@ -36,7 +36,7 @@ judge-spec =
     tie.close
     (tie.spec
     yes-requires
-    session-in-requires
+    sessions-in-requires
     judge-requires
     verdict-out-requires
     returns

@@ -16,7 +16,7 @@ returns : tie.Need-returns
 returns c =
     let came = c .before .before in
     let args = came .before .before .args in
-    step-told (args .octets .now) (args .ero) (args .at) _ _ _ (came .yes .ensures) (c .before .step .ensures) (c .stepped-out .ensures)
+    step-told (args .octets .now) (args .ero) (args .pst) (args .at) _ _ _ (came .yes .ensures) (c .before .step .ensures) (c .stepped-out .ensures)
 
 pub step-spec : {M : Type 1} → statement M
 step-spec = tie.close (tie.spec yes-requires step-requires stepped-out-requires returns)

@@ -29,7 +29,7 @@ returns c =
     let b = args .buffer .now in
     let kind = isYes (args .ero) in
     let f = rw (c .before .before .before .before .yes .ensures) at e in
-    by-writer (λ (w : Writer). beginAnswer b w kind) (λ (w : Writer). beginBuffer b w kind) _ _ _ _ (args .writer)
+    by-writer (λ (w : Writer). beginAnswer b w kind (args .pst)) (λ (w : Writer). beginBuffer b w kind) _ _ _ _ (args .writer)
     (came .writer-in .ensures) (f .0) (f .1) (c .written-out .ensures)
 
 pub begin-spec : {M : Type 1} → statement M

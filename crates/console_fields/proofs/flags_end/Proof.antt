@@ -23,31 +23,28 @@ depth-field-requires c κs = search needs
 depth-field-requires-2 : tie.Need-depth-field-requires-2
 depth-field-requires-2 c κs = search needs
 
-slice-aggregate-push : tie.Need-slice-aggregate-push
-slice-aggregate-push c = search needs
-
-push-requires : tie.Need-push-requires
-push-requires c κs = search needs
+mpls-end-requires : tie.Need-mpls-end-requires
+mpls-end-requires c κs = search needs
 
 same-length : tie.Need-same-length
 same-length c = search needs
 
 returns : tie.Need-returns
 returns c =
-    let before7 = c .before .before .before .before .before .before .before in
-    let before11 = before7 .before .before .before .before in
-    let before15 = before11 .before .before .before .before in
-    let before20 = before15 .before .before .before .before .before in (
-      (then (rw (before20 .before .bit .ensures) at (before20 .field .ensures .0))
-          (then (rw (before15 .before .bit2 .ensures) at (before15 .field2 .ensures .0))
-          (then (before11 .depth-field .ensures .0) (then (before7 .depth-field2 .ensures .0) (c .before .before .push .ensures))))),
+    let before6 = c .before .before .before .before .before .before in
+    let before10 = before6 .before .before .before .before in
+    let before14 = before10 .before .before .before .before in
+    let before19 = before14 .before .before .before .before .before in (
+      (then (rw (before19 .before .bit .ensures) at (before19 .field .ensures .0))
+          (then (rw (before14 .before .bit2 .ensures) at (before14 .field2 .ensures .0))
+          (then (before10 .depth-field .ensures .0) (then (before6 .depth-field2 .ensures .0) (c .before .before .mpls-end .ensures .0))))),
       omega (
         arith,
-        before20 .field .ensures .1,
-        before15 .field2 .ensures .1,
-        before11 .depth-field .ensures .1,
-        before7 .depth-field2 .ensures .1,
-        c .before .before .push .ensures .ends,
+        before19 .field .ensures .1,
+        before14 .field2 .ensures .1,
+        before10 .depth-field .ensures .1,
+        before6 .depth-field2 .ensures .1,
+        c .before .before .mpls-end .ensures .1,
       ),
     )
 
@@ -61,7 +58,6 @@ flags-end-spec =
     field-requires-2
     depth-field-requires
     depth-field-requires-2
-    slice-aggregate-push
-    push-requires
+    mpls-end-requires
     same-length
     returns)

@@ -4,8 +4,8 @@ use borrow.Author.Needs.{needs}
 use Rattle.console_fields.proofs.opened.Statement.{statement}
 use Rattle.console_fields.proofs.opened.Tie as tie
 
-refusal-requires : tie.Need-refusal-requires
-refusal-requires c κs = search needs
+open-refusal-requires : tie.Need-open-refusal-requires
+open-refusal-requires c κs = search needs
 
 same-length : tie.Need-same-length
 same-length c = search needs
@@ -14,7 +14,7 @@ returns : tie.Need-returns
 returns c = (
   rw
       (ne-eqb (c .before .before .before .before .before .before .before .args .o .number) 0
-      (c .before .before .before .before .if1 .taken)) (c .before .before .refusal .ensures .0),
+      (c .before .before .before .before .if1 .taken)) (c .before .before .open-refusal .ensures .0),
   omega arith,
 )
 
@@ -35,4 +35,4 @@ returns-2 c = (
 pub opened-spec : {M : Type 1} → statement M
 opened-spec =
     tie.close
-    (tie.spec refusal-requires same-length returns carried-requires same-length-2 returns-2)
+    (tie.spec open-refusal-requires same-length returns carried-requires same-length-2 returns-2)

@@ -36,7 +36,29 @@ field-requires-4 : tie.Need-field-requires-4
 field-requires-4 c κs = search needs
 
 sid-field-requires : tie.Need-sid-field-requires
-sid-field-requires c κs = search needs
+sid-field-requires c κs =
+    let before4 = c .before .before .before .before in
+    let before9 = before4 .before .before .before .before .before in
+    let before14 = before9 .before .before .before .before .before in
+    let before19 = before14 .before .before .before .before .before in
+    let before24 = before19 .before .before .before .before .before in
+    let pre = before24 .before .before .before .before .pre in (
+      omega (
+        arith,
+        before24 .push .ensures .ends,
+        before24 .push .ensures .room,
+        before19 .field .ensures .1,
+        before19 .field .ensures .0 .room,
+        before14 .field2 .ensures .1,
+        before14 .field2 .ensures .0 .room,
+        before9 .field3 .ensures .1,
+        before9 .field3 .ensures .0 .room,
+        before4 .field4 .ensures .1,
+        before4 .field4 .ensures .0 .room,
+        pre .0,
+      ),
+      pre .1 .sid,
+    )
 
 cast-nai-field : tie.Need-cast-nai-field
 cast-nai-field c = search needs
@@ -47,22 +69,24 @@ nai-field-requires c κs =
     let before15 = before10 .before .before .before .before .before in
     let before20 = before15 .before .before .before .before .before in
     let before25 = before20 .before .before .before .before .before in
-    let before30 = before25 .before .before .before .before .before in
-    omega (
-      arith,
-      before30 .push .ensures .ends,
-      before30 .push .ensures .room,
-      before25 .field .ensures .1,
-      before25 .field .ensures .0 .room,
-      before20 .field2 .ensures .1,
-      before20 .field2 .ensures .0 .room,
-      before15 .field3 .ensures .1,
-      before15 .field3 .ensures .0 .room,
-      before10 .field4 .ensures .1,
-      before10 .field4 .ensures .0 .room,
-      c .before .before .before .before .before .sid-field .ensures .1,
-      c .before .before .before .before .before .sid-field .ensures .0 .room,
-      before30 .before .before .before .before .pre,
+    let before30 = before25 .before .before .before .before .before in (
+      omega (
+        arith,
+        before30 .push .ensures .ends,
+        before30 .push .ensures .room,
+        before25 .field .ensures .1,
+        before25 .field .ensures .0 .room,
+        before20 .field2 .ensures .1,
+        before20 .field2 .ensures .0 .room,
+        before15 .field3 .ensures .1,
+        before15 .field3 .ensures .0 .room,
+        before10 .field4 .ensures .1,
+        before10 .field4 .ensures .0 .room,
+        c .before .before .before .before .before .sid-field .ensures .1,
+        c .before .before .before .before .before .sid-field .ensures .0 .room,
+        before30 .before .before .before .before .pre .0,
+      ),
+      before30 .before .before .before .before .pre .1,
     )
 
 structure-field-requires : tie.Need-structure-field-requires
@@ -89,11 +113,11 @@ structure-field-requires c κs =
       before10 .sid-field .ensures .0 .room,
       c .before .before .before .before .nai-field .ensures .1,
       c .before .before .before .before .nai-field .ensures .0 .room,
-      before35 .before .before .before .before .pre,
+      before35 .before .before .before .before .pre .0,
     )
 
-strays-end-requires : tie.Need-strays-end-requires
-strays-end-requires c κs =
+labels-end-requires : tie.Need-labels-end-requires
+labels-end-requires c κs =
     let before8 = c .before .before .before .before .before .before .before .before in
     let before14 = before8 .before .before .before .before .before .before in
     let before19 = before14 .before .before .before .before .before in
@@ -119,7 +143,7 @@ strays-end-requires c κs =
       before8 .nai-field .ensures .0 .room,
       c .before .before .before .structure-field .ensures .1,
       c .before .before .before .structure-field .ensures .0 .room,
-      before39 .before .before .before .before .pre,
+      before39 .before .before .before .before .pre .0,
     )
 
 same-length : tie.Need-same-length
@@ -149,8 +173,8 @@ same-length c =
       before11 .nai-field .ensures .0 .room,
       before6 .structure-field .ensures .1,
       before6 .structure-field .ensures .0 .room,
-      c .before .before .strays-end .ensures .1,
-      c .before .before .strays-end .ensures .0 .room,
+      c .before .before .labels-end .ensures .1,
+      c .before .before .labels-end .ensures .0 .room,
     )
 
 returns : tie.Need-returns
@@ -170,7 +194,7 @@ returns c =
           (then (before22 .field4 .ensures .0)
           (then (before17 .sid-field .ensures .0)
           (then (before11 .nai-field .ensures .0)
-          (then (before6 .structure-field .ensures .0) (c .before .before .strays-end .ensures .0))))))))),
+          (then (before6 .structure-field .ensures .0) (c .before .before .labels-end .ensures .0))))))))),
       omega (
         arith,
         push-ensures .ends,
@@ -189,8 +213,8 @@ returns c =
         before11 .nai-field .ensures .0 .room,
         before6 .structure-field .ensures .1,
         before6 .structure-field .ensures .0 .room,
-        c .before .before .strays-end .ensures .1,
-        c .before .before .strays-end .ensures .0 .room,
+        c .before .before .labels-end .ensures .1,
+        c .before .before .labels-end .ensures .0 .room,
       ),
     )
 
@@ -212,6 +236,6 @@ segment-spec =
     cast-nai-field
     nai-field-requires
     structure-field-requires
-    strays-end-requires
+    labels-end-requires
     same-length
     returns)

@@ -16,6 +16,9 @@ field-requires c κs = search needs
 field-requires-2 : tie.Need-field-requires-2
 field-requires-2 c κs = search needs
 
+field-requires-3 : tie.Need-field-requires-3
+field-requires-3 c κs = search needs
+
 octets-field-requires : tie.Need-octets-field-requires
 octets-field-requires c κs = search needs
 
@@ -31,12 +34,14 @@ same-length c = search needs
 returns : tie.Need-returns
 returns c =
     let before11 = c .before .before .before .before .before .before .before .before .before .before .before in
-    let push-ensures = before11 .before .before .before .before .before .before .before .before .push .ensures in (
+    let before15 = before11 .before .before .before .before in
+    let push-ensures = before15 .before .before .before .before .before .before .before .before .push .ensures in (
       (then push-ensures
-          (then (before11 .before .before .before .before .field .ensures .0)
-          (then (before11 .field2 .ensures .0)
+          (then (before15 .before .before .before .before .field .ensures .0)
+          (then (before15 .field2 .ensures .0)
+          (then (before11 .field3 .ensures .0)
           (then (c .before .before .before .before .before .before .before .octets-field .ensures .0)
-          (c .before .before .push2 .ensures))))),
+          (c .before .before .push2 .ensures)))))),
       omega (arith, push-ensures .ends, c .before .before .push2 .ensures .ends),
     )
 
@@ -48,6 +53,7 @@ path-spec =
     push-requires
     field-requires
     field-requires-2
+    field-requires-3
     octets-field-requires
     slice-aggregate-push-2
     push-requires-2

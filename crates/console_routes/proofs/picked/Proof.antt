@@ -1,6 +1,7 @@
 use Rattle.console_routes.specs.Routing.{pickedLine, segmentAnswer}
 use Rattle.console_routes.proofs.Laws.{picked-told}
 use Rattle.console_state.proofs.Laws.{spelled, told-refused, told-accepted}
+use Rattle.forms.specs.Forms.{formOf}
 use Rattle.console_fields.specs.Shown.{segmentLine}
 use borrow.Author.Needs.{needs}
 use Rattle.console_routes.proofs.picked.Statement.{statement}
@@ -36,12 +37,12 @@ returns c =
     let told = c .before .before .before .before .before .before .before in
     let p = told .segment .result in
     let a = told .before .before .before .before .before .before .before .before .before .before .before .args in
-    let e = picked-told (a .ero) (a .session) (a .c .one) (a .c .two) (spelled _ _ (told .before .before .before .before .before .octets-at .ensures .0)) (told .before .before .listed .ensures)
+    let e = picked-told (a .ero) (a .both) (a .c .one) (a .c .two) (spelled _ _ (told .before .before .before .before .before .octets-at .ensures .0)) (told .before .before .listed .ensures)
     (told .segment .ensures) in
-    rw (← e) (told-refused (p .verdict) (segmentLine (p .segment) (p .strays)) (c .before .before .before .before .if1 .taken) (c .before .before .refusal .ensures .0))
+    rw (← e) (told-refused (p .verdict) (segmentLine (formOf (a .c .one)) (p .segment) (p .strays)) (c .before .before .before .before .if1 .taken) (c .before .before .refusal .ensures .0))
 
-segment-requires-2 : tie.Need-segment-requires-2
-segment-requires-2 c κs = c .before .before .before .before .before .before .before .before .before .before .before .before .before .before .before .before .before .pre .1
+shown-requires : tie.Need-shown-requires
+shown-requires c κs = c .before .before .before .before .before .before .before .before .before .before .before .before .before .before .before .before .before .pre .1
 
 same-length-3 : tie.Need-same-length-3
 same-length-3 c = search needs
@@ -55,9 +56,9 @@ returns-2 c =
     let told = c .before .before .before .before .before .before .before .before .before in
     let p = told .segment .result in
     let a = told .before .before .before .before .before .before .before .before .before .before .before .args in
-    let e = picked-told (a .ero) (a .session) (a .c .one) (a .c .two) (spelled _ _ (told .before .before .before .before .before .octets-at .ensures .0)) (told .before .before .listed .ensures)
+    let e = picked-told (a .ero) (a .both) (a .c .one) (a .c .two) (spelled _ _ (told .before .before .before .before .before .octets-at .ensures .0)) (told .before .before .listed .ensures)
     (told .segment .ensures) in
-    rw (← e) (told-accepted (p .verdict) (segmentLine (p .segment) (p .strays)) (c .before .before .before .before .before .before .if1 .left) (c .before .before .segment2 .ensures .0))
+    rw (← e) (told-accepted (p .verdict) (segmentLine (formOf (a .c .one)) (p .segment) (p .strays)) (c .before .before .before .before .before .before .if1 .left) (c .before .before .shown .ensures))
 
 pub picked-spec : {M : Type 1} → statement M
 picked-spec =
@@ -72,7 +73,7 @@ picked-spec =
     same-length
     same-length-2
     returns
-    segment-requires-2
+    shown-requires
     same-length-3
     same-length-4
     returns-2)

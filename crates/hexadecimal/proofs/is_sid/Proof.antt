@@ -6,14 +6,8 @@ use Rattle.hexadecimal.proofs.is_sid.Tie as tie
 is-octets-requires : tie.Need-is-octets-requires
 is-octets-requires c κs = search needs
 
-is-none-requires : tie.Need-is-none-requires
-is-none-requires c κs = search needs
-
 octets-in-requires : tie.Need-octets-in-requires
 octets-in-requires c κs = search needs
-
-either-requires : tie.Need-either-requires
-either-requires c κs = search needs
 
 both-requires : tie.Need-both-requires
 both-requires c κs = search needs
@@ -23,12 +17,4 @@ unfolding isSid
 returns c = cc
 
 pub is-sid-spec : {M : Type 1} → statement M
-is-sid-spec =
-    tie.close
-    (tie.spec
-    is-octets-requires
-    is-none-requires
-    octets-in-requires
-    either-requires
-    both-requires
-    returns)
+is-sid-spec = tie.close (tie.spec is-octets-requires octets-in-requires both-requires returns)

@@ -1,3 +1,4 @@
+use Rattle.session.specs.Sessions.{sessionUnder}
 use Rattle.route_call.proofs.Laws.{picked-28, picked-under}
 use Rattle.subobject.specs.declared.segment.Segment.{Segment}
 use Rattle.subobject.specs.declared.strays.Strays.{Strays}
@@ -29,8 +30,11 @@ no-strays-requires c κs = search needs
 returns : tie.Need-returns
 returns c =
     let args = c .before .before .before .before .before .before .before .args in
-    picked-28 (args .s .now) (args .ero) (args .session) (args .pst) (args .addresses .now) (args .i) (c .before .before .before .before .usable .ensures)
+    picked-28 (args .s .now) (args .ero) (sessionUnder (args .both) (args .pst)) (args .pst) (args .addresses .now) (args .i) (c .before .before .before .before .usable .ensures)
     (not-true _ (c .before .before .before .if1 .taken)) (put (c .before .before .refused .ensures) (c .before .no-segment .ensures) (c .no-strays .ensures))
+
+under-requires : tie.Need-under-requires
+under-requires c κs = search needs
 
 session-for-requires : tie.Need-session-for-requires
 session-for-requires c κs = search needs
@@ -40,9 +44,9 @@ segment-requires c κs = search needs
 
 returns-2 : tie.Need-returns-2
 returns-2 c =
-    let args = c .before .before .before .before .before .before .args in
-    picked-under (args .s .now) (args .ero) (args .session) (args .pst) (args .addresses .now) (args .i) (c .before .before .before .usable .ensures)
-    (not-false _ (c .before .before .if1 .left)) (c .before .session-for .ensures) (c .segment .ensures)
+    let args = c .before .before .before .before .before .before .before .args in
+    picked-under (args .s .now) (args .ero) (sessionUnder (args .both) (args .pst)) (args .pst) (args .addresses .now) (args .i) (c .before .before .before .before .usable .ensures)
+    (not-false _ (c .before .before .before .if1 .left)) (c .before .before .under .ensures) (c .before .session-for .ensures) (c .segment .ensures)
 
 pub segment-spec : {M : Type 1} → statement M
 segment-spec =
@@ -53,6 +57,7 @@ segment-spec =
     no-segment-requires
     no-strays-requires
     returns
+    under-requires
     session-for-requires
     segment-requires
     returns-2)

@@ -19,14 +19,8 @@ returns c =
 octet-requires-2 : tie.Need-octet-requires-2
 octet-requires-2 c κs = search needs
 
-add-at : tie.Need-add-at
-add-at c = search needs
-
-pick-requires : tie.Need-pick-requires
-pick-requires c κs = search needs
-
-add-at-2 : tie.Need-add-at-2
-add-at-2 c = search needs
+local-place-requires : tie.Need-local-place-requires
+local-place-requires c κs = search needs
 
 add-if2 : tie.Need-add-if2
 add-if2 c = search needs
@@ -36,7 +30,7 @@ returns-2 c =
     let before5 = c .before .before .before .before .before in
     let args = before5 .before .before .before .args in
     own-short (args .s .now) (args .addresses .now) _ (before5 .octet .ensures .0) _ (c .before .before .octet2 .ensures .0) _
-    (c .before .pick .ensures .0) (c .if2 .taken)
+    (c .before .local-place .ensures .0) (c .if2 .taken)
 
 add-has : tie.Need-add-has
 add-has c = search needs
@@ -58,7 +52,7 @@ returns-3 c =
     let before7 = c .before .before .before .before .before .before .before in
     let args = before7 .before .before .before .args in
     own-told (args .s .now) (args .addresses .now) _ (before7 .octet .ensures .0) _ (c .before .before .before .before .octet2 .ensures .0) _
-    (c .before .before .before .pick .ensures .0) (c .before .before .before .before .before .before .adjacency .ensures)
+    (c .before .before .before .local-place .ensures .0) (c .before .before .before .before .before .before .adjacency .ensures)
     (not-false _ (c .before .before .before .before .before .if1 .left)) (rw lent-part at (c .has .ensures))
 
 pub own-adjacency-spec : {M : Type 1} → statement M
@@ -69,9 +63,7 @@ own-adjacency-spec =
     adjacency-requires
     returns
     octet-requires-2
-    add-at
-    pick-requires
-    add-at-2
+    local-place-requires
     add-if2
     returns-2
     add-has

@@ -25,8 +25,9 @@ fn check(octets: &[u8]) -> Result<Counts, Refusal> {
     let at = Setup { a: 0, r: 1 };
     let pcc = read_open(at, pcc);
     let pce = read_open(at, pce);
-    pcc?;
-    pce?;
+    for answer in [pcc, pce] {
+        answer.map_err(|fault| Refusal { number: fault.number, place: 0 })?;
+    }
     judge(ero, Kind::Ero, &Session::agree(&pcc, &pce), 3, &[])
 }
 

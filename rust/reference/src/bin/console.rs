@@ -1,7 +1,8 @@
 //! The console over the reference: one command to a line of standard input, one line of answer for each.
 
 use reference::{
-    judge, read_open, segment, Answer, Board, Change, Counts, Kind, Open, Refusal, Segment, Session, Setup, Strays, Writer, PLACE_OCTETS, STORE_OCTETS,
+    judge, read_open, segment, Board, Change, Counts, Fault, Form, Kind, Open, OpenAnswer, Refusal, Segment, Session, Setup, Strays, Writer, PLACE_OCTETS,
+    STORE_OCTETS,
 };
 use std::fmt::Write as _;
 use std::io::{self, Read, Write};
@@ -11,8 +12,8 @@ const SIZE_MOST: u64 = 65_536;
 const LENT: u8 = 0xEE;
 
 struct Console {
-    pcc: Answer<Open>,
-    pce: Answer<Open>,
+    pcc: OpenAnswer,
+    pce: OpenAnswer,
     board: Board,
     store: Vec<u8>,
     writer: Writer,
@@ -66,21 +67,18 @@ fn show(octets: &[u8]) -> String {
     text
 }
 
-fn show_segment(s: &Segment) -> String {
-    let sid = if s.has_sid { show(&s.sid) } else { "-".to_string() };
-    let nai = match s.nt {
-        2 => &s.nai[..16],
-        4 => &s.nai[..32],
-        6 => &s.nai[..40],
-        _ => &[],
-    };
+/// SID and NAI have the octets that they have in the form.
+fn show_segment(s: &Segment, form: Form) -> String {
+    let sid = if s.has_sid { show(&s.sid[..form.sid_size()]) } else { "-".to_string() };
+    let nai = &s.nai[..form.nai_size(s.nt).unwrap_or(0)];
     let structure = if s.structured {
         let [a, b, c, d] = s.structure;
         format!("{a},{b},{c},{d}")
     } else {
         "-".to_string()
     };
-    format!(" {} {} {} {} {} {} {}", s.loose as u8, s.verify as u8, s.nt, s.behaviour, sid, show(nai), structure)
+    let (m, c) = (s.labelled as u8, s.complete as u8);
+    format!(" {} {} {} {} {sid} {} {structure} {m} {c}", s.loose as u8, s.verify as u8, s.nt, s.behaviour, show(nai))
 }
 
 fn show_strays(x: &Strays) -> String {
@@ -94,7 +92,9 @@ fn show_counts(counts: &Counts) -> String {
 fn show_open(open: &Open) -> String {
     let or_none = |n: Option<usize>| n.map_or("-".to_string(), |n| n.to_string());
     let (v, m) = (or_none(open.v.map(usize::from)), or_none(open.m.map(usize::from)));
-    format!(" {} {} {} {} {} {v} {m}", open.srv6 as u8, open.n as u8, or_none(open.limit), open.a as u8, open.r as u8)
+    let srv6 = format!(" {} {} {} {} {} {v} {m}", open.srv6 as u8, open.n as u8, or_none(open.limit), open.a as u8, open.r as u8);
+    let mpls = open.mpls.unwrap_or_default();
+    srv6 + &format!(" {} {} {}", open.mpls.is_some() as u8, mpls.n as u8, or_none(mpls.limit))
 }
 
 fn kind(word: &str) -> Option<Kind> {
@@ -107,13 +107,13 @@ fn kind(word: &str) -> Option<Kind> {
 
 impl Console {
     fn new() -> Console {
-        let refused = Err(Refusal { number: 1, place: 0 });
+        let refused = Err(Fault { number: 1, form: 0 });
         Console {
             pcc: refused,
             pce: refused,
             board: Board::default(),
             store: vec![0; STORE_OCTETS],
-            writer: Writer { kind: Kind::Ero, at: 0 },
+            writer: Writer { kind: Kind::Ero, form: Form::Srv6.pst(), at: 0 },
             buffer: Vec::new(),
             positions: Setup { a: 0, r: 1 },
             addresses: Vec::new(),
@@ -124,10 +124,11 @@ impl Console {
         Session::agree(&self.pcc, &self.pce)
     }
 
-    /// The answer to a line in form: what follows `0 0`, or the refusal. None for a line out of form.
-    fn answer(&mut self, line: &str) -> Option<Answer<String>> {
+    /// The answer to a line in form: what follows `0 0`, or the refusal's line. None for a line out of form.
+    fn answer(&mut self, line: &str) -> Option<Result<String, String>> {
         let words: Vec<&str> = line.split(' ').collect();
-        Some(match words[..] {
+        let open = |answer: OpenAnswer| answer.map(|o| show_open(&o)).map_err(|fault| format!("{} 0 {}", fault.number, fault.form));
+        let answer = match words[..] {
             ["positions", a, r] => {
                 self.positions = Setup { a: number(a)?, r: number(r)? };
                 Ok(String::new())
@@ -138,33 +139,34 @@ impl Console {
             }
             ["pcc", given] => {
                 self.pcc = read_open(self.positions, &octets(given)?);
-                self.pcc.map(|o| show_open(&o))
+                return Some(open(self.pcc));
             }
             ["pce", given] => {
                 self.pce = read_open(self.positions, &octets(given)?);
-                self.pce.map(|o| show_open(&o))
+                return Some(open(self.pce));
             }
             [name @ ("ero" | "rro"), pst, given] => {
                 judge(&octets(given)?, kind(name)?, &self.session(), number(pst)?, &self.addresses).map(|counts| show_counts(&counts))
             }
             [name @ ("ero-segment" | "rro-segment"), pst, i, given] => {
-                segment(&octets(given)?, kind(&name[..3])?, &self.session(), number(pst)?, &self.addresses, number(i)?)
-                    .map(|(s, x)| show_segment(&s) + &show_strays(&x))
+                let pst = number(pst)?;
+                segment(&octets(given)?, kind(&name[..3])?, &self.session(), pst, &self.addresses, number(i)?)
+                    .map(|(s, x)| show_segment(&s, Form::of(pst)) + &show_strays(&x))
             }
-            ["begin", name, size] => {
-                let kind = kind(name)?;
+            ["begin", name, pst, size] => {
+                let (kind, pst) = (kind(name)?, number(pst)?);
                 let mut buffer = vec![LENT; number_to(size, SIZE_MOST)? as usize];
-                Writer::begin(&mut buffer, kind).map(|writer| {
+                Writer::begin(&mut buffer, kind, pst).map(|writer| {
                     self.writer = writer;
                     self.buffer = buffer;
                     format!(" {}", writer.at)
                 })
             }
-            ["add", l, v, nt, behaviour, sid, nai, bits] => {
+            ["add", l, v, nt, behaviour, sid, nai, bits, m, c] => {
                 let sid = octets(sid)?;
                 let nai = octets(nai)?;
                 let bits = structure(bits)?;
-                if nai.len() > 40 || !(sid.is_empty() || sid.len() == 16) {
+                if nai.len() > 40 || sid.len() > 16 {
                     return None;
                 }
                 let mut given = Segment {
@@ -175,6 +177,8 @@ impl Console {
                     has_sid: !sid.is_empty(),
                     structured: bits.is_some(),
                     structure: bits.unwrap_or_default(),
+                    labelled: number_to(m, 1)? == 1,
+                    complete: number_to(c, 1)? == 1,
                     ..Segment::default()
                 };
                 given.sid[..sid.len()].copy_from_slice(&sid);
@@ -196,11 +200,11 @@ impl Console {
             }
             ["remove", key] => self.board.remove(&self.store, number(key)?).map(|()| String::new()),
             ["compact", c] => self.board.compact(&self.store, number(c)?).map(|()| String::new()),
-            ["body", key] => self.board.body(&self.store, number(key)?).map(|octets| format!(" {}", show(octets))),
+            ["body", key] => self.board.body(&self.store, number(key)?).map(|(form, octets)| format!(" {form} {}", show(octets))),
             ["next", s, w] => self.board.next(&self.store, number(s)?, number(w)?).map(|change| match change {
-                Change::Path { key, version, place, length } => {
+                Change::Path { key, version, form, place, length } => {
                     let start = place * PLACE_OCTETS;
-                    format!(" path {key} {version} {}", show(&self.store[start..start + length]))
+                    format!(" path {key} {version} {form} {}", show(&self.store[start..start + length]))
                 }
                 Change::Removed { key, version } => format!(" removed {key} {version}"),
                 Change::Level { version } => format!(" level {version}"),
@@ -217,7 +221,8 @@ impl Console {
                 Ok(format!(" {}", if places.is_empty() { "-".to_string() } else { places.join(",") }))
             }
             _ => return None,
-        })
+        };
+        Some(answer.map_err(|refusal: Refusal| format!("{} {}", refusal.number, refusal.place)))
     }
 }
 
@@ -233,7 +238,7 @@ fn main() -> io::Result<()> {
         let in_form = if line.len() > LINE_MOST { None } else { std::str::from_utf8(line).ok() };
         match in_form.and_then(|line| console.answer(line)) {
             Some(Ok(content)) => writeln!(out, "0 0{content}")?,
-            Some(Err(refusal)) => writeln!(out, "{} {}", refusal.number, refusal.place)?,
+            Some(Err(refusal)) => writeln!(out, "{refusal}")?,
             None => writeln!(out, "bad line {}", i + 1)?,
         }
     }

@@ -21,7 +21,7 @@ part-result-end c = search needs
 returns : tie.Need-returns
 returns c =
     let args = c .before .before .before .before .before .args in
-    let t = tableOf (args .keys .now) (args .versions .now) (args .lengths .now) (args .version) (args .floor) in
+    let t = tableOf (args .keys .now) (args .versions .now) (args .lengths .now) (args .version) (args .floor) (args .forms .now) in
     body-none-on (withRows t (args .order .now) (args .tops .now)) (args .store .now) (args .key) _ (c .before .before .before .body-number .ensures) (c .before .if1 .taken)
 
 place-of-requires : tie.Need-place-of-requires
@@ -30,7 +30,7 @@ place-of-requires c κs = search needs
 start-of-requires : tie.Need-start-of-requires
 start-of-requires c κs =
     let args = c .before .before .before .before .before .args in
-    let t = tableOf (args .keys .now) (args .versions .now) (args .lengths .now) (args .version) (args .floor) in
+    let t = tableOf (args .keys .now) (args .versions .now) (args .lengths .now) (args .version) (args .floor) (args .forms .now) in
     let taken = body-taken (withRows t (args .order .now) (args .tops .now)) (args .store .now) (args .key) _ (c .before .before .before .body-number .ensures) (c .before .if1 .left) in
     let h = body-here t (args .store .now) (args .key) _ (taken .1) (c .before .if1 .left) in
     omega (arith, c .place-of .ensures)
@@ -41,7 +41,7 @@ length-at-requires c κs = search needs
 add-to : tie.Need-add-to
 add-to c =
     let args = c .before .before .before .before .before .before .before .args in
-    let t = tableOf (args .keys .now) (args .versions .now) (args .lengths .now) (args .version) (args .floor) in
+    let t = tableOf (args .keys .now) (args .versions .now) (args .lengths .now) (args .version) (args .floor) (args .forms .now) in
     let taken = body-taken (withRows t (args .order .now) (args .tops .now)) (args .store .now) (args .key) _
     (c .before .before .before .before .before .body-number .ensures) (c .before .before .before .if1 .left) in
     let h = body-room t (args .store .now) (args .key) _ _ _ (taken .1) (c .before .before .before .if1 .left)
@@ -57,7 +57,7 @@ part-result-start-2 c = search needs
 part-result-end-2 : tie.Need-part-result-end-2
 part-result-end-2 c =
     let args = c .before .before .before .before .before .before .before .args in
-    let t = tableOf (args .keys .now) (args .versions .now) (args .lengths .now) (args .version) (args .floor) in
+    let t = tableOf (args .keys .now) (args .versions .now) (args .lengths .now) (args .version) (args .floor) (args .forms .now) in
     let taken = body-taken (withRows t (args .order .now) (args .tops .now)) (args .store .now) (args .key) _
     (c .before .before .before .before .before .body-number .ensures) (c .before .before .before .if1 .left) in
     let h = body-room t (args .store .now) (args .key) _ _ _ (taken .1) (c .before .before .before .if1 .left)
@@ -68,7 +68,7 @@ returns-2 : tie.Need-returns-2
 returns-2 c =
     let before4 = c .before .before .before .before in
     let args = before4 .before .before .before .before .args in
-    let t = tableOf (args .keys .now) (args .versions .now) (args .lengths .now) (args .version) (args .floor) in
+    let t = tableOf (args .keys .now) (args .versions .now) (args .lengths .now) (args .version) (args .floor) (args .forms .now) in
     let taken = body-taken (withRows t (args .order .now) (args .tops .now)) (args .store .now) (args .key) _
     (before4 .before .before .body-number .ensures) (before4 .if1 .left) in
     body-on (withRows t (args .order .now) (args .tops .now)) (args .store .now) (args .key) _ (taken .0)

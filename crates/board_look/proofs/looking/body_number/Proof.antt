@@ -17,7 +17,7 @@ refused-requires c κs = search needs
 returns : tie.Need-returns
 returns c =
     let args = c .before .before .before .before .args in
-    let t = tableOf (args .keys .now) (args .versions .now) (args .lengths .now) (args .version) (args .floor) in
+    let t = tableOf (args .keys .now) (args .versions .now) (args .lengths .now) (args .version) (args .floor) (args .forms .now) in
     number-not (withRows t (args .order .now) (args .tops .now)) (args .store .now) (args .key) _ _ _ (c .before .before .is-board .ensures) (c .before .if1 .taken)
     (c .refused .ensures) (λ h. number-not-board t (args .store .now) (args .key) false _ (sym h) refl (c .refused .ensures))
 
@@ -33,7 +33,7 @@ body-rules-requires c κs = search needs
 returns-2 : tie.Need-returns-2
 returns-2 c =
     let args = c .before .before .before .before .before .before .args in
-    let t = tableOf (args .keys .now) (args .versions .now) (args .lengths .now) (args .version) (args .floor) in
+    let t = tableOf (args .keys .now) (args .versions .now) (args .lengths .now) (args .version) (args .floor) (args .forms .now) in
     let b = withRows t (args .order .now) (args .tops .now) in
     let h = record-is b _ _ (c .before .before .before .before .is-board .ensures) (c .before .before .before .if1 .left) in
     number-on b (args .store .now) (args .key) _ (h .1)

@@ -16,7 +16,7 @@ refused-requires c κs = search needs
 returns : tie.Need-returns
 returns c =
     let args = c .before .before .before .before .args in
-    let t = tableOf (args .keys .now) (args .versions .now) (args .lengths .now) (args .version) (args .floor) in
+    let t = tableOf (args .keys .now) (args .versions .now) (args .lengths .now) (args .version) (args .floor) (args .forms .now) in
     let b = withRows t (args .order .now) (args .tops .now) in
     moved-not b (args .store .now) (args .from) (args .to) (args .v) _ _ _ (c .before .before .is-board .ensures) (c .before .if1 .taken) (c .refused .ensures)
     (λ e. moved-is-17 t (args .store .now) (args .from) (args .to) (args .v) _ e (c .refused .ensures))
@@ -27,7 +27,7 @@ moved-rules-requires c κs = search needs
 returns-2 : tie.Need-returns-2
 returns-2 c =
     let args = c .before .before .before .before .before .before .args in
-    let t = tableOf (args .keys .now) (args .versions .now) (args .lengths .now) (args .version) (args .floor) in
+    let t = tableOf (args .keys .now) (args .versions .now) (args .lengths .now) (args .version) (args .floor) (args .forms .now) in
     let b = withRows t (args .order .now) (args .tops .now) in
     let h = record-is b _ _ (c .before .before .before .before .is-board .ensures)
     (c .before .before .before .if1 .left) in
@@ -38,7 +38,7 @@ returns-2 c =
 any-moved-requires : tie.Need-any-moved-requires
 any-moved-requires c κs =
     let args = c .before .before .before .before .before .before .args in
-    let t = tableOf (args .keys .now) (args .versions .now) (args .lengths .now) (args .version) (args .floor) in
+    let t = tableOf (args .keys .now) (args .versions .now) (args .lengths .now) (args .version) (args .floor) (args .forms .now) in
     let b = withRows t (args .order .now) (args .tops .now) in
     let h = record-is b _ _ (c .before .before .before .before .is-board .ensures) (c .before .before .before .if1 .left) in
     tidy-tops b (h .1)
@@ -50,7 +50,7 @@ returns-3 : tie.Need-returns-3
 returns-3 c =
     let before5 = c .before .before .before .before .before in
     let args = before5 .before .before .before .before .args in
-    let t = tableOf (args .keys .now) (args .versions .now) (args .lengths .now) (args .version) (args .floor) in
+    let t = tableOf (args .keys .now) (args .versions .now) (args .lengths .now) (args .version) (args .floor) (args .forms .now) in
     let b = withRows t (args .order .now) (args .tops .now) in
     let h = record-is b _ _ (before5 .before .before .is-board .ensures) (before5 .before .if1 .left) in
     moved-on b (args .store .now) (args .from) (args .to) (args .v) _ (h .1)
@@ -65,7 +65,7 @@ returns-4 : tie.Need-returns-4
 returns-4 c =
     let before5 = c .before .before .before .before .before in
     let args = before5 .before .before .before .before .args in
-    let t = tableOf (args .keys .now) (args .versions .now) (args .lengths .now) (args .version) (args .floor) in
+    let t = tableOf (args .keys .now) (args .versions .now) (args .lengths .now) (args .version) (args .floor) (args .forms .now) in
     let b = withRows t (args .order .now) (args .tops .now) in
     let h = record-is b _ _ (before5 .before .before .is-board .ensures) (before5 .before .if1 .left) in
     moved-on b (args .store .now) (args .from) (args .to) (args .v) _ (h .1)

@@ -21,7 +21,7 @@ found-in-requires c κs = search needs
 shift-requires : tie.Need-shift-requires
 shift-requires c κs =
     let s = c .before .before .before .before .before .before .before .before .before in
-    let t = tableOf (s .args .keys .now) (s .args .versions .now) (s .args .lengths .now) (s .args .top) (s .args .floor) in
+    let t = tableOf (s .args .keys .now) (s .args .versions .now) (s .args .lengths .now) (s .args .top) (s .args .floor) (s .args .forms .now) in
     let spot =
     new-spot t (s .args .order .now) (s .args .at) (s .pre .3) (s .pre .4) (s .pre .5) _ _ (c .before .before .before .before .used-in .ensures)
     (c .before .before .found-in .ensures) (c .before .if1 .taken)
@@ -34,7 +34,7 @@ same-length c = search needs
 returns : tie.Need-returns
 returns c =
     let s = c .before .before .before .before .before .before .before .before .before .before .before .before in
-    let t = tableOf (s .args .keys .now) (s .args .versions .now) (s .args .lengths .now) (s .args .top) (s .args .floor) in
+    let t = tableOf (s .args .keys .now) (s .args .versions .now) (s .args .lengths .now) (s .args .top) (s .args .floor) (s .args .forms .now) in
     let spot =
     new-spot t (s .args .order .now) (s .args .at) (s .pre .3) (s .pre .4) (s .pre .5) _ _ (c .before .before .before .before .before .before .before .used-in .ensures)
     (c .before .before .before .before .before .found-in .ensures) (c .before .before .before .before .if1 .taken)
@@ -48,7 +48,7 @@ sub-shift c = search needs
 sub-shift-2 : tie.Need-sub-shift-2
 sub-shift-2 c =
     let s = c .before .before .before .before .before .before .before .before .before in
-    let t = tableOf (s .args .keys .now) (s .args .versions .now) (s .args .lengths .now) (s .args .top) (s .args .floor) in
+    let t = tableOf (s .args .keys .now) (s .args .versions .now) (s .args .lengths .now) (s .args .top) (s .args .floor) (s .args .forms .now) in
     let spot =
     old-spot t (s .args .order .now) (s .args .at) (s .pre .3) (s .pre .4) (s .pre .5) _ _ (c .before .before .before .before .used-in .ensures)
     (c .before .before .found-in .ensures) (c .before .if1 .left)
@@ -58,7 +58,7 @@ sub-shift-2 c =
 shift-requires-2 : tie.Need-shift-requires-2
 shift-requires-2 c κs =
     let s = c .before .before .before .before .before .before .before .before .before in
-    let t = tableOf (s .args .keys .now) (s .args .versions .now) (s .args .lengths .now) (s .args .top) (s .args .floor) in
+    let t = tableOf (s .args .keys .now) (s .args .versions .now) (s .args .lengths .now) (s .args .top) (s .args .floor) (s .args .forms .now) in
     let spot =
     old-spot t (s .args .order .now) (s .args .at) (s .pre .3) (s .pre .4) (s .pre .5) _ _ (c .before .before .before .before .used-in .ensures)
     (c .before .before .found-in .ensures) (c .before .if1 .left)
@@ -71,7 +71,7 @@ same-length-2 c = search needs
 returns-2 : tie.Need-returns-2
 returns-2 c =
     let s = c .before .before .before .before .before .before .before .before .before .before .before .before in
-    let t = tableOf (s .args .keys .now) (s .args .versions .now) (s .args .lengths .now) (s .args .top) (s .args .floor) in
+    let t = tableOf (s .args .keys .now) (s .args .versions .now) (s .args .lengths .now) (s .args .top) (s .args .floor) (s .args .forms .now) in
     let spot =
     old-spot t (s .args .order .now) (s .args .at) (s .pre .3) (s .pre .4) (s .pre .5) _ _ (c .before .before .before .before .before .before .before .used-in .ensures)
     (c .before .before .before .before .before .found-in .ensures) (c .before .before .before .before .if1 .left)

@@ -19,23 +19,23 @@ use Rattle.board_proper.proofs.pass.is_proper.Statement.{statement}
 use Rattle.board_proper.proofs.pass.is_proper.Tie as tie
 
 abbrev Inv-loop : tie.InvT-loop
-Inv-loop keys versions lengths top floor order tops heads₀ nexts₀ seen₀ last₀ i₀ heads nexts seen last i =
-    (i ≤ places) × Along (tableOf keys versions lengths top floor) order i last × Hashed (along keys order) heads nexts i × Topped versions order seen i
+Inv-loop keys versions lengths top floor order tops forms heads₀ nexts₀ seen₀ last₀ i₀ heads nexts seen last i =
+    (i ≤ places) × Along (tableOf keys versions lengths top floor forms) order i last × Hashed (along keys order) heads nexts i × Topped versions order seen i
 
 abbrev μ-loop : tie.MeasureT-loop
-μ-loop keys versions lengths top floor order tops heads₀ nexts₀ seen₀ last₀ i₀ heads nexts seen last i = places - i
+μ-loop keys versions lengths top floor order tops forms heads₀ nexts₀ seen₀ last₀ i₀ heads nexts seen last i = places - i
 
 returns : tie.Need-returns Inv-loop μ-loop
 returns c =
     let args = c .before .args in
-    let t = tableOf (args .keys .now) (args .versions .now) (args .lengths .now) (args .top) (args .floor) in
+    let t = tableOf (args .keys .now) (args .versions .now) (args .lengths .now) (args .top) (args .floor) (args .forms .now) in
     no-tops t (args .order .now) (args .tops .now)
     (stop-floor t (args .order .now) (c .if1 .taken))
 
 returns-2 : tie.Need-returns-2 Inv-loop μ-loop
 returns-2 c =
     let args = c .before .before .args in
-    let t = tableOf (args .keys .now) (args .versions .now) (args .lengths .now) (args .top) (args .floor) in
+    let t = tableOf (args .keys .now) (args .versions .now) (args .lengths .now) (args .top) (args .floor) (args .forms .now) in
     no-tops t (args .order .now) (args .tops .now)
     (stop-version t (args .order .now) (c .if2 .taken))
 
@@ -48,7 +48,7 @@ element-copy-out-n c = omega arith
 returns-3 : tie.Need-returns-3 Inv-loop μ-loop
 returns-3 c =
     let args = c .before .before .before .before .before .before .before .args in
-    let t = tableOf (args .keys .now) (args .versions .now) (args .lengths .now) (args .top) (args .floor) in
+    let t = tableOf (args .keys .now) (args .versions .now) (args .lengths .now) (args .top) (args .floor) (args .forms .now) in
     no-tops t (args .order .now) (args .tops .now)
     (stop-top t (args .order .now) _ _ (c .before .before .before .before .loop .inv .0) (c .before .before .before .before .loop .inv .1) (c .if4 .taken))
 
@@ -62,7 +62,7 @@ returns-4 : tie.Need-returns-4 Inv-loop μ-loop
 returns-4 c =
     let before5 = c .before .before .before .before .before in
     let args = before5 .before .before .before .before .args in
-    let t = tableOf (args .keys .now) (args .versions .now) (args .lengths .now) (args .top) (args .floor) in
+    let t = tableOf (args .keys .now) (args .versions .now) (args .lengths .now) (args .top) (args .floor) (args .forms .now) in
     no-tops t (args .order .now) (args .tops .now)
     (stop-count t (args .order .now) _ _ (before5 .before .loop .inv .0) (before5 .before .loop .inv .1)
     (c .before .before .before .if3 .taken) (before5 .loop-test .taken) _ (c .before .empties .ensures) (c .if5 .taken))
@@ -75,7 +75,7 @@ returns-5 c =
     let before7 = c .before .before .before .before .before .before .before in
     let loop-inv = before7 .before .loop .inv in
     let args = before7 .before .before .before .before .args in
-    let t = tableOf (args .keys .now) (args .versions .now) (args .lengths .now) (args .top) (args .floor) in
+    let t = tableOf (args .keys .now) (args .versions .now) (args .lengths .now) (args .top) (args .floor) (args .forms .now) in
     no-tops t (args .order .now) (args .tops .now)
     (sym (not-true (c .before .clear .result) (c .if6 .taken))
     ∙ end-short t (args .order .now) _ _ (loop-inv .0) (loop-inv .1) _ _ (c .before .before .before .empties .ensures) (c .before .before .if5 .left)
@@ -91,7 +91,7 @@ returns-6 c =
     let before9 = c .before .before .before .before .before .before .before .before .before in
     let loop-inv = before9 .before .loop .inv in
     let args = before9 .before .before .before .before .args in
-    let t = tableOf (args .keys .now) (args .versions .now) (args .lengths .now) (args .top) (args .floor) in
+    let t = tableOf (args .keys .now) (args .versions .now) (args .lengths .now) (args .top) (args .floor) (args .forms .now) in
     let clean = not-false (clear .result) (c .before .before .if6 .left) in
     end-tops t (args .order .now) _ (args .tops .now) _ _ (loop-inv .0) (loop-inv .3) (loop-inv .1 .risen)
     (clear-at t (args .order .now) _ _ (loop-inv .0) (loop-inv .1) (sym (clear .ensures) ∙ clean)) _
@@ -107,7 +107,7 @@ place-in-requires c κs = search needs
 returns-7 : tie.Need-returns-7 Inv-loop μ-loop
 returns-7 c =
     let args = c .before .before .before .before .before .before .before .before .args in
-    let t = tableOf (args .keys .now) (args .versions .now) (args .lengths .now) (args .top) (args .floor) in
+    let t = tableOf (args .keys .now) (args .versions .now) (args .lengths .now) (args .top) (args .floor) (args .forms .now) in
     no-tops t (args .order .now) (args .tops .now)
     (stop-number t (args .order .now) _ _ _ (c .before .before .before .before .loop-test .taken) refl (c .before .before .if3 .left) (c .before .place-in .ensures) (c .if7 .taken))
 
@@ -121,7 +121,7 @@ returns-8 : tie.Need-returns-8 Inv-loop μ-loop
 returns-8 c =
     let before6 = c .before .before .before .before .before .before in
     let args = before6 .before .before .before .before .args in
-    let t = tableOf (args .keys .now) (args .versions .now) (args .lengths .now) (args .top) (args .floor) in
+    let t = tableOf (args .keys .now) (args .versions .now) (args .lengths .now) (args .top) (args .floor) (args .forms .now) in
     no-tops t (args .order .now) (args .tops .now)
     (stop-rising t (args .order .now) _ _ _ _ (before6 .loop-test .taken) (before6 .before .loop .inv .1)
     (c .before .before .before .place-in .ensures) (c .before .before .if7 .left) refl (c .if8 .taken))
@@ -138,17 +138,20 @@ mul-used-ok c = omega (arith, c .before .before .before .if7 .left)
 element-copy-out-used-ok : tie.Need-element-copy-out-used-ok Inv-loop μ-loop
 element-copy-out-used-ok c = omega (arith, c .before .before .before .if7 .left)
 
+element-copy-out-used-ok-2 : tie.Need-element-copy-out-used-ok-2 Inv-loop μ-loop
+element-copy-out-used-ok-2 c = omega (arith, c .before .before .before .before .if7 .left)
+
 used-ok-requires : tie.Need-used-ok-requires Inv-loop μ-loop
 used-ok-requires c κs = search needs
 
 returns-9 : tie.Need-returns-9 Inv-loop μ-loop
 returns-9 c =
-    let before6 = c .before .before .before .before .before .before in
-    let args = before6 .before .before .before .before .before .before .before .before .args in
-    let t = tableOf (args .keys .now) (args .versions .now) (args .lengths .now) (args .top) (args .floor) in
+    let before7 = c .before .before .before .before .before .before .before in
+    let args = before7 .before .before .before .before .before .before .before .before .args in
+    let t = tableOf (args .keys .now) (args .versions .now) (args .lengths .now) (args .top) (args .floor) (args .forms .now) in
     no-tops t (args .order .now) (args .tops .now)
-    (stop-place t (args .order .now) _ _ _ (before6 .before .before .before .before .loop-test .taken)
-    (before6 .before .place-in .ensures) (before6 .if7 .left) (c .before .used-ok .ensures) (c .if9 .taken))
+    (stop-place t (args .order .now) _ _ _ (before7 .before .before .before .before .loop-test .taken)
+    (before7 .before .place-in .ensures) (before7 .if7 .left) (c .before .used-ok .ensures) (c .if9 .taken))
 
 wide32-requires : tie.Need-wide32-requires Inv-loop μ-loop
 wide32-requires c κs = search needs
@@ -164,41 +167,41 @@ wide-requires c κs = search needs
 
 fresh-requires : tie.Need-fresh-requires Inv-loop μ-loop
 fresh-requires c κs =
-    let before11 = c .before .before .before .before .before .before .before .before .before .before .before in
-    let before14 = before11 .before .before .before in
-    let loop-inv = before14 .before .loop .inv in
-    let args = before14 .before .before .before .before .args in
-    let t = tableOf (args .keys .now) (args .versions .now) (args .lengths .now) (args .top) (args .floor) in
-    let e = key-along t (args .order .now) _ _ (before14 .loop-test .taken) (before11 .place-in .ensures) in
-    let u = used-along t (args .order .now) _ _ _ (before14 .loop-test .taken) (before11 .place-in .ensures)
+    let before12 = c .before .before .before .before .before .before .before .before .before .before .before .before in
+    let before15 = before12 .before .before .before in
+    let loop-inv = before15 .before .loop .inv in
+    let args = before15 .before .before .before .before .args in
+    let t = tableOf (args .keys .now) (args .versions .now) (args .lengths .now) (args .top) (args .floor) (args .forms .now) in
+    let e = key-along t (args .order .now) _ _ (before15 .loop-test .taken) (before12 .place-in .ensures) in
+    let u = used-along t (args .order .now) _ _ _ (before15 .loop-test .taken) (before12 .place-in .ensures)
     (c .before .before .before .before .before .used-ok .ensures) (c .before .before .before .before .if9 .left) in
     let xs = along (args .keys .now) (args .order .now) in (
       loop-inv .0,
       loop-inv .1 .risen .low,
       loop-inv .2 .links,
-      subst (λ (k : ℕ). Walking xs (before14 .before .loop .i) k (c .wide .result)) (sym e)
+      subst (λ (k : ℕ). Walking xs (before15 .before .loop .i) k (c .wide .result)) (sym e)
           (hashed-walk xs _ _ _ _ _ _ (loop-inv .2) u (c .before .before .before .wide32 .ensures ∙ e)
           (c .before .before .slot .ensures .0) (c .wide .ensures .0)),
     )
 
 returns-10 : tie.Need-returns-10 Inv-loop μ-loop
 returns-10 c =
-    let before12 = c .before .before .before .before .before .before .before .before .before .before .before .before in
-    let args = before12 .before .before .before .before .before .before .before .before .args in
-    let t = tableOf (args .keys .now) (args .versions .now) (args .lengths .now) (args .top) (args .floor) in
+    let before13 = c .before .before .before .before .before .before .before .before .before .before .before .before .before in
+    let args = before13 .before .before .before .before .before .before .before .before .args in
+    let t = tableOf (args .keys .now) (args .versions .now) (args .lengths .now) (args .top) (args .floor) (args .forms .now) in
     no-tops t (args .order .now) (args .tops .now)
-    (stop-key t (args .order .now) _ _ _ _ (before12 .before .before .before .before .loop-test .taken)
-    (before12 .before .before .before .before .before .loop .inv .1) (before12 .before .place-in .ensures)
-    (before12 .if7 .left) (c .before .fresh .ensures) (c .if10 .taken))
+    (stop-key t (args .order .now) _ _ _ _ (before13 .before .before .before .before .loop-test .taken)
+    (before13 .before .before .before .before .before .loop .inv .1) (before13 .before .place-in .ensures)
+    (before13 .if7 .left) (c .before .fresh .ensures) (c .if10 .taken))
 
 array-write-nexts : tie.Need-array-write-nexts Inv-loop μ-loop
-array-write-nexts c = omega (arith, c .before .before .before .before .before .before .before .before .before .before .before .before .before .before .before .before .loop-test .taken)
+array-write-nexts c = omega (arith, c .before .before .before .before .before .before .before .before .before .before .before .before .before .before .before .before .before .loop-test .taken)
 
 add-heads : tie.Need-add-heads Inv-loop μ-loop
-add-heads c = omega (arith, c .before .before .before .before .before .before .before .before .before .before .before .before .before .before .before .before .loop-test .taken)
+add-heads c = omega (arith, c .before .before .before .before .before .before .before .before .before .before .before .before .before .before .before .before .before .loop-test .taken)
 
 cast-heads : tie.Need-cast-heads Inv-loop μ-loop
-cast-heads c = omega (arith, c .before .before .before .before .before .before .before .before .before .before .before .before .before .before .before .before .loop-test .taken)
+cast-heads c = omega (arith, c .before .before .before .before .before .before .before .before .before .before .before .before .before .before .before .before .before .loop-test .taken)
 
 array-write-heads : tie.Need-array-write-heads Inv-loop μ-loop
 array-write-heads c = omega (arith, c .before .before .before .before .slot .ensures .1)
@@ -207,41 +210,41 @@ mul-seen : tie.Need-mul-seen Inv-loop μ-loop
 mul-seen c = search needs
 
 array-write-seen : tie.Need-array-write-seen Inv-loop μ-loop
-array-write-seen c = omega (arith, c .before .before .before .before .before .before .before .before .before .before .before .before .if7 .left)
+array-write-seen c = omega (arith, c .before .before .before .before .before .before .before .before .before .before .before .before .before .if7 .left)
 
 add-i : tie.Need-add-i Inv-loop μ-loop
-add-i c = omega (arith, c .before .before .before .before .before .before .before .before .before .before .before .before .before .before .before .before .loop-test .taken)
+add-i c = omega (arith, c .before .before .before .before .before .before .before .before .before .before .before .before .before .before .before .before .before .loop-test .taken)
 
 loop-less : tie.Need-loop-less Inv-loop μ-loop
-loop-less c = omega (arith, c .before .before .before .before .before .before .before .before .before .before .before .before .before .before .before .before .loop-test .taken)
+loop-less c = omega (arith, c .before .before .before .before .before .before .before .before .before .before .before .before .before .before .before .before .before .loop-test .taken)
 
 loop-again : tie.Need-loop-again Inv-loop μ-loop
 loop-again c =
     let before4 = c .before .before .before .before in
     let before6 = before4 .before .before in
-    let before12 = before6 .before .before .before .before .before .before in
-    let before16 = before12 .before .before .before .before in
-    let args = before16 .before .before .before .before .args in
-    let t = tableOf (args .keys .now) (args .versions .now) (args .lengths .now) (args .top) (args .floor) in
-    let e = key-along t (args .order .now) _ _ (before16 .loop-test .taken) (before12 .before .place-in .ensures) in
-    let u = used-along t (args .order .now) _ _ _ (before16 .loop-test .taken) (before12 .before .place-in .ensures)
+    let before13 = before6 .before .before .before .before .before .before .before in
+    let before17 = before13 .before .before .before .before in
+    let args = before17 .before .before .before .before .args in
+    let t = tableOf (args .keys .now) (args .versions .now) (args .lengths .now) (args .top) (args .floor) (args .forms .now) in
+    let e = key-along t (args .order .now) _ _ (before17 .loop-test .taken) (before13 .before .place-in .ensures) in
+    let u = used-along t (args .order .now) _ _ _ (before17 .loop-test .taken) (before13 .before .place-in .ensures)
     (before6 .before .used-ok .ensures) (before6 .if9 .left) in
     let xs = along (args .keys .now) (args .order .now) in (
-      omega (arith, before16 .loop-test .taken),
-      along-more t (args .order .now) _ _ _ _ _ (before16 .before .loop .inv .1) (before12 .before .place-in .ensures)
-          (before12 .if7 .left) refl (before6 .before .before .before .before .if8 .left)
+      omega (arith, before17 .loop-test .taken),
+      along-more t (args .order .now) _ _ _ _ _ (before17 .before .loop .inv .1) (before13 .before .place-in .ensures)
+          (before13 .if7 .left) refl (before6 .before .before .before .before .before .if8 .left)
           (before6 .before .used-ok .ensures) (before6 .if9 .left),
-      hashed-more xs _ _ _ _ _ _ (before16 .before .loop .inv .2) (before16 .loop-test .taken) u
+      hashed-more xs _ _ _ _ _ _ (before17 .before .loop .inv .2) (before17 .loop-test .taken) u
           (before4 .before .wide32 .ensures ∙ e) (before4 .slot .ensures .0) (before4 .slot .ensures .1)
-          (c .before .fresh .ensures ∙ ap (freshB xs (before16 .before .loop .i)) e) (c .if10 .left),
-      topped-more (t .versions) (args .order .now) _ _ _ _ _ (before16 .before .loop .inv .3) (before16 .before .loop .inv .1 .risen)
-          (before12 .before .place-in .ensures) (before12 .if7 .left) refl (before6 .before .before .before .before .if8 .left),
+          (c .before .fresh .ensures ∙ ap (freshB xs (before17 .before .loop .i)) e) (c .if10 .left),
+      topped-more (t .versions) (args .order .now) _ _ _ _ _ (before17 .before .loop .inv .3) (before17 .before .loop .inv .1 .risen)
+          (before13 .before .place-in .ensures) (before13 .if7 .left) refl (before6 .before .before .before .before .before .if8 .left),
     )
 
 returns-11 : tie.Need-returns-11 Inv-loop μ-loop
 returns-11 c =
     let args = c .before .before .before .before .before .args in
-    let t = tableOf (args .keys .now) (args .versions .now) (args .lengths .now) (args .top) (args .floor) in
+    let t = tableOf (args .keys .now) (args .versions .now) (args .lengths .now) (args .top) (args .floor) (args .forms .now) in
     no-tops t (args .order .now) (args .tops .now)
     (stop-top t (args .order .now) _ _ (c .before .before .loop .inv .0) (c .before .before .loop .inv .1) (c .if11 .taken))
 
@@ -253,7 +256,7 @@ returns-12 c =
     let before4 = c .before .before .before .before in
     let loop-inv = before4 .loop .inv in
     let args = before4 .before .before .before .args in
-    let t = tableOf (args .keys .now) (args .versions .now) (args .lengths .now) (args .top) (args .floor) in
+    let t = tableOf (args .keys .now) (args .versions .now) (args .lengths .now) (args .top) (args .floor) (args .forms .now) in
     end-tops t (args .order .now) _ (args .tops .now) _ _ (loop-inv .0) (loop-inv .3) (loop-inv .1 .risen)
     (λ j h k. absurd (omega (arith, c .before .before .before .loop-test .left))) _
     (end-full t (args .order .now) _ _ (loop-inv .0) (loop-inv .1) (c .before .before .before .loop-test .left) (loop-inv .2 .fine)
@@ -286,6 +289,7 @@ is-proper-spec =
     element-copy-out-k
     mul-used-ok
     element-copy-out-used-ok
+    element-copy-out-used-ok-2
     used-ok-requires
     returns-9
     wide32-requires

@@ -11,10 +11,10 @@ use Rattle.board_proper.proofs.rest.empties.Statement.{statement}
 use Rattle.board_proper.proofs.rest.empties.Tie as tie
 
 abbrev Inv-loop : tie.InvT-loop
-Inv-loop keys versions lengths none₀ i₀ none i = (i ≤ places) × (none ≡ countBelow (emptyB keys versions lengths) i)
+Inv-loop keys versions lengths forms none₀ i₀ none i = (i ≤ places) × (none ≡ countBelow (emptyB keys versions lengths forms) i)
 
 abbrev μ-loop : tie.MeasureT-loop
-μ-loop keys versions lengths none₀ i₀ none i = places - i
+μ-loop keys versions lengths forms none₀ i₀ none i = places - i
 
 loop-holds : tie.Need-loop-holds Inv-loop μ-loop
 loop-holds c = (omega arith, count-none _)
@@ -37,19 +37,22 @@ mul-empty-one-3 c = omega arith
 element-copy-out-empty-one-3 : tie.Need-element-copy-out-empty-one-3 Inv-loop μ-loop
 element-copy-out-empty-one-3 c = omega arith
 
+element-copy-out-empty-one-4 : tie.Need-element-copy-out-empty-one-4 Inv-loop μ-loop
+element-copy-out-empty-one-4 c = omega arith
+
 empty-one-requires : tie.Need-empty-one-requires Inv-loop μ-loop
 empty-one-requires c κs = search needs
 
 add-none : tie.Need-add-none Inv-loop μ-loop
 add-none c =
-    let before5 = c .before .before .before .before .before in
-    let args = before5 .before .args in
+    let before6 = c .before .before .before .before .before .before in
+    let args = before6 .before .args in
     omega (
       arith,
-      before5 .loop .inv .1,
-      before5 .loop .inv .0,
-      count-most (emptyB (args .keys .now) (args .versions .now) (args .lengths .now)) (before5 .loop .i),
-      one-most (args .keys .now) (args .versions .now) (args .lengths .now) (before5 .loop .i) _
+      before6 .loop .inv .1,
+      before6 .loop .inv .0,
+      count-most (emptyB (args .keys .now) (args .versions .now) (args .lengths .now) (args .forms .now)) (before6 .loop .i),
+      one-most (args .keys .now) (args .versions .now) (args .lengths .now) (args .forms .now) (before6 .loop .i) _
           (c .empty-one .ensures),
     )
 
@@ -61,10 +64,10 @@ loop-less c = omega arith
 
 loop-again : tie.Need-loop-again Inv-loop μ-loop
 loop-again c =
-    let args = c .before .before .before .before .before .before .args in (
-      omega (arith, c .before .before .before .before .loop-test .taken),
-      count-more (args .keys .now) (args .versions .now) (args .lengths .now) _ _ _
-          (c .before .before .before .before .before .loop .inv .1) (c .empty-one .ensures),
+    let args = c .before .before .before .before .before .before .before .args in (
+      omega (arith, c .before .before .before .before .before .loop-test .taken),
+      count-more (args .keys .now) (args .versions .now) (args .lengths .now) (args .forms .now) _ _ _
+          (c .before .before .before .before .before .before .loop .inv .1) (c .empty-one .ensures),
     )
 
 returns : tie.Need-returns Inv-loop μ-loop
@@ -83,6 +86,7 @@ empties-spec =
     element-copy-out-empty-one-2
     mul-empty-one-3
     element-copy-out-empty-one-3
+    element-copy-out-empty-one-4
     empty-one-requires
     add-none
     add-i

@@ -14,5 +14,8 @@ returns-3 c = search tests
 returns-4 : tie.Need-returns-4
 returns-4 c = search tests
 
+returns-5 : tie.Need-returns-5
+returns-5 c = search tests
+
 pub empty-one-spec : {M : Type 1} → statement M
-empty-one-spec = tie.close (tie.spec returns returns-2 returns-3 returns-4)
+empty-one-spec = tie.close (tie.spec returns returns-2 returns-3 returns-4 returns-5)

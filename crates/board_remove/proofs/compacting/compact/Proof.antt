@@ -19,7 +19,7 @@ refused-requires c κs = search needs
 returns : tie.Need-returns
 returns c =
     let args = c .before .before .before .before .before .before .before .before .before .args in
-    let t = tableOf (args .keys .now) (args .versions .now) (args .lengths .now) (args .version) (args .floor .now) in
+    let t = tableOf (args .keys .now) (args .versions .now) (args .lengths .now) (args .version) (args .floor .now) (args .forms .now) in
     let b = withRows t (args .order .now) (args .tops .now) in
     result-not b _ _ _ _ (c .before .before .is-board .ensures) (c .before .if1 .taken) (c .refused .ensures)
     (λ e. compact-not-board t (args .store .now) (args .c) false _ (sym e) refl (c .refused .ensures))
@@ -30,7 +30,7 @@ compact-rules-requires c κs = search needs
 returns-2 : tie.Need-returns-2
 returns-2 c =
     let args = c .before .before .before .before .before .before .before .before .before .before .before .args in
-    let t = tableOf (args .keys .now) (args .versions .now) (args .lengths .now) (args .version) (args .floor .now) in
+    let t = tableOf (args .keys .now) (args .versions .now) (args .lengths .now) (args .version) (args .floor .now) (args .forms .now) in
     let b = withRows t (args .order .now) (args .tops .now) in
     let h = record-is b _ _ (c .before .before .before .before .is-board .ensures) (c .before .before .before .if1 .left) in
     result-refused b _ _ (h .1)
@@ -47,13 +47,13 @@ drop-empty-requires : tie.Need-drop-empty-requires
 drop-empty-requires c κs =
     let before10 = c .before .before .before .before .before .before .before .before .before .before in
     let args = before10 .before .before .before .before .before .before .before .before .args in
-    let t = tableOf (args .keys .now) (args .versions .now) (args .lengths .now) (args .version) (args .floor .now) in
+    let t = tableOf (args .keys .now) (args .versions .now) (args .lengths .now) (args .version) (args .floor .now) (args .forms .now) in
     let b = withRows t (args .order .now) (args .tops .now) in
     let h = record-is b _ _ (before10 .before .is-board .ensures) (before10 .if1 .left) in
     let sweep = c .before .before .before .before .sweep in (
       search needs,
       compact-loose-at t (args .c) (args .order .now) _ (board-proper t _ (h .0)) (tidy-order b (h .1))
-          (compacted-is (args .keys .now) (args .versions .now) (args .lengths .now) (args .version) (args .floor .now)
+          (compacted-is (args .keys .now) (args .versions .now) (args .lengths .now) (args .version) (args .floor .now) (args .forms .now)
           (args .c) _ _ _ (sweep .ensures .0) (sweep .ensures .1 .0) (c .before .before .before .larger .ensures)),
       λ e.
           compact-still t (args .order .now) _ _ _ (board-proper t _ (h .0)) (tidy-order b (h .1))
@@ -64,7 +64,7 @@ work-out-requires : tie.Need-work-out-requires
 work-out-requires c κs =
     let before14 = c .before .before .before .before .before .before .before .before .before .before .before .before .before .before in
     let args = before14 .before .before .before .before .before .before .before .before .args in
-    let t = tableOf (args .keys .now) (args .versions .now) (args .lengths .now) (args .version) (args .floor .now) in
+    let t = tableOf (args .keys .now) (args .versions .now) (args .lengths .now) (args .version) (args .floor .now) (args .forms .now) in
     let b = withRows t (args .order .now) (args .tops .now) in
     let h = record-is b _ _ (before14 .before .is-board .ensures) (before14 .if1 .left) in
     let sweep = c .before .before .before .before .before .before .before .before .sweep in
@@ -75,7 +75,7 @@ returns-3 c =
     let before8 = c .before .before .before .before .before .before .before .before in
     let before12 = before8 .before .before .before .before in
     let args = before12 .before .before .before .before .before .before .before .before .before .before .before .args in
-    let t = tableOf (args .keys .now) (args .versions .now) (args .lengths .now) (args .version) (args .floor .now) in
+    let t = tableOf (args .keys .now) (args .versions .now) (args .lengths .now) (args .version) (args .floor .now) (args .forms .now) in
     let b = withRows t (args .order .now) (args .tops .now) in
     let h = record-is b _ _ (before12 .before .before .before .before .is-board .ensures)
     (before12 .before .before .before .if1 .left) in
@@ -85,7 +85,7 @@ returns-3 c =
     (compact-accepted t (args .store .now) (args .c) _ _
     (compact-verdict t (args .store .now) (args .c) true _ (sym (h .0)) refl
     (before12 .before .before .compact-rules .ensures)) if2-left
-    (compacted-is (args .keys .now) (args .versions .now) (args .lengths .now) (args .version) (args .floor .now)
+    (compacted-is (args .keys .now) (args .versions .now) (args .lengths .now) (args .version) (args .floor .now) (args .forms .now)
     (args .c) _ _ _ (sweep .ensures .0) (sweep .ensures .1 .0) (before8 .larger .ensures))) if2-left
     (c .before .before .before .before .drop-empty .ensures) (c .work-out .ensures)
 

@@ -22,8 +22,8 @@ refused-requires c κs = search needs
 
 returns : tie.Need-returns
 returns c =
-    let args = c .before .before .before .before .before .before .before .before .before .args in
-    let t = tableOf (args .keys .now) (args .versions .now) (args .lengths .now) (args .version .now) (args .floor) in
+    let args = c .before .before .before .before .before .before .before .before .before .before .args in
+    let t = tableOf (args .keys .now) (args .versions .now) (args .lengths .now) (args .version .now) (args .floor) (args .forms .now) in
     let b = withRows t (args .order .now) (args .tops .now) in
     result-not b _ _ _ _ (c .before .before .is-board .ensures) (c .before .if1 .taken) (c .refused .ensures)
     (λ e. remove-not-board t (args .store .now) (args .key) false _ (sym e) refl (c .refused .ensures))
@@ -39,8 +39,8 @@ remove-rules-requires c κs = search needs
 
 returns-2 : tie.Need-returns-2
 returns-2 c =
-    let args = c .before .before .before .before .before .before .before .before .before .before .before .before .before .before .args in
-    let t = tableOf (args .keys .now) (args .versions .now) (args .lengths .now) (args .version .now) (args .floor) in
+    let args = c .before .before .before .before .before .before .before .before .before .before .before .before .before .before .before .args in
+    let t = tableOf (args .keys .now) (args .versions .now) (args .lengths .now) (args .version .now) (args .floor) (args .forms .now) in
     let b = withRows t (args .order .now) (args .tops .now) in
     let h = record-is b _ _ (c .before .before .before .before .before .before .before .is-board .ensures) (c .before .before .before .before .before .before .if1 .left) in
     result-refused b _ _ (h .1)
@@ -50,8 +50,8 @@ returns-2 c =
 
 add-next : tie.Need-add-next
 add-next c =
-    let args = c .before .before .before .before .before .before .before .before .before .before .before .before .before .before .args in
-    let t = tableOf (args .keys .now) (args .versions .now) (args .lengths .now) (args .version .now) (args .floor) in
+    let args = c .before .before .before .before .before .before .before .before .before .before .before .before .before .before .before .args in
+    let t = tableOf (args .keys .now) (args .versions .now) (args .lengths .now) (args .version .now) (args .floor) (args .forms .now) in
     let b = withRows t (args .order .now) (args .tops .now) in
     let h = record-is b _ _ (c .before .before .before .before .before .before .before .is-board .ensures) (c .before .before .before .before .before .before .if1 .left) in
     let g = version-room t _ true (sym (h .0)) refl in
@@ -59,28 +59,28 @@ add-next c =
 
 move-last-requires : tie.Need-move-last-requires
 move-last-requires c κs =
-    let before7 = c .before .before .before .before .before .before .before in
-    let args = before7 .before .before .before .before .before .before .before .before .before .before .before .before .args in
-    let t = tableOf (args .keys .now) (args .versions .now) (args .lengths .now) (args .version .now) (args .floor) in
+    let before8 = c .before .before .before .before .before .before .before .before in
+    let args = before8 .before .before .before .before .before .before .before .before .before .before .before .before .before .args in
+    let t = tableOf (args .keys .now) (args .versions .now) (args .lengths .now) (args .version .now) (args .floor) (args .forms .now) in
     let b = withRows t (args .order .now) (args .tops .now) in
-    let h = record-is b _ _ (before7 .before .before .before .before .before .is-board .ensures)
-    (before7 .before .before .before .before .if1 .left) in
-    let l = remove-place (args .key) (before7 .before .before .before .place-of .result)
-    (before7 .before .length-at .result) (args .version .now) _ (before7 .remove-rules .ensures)
-    (c .before .before .before .before .before .if2 .left) in
+    let h = record-is b _ _ (before8 .before .before .before .before .before .is-board .ensures)
+    (before8 .before .before .before .before .if1 .left) in
+    let l = remove-place (args .key) (before8 .before .before .before .place-of .result)
+    (before8 .before .length-at .result) (args .version .now) _ (before8 .remove-rules .ensures)
+    (c .before .before .before .before .before .before .if2 .left) in
     (search needs, search needs, search needs, board-proper t _ (h .0), tidy-order b (h .1), l)
 
 raise-requires : tie.Need-raise-requires
 raise-requires c κs =
-    let before11 = c .before .before .before .before .before .before .before .before .before .before .before in
-    let before14 = before11 .before .before .before in
-    let args = before14 .before .before .before .before .before .before .before .before .before .args in
-    let t = tableOf (args .keys .now) (args .versions .now) (args .lengths .now) (args .version .now) (args .floor) in
+    let before12 = c .before .before .before .before .before .before .before .before .before .before .before .before in
+    let before15 = before12 .before .before .before in
+    let args = before15 .before .before .before .before .before .before .before .before .before .before .args in
+    let t = tableOf (args .keys .now) (args .versions .now) (args .lengths .now) (args .version .now) (args .floor) (args .forms .now) in
     let b = withRows t (args .order .now) (args .tops .now) in
-    let h = record-is b _ _ (before14 .before .before .is-board .ensures) (before14 .before .if1 .left) in
-    let l = remove-place (args .key) (before14 .place-of .result) (before11 .before .length-at .result)
-    (args .version .now) _ (before11 .remove-rules .ensures)
-    (c .before .before .before .before .before .before .before .before .before .if2 .left) in (
+    let h = record-is b _ _ (before15 .before .before .is-board .ensures) (before15 .before .if1 .left) in
+    let l = remove-place (args .key) (before15 .place-of .result) (before12 .before .length-at .result)
+    (args .version .now) _ (before12 .remove-rules .ensures)
+    (c .before .before .before .before .before .before .before .before .before .before .if2 .left) in (
       search needs,
       search needs,
       tidy-tops b (h .1),
@@ -90,61 +90,71 @@ raise-requires c κs =
 
 mul-versions : tie.Need-mul-versions
 mul-versions c =
-    let before10 = c .before .before .before .before .before .before .before .before .before .before in
-    let before17 = before10 .before .before .before .before .before .before .before in
-    let args = before17 .before .before .before .before .before .before .before .args in
-    let l = remove-place (args .key) (before10 .before .before .before .before .before .place-of .result)
-    (before10 .before .before .before .length-at .result) (args .version .now) _
-    (before10 .before .before .remove-rules .ensures) (before10 .if2 .left) in
+    let before11 = c .before .before .before .before .before .before .before .before .before .before .before in
+    let before18 = before11 .before .before .before .before .before .before .before in
+    let args = before18 .before .before .before .before .before .before .before .before .args in
+    let l = remove-place (args .key) (before11 .before .before .before .before .before .place-of .result)
+    (before11 .before .before .before .length-at .result) (args .version .now) _
+    (before11 .before .before .remove-rules .ensures) (before11 .if2 .left) in
     omega (arith, l)
 
 element-write-versions : tie.Need-element-write-versions
 element-write-versions c =
-    let before10 = c .before .before .before .before .before .before .before .before .before .before in
-    let before17 = before10 .before .before .before .before .before .before .before in
-    let args = before17 .before .before .before .before .before .before .before .args in
-    let l = remove-place (args .key) (before10 .before .before .before .before .before .place-of .result)
-    (before10 .before .before .before .length-at .result) (args .version .now) _
-    (before10 .before .before .remove-rules .ensures) (before10 .if2 .left) in
+    let before11 = c .before .before .before .before .before .before .before .before .before .before .before in
+    let before18 = before11 .before .before .before .before .before .before .before in
+    let args = before18 .before .before .before .before .before .before .before .before .args in
+    let l = remove-place (args .key) (before11 .before .before .before .before .before .place-of .result)
+    (before11 .before .before .before .length-at .result) (args .version .now) _
+    (before11 .before .before .remove-rules .ensures) (before11 .if2 .left) in
     omega (arith, l)
 
 mul-lengths : tie.Need-mul-lengths
 mul-lengths c =
-    let before10 = c .before .before .before .before .before .before .before .before .before .before in
-    let before17 = before10 .before .before .before .before .before .before .before in
-    let args = before17 .before .before .before .before .before .before .before .args in
-    let l = remove-place (args .key) (before10 .before .before .before .before .before .place-of .result)
-    (before10 .before .before .before .length-at .result) (args .version .now) _
-    (before10 .before .before .remove-rules .ensures) (before10 .if2 .left) in
+    let before11 = c .before .before .before .before .before .before .before .before .before .before .before in
+    let before18 = before11 .before .before .before .before .before .before .before in
+    let args = before18 .before .before .before .before .before .before .before .before .args in
+    let l = remove-place (args .key) (before11 .before .before .before .before .before .place-of .result)
+    (before11 .before .before .before .length-at .result) (args .version .now) _
+    (before11 .before .before .remove-rules .ensures) (before11 .if2 .left) in
     omega (arith, l)
 
 element-write-lengths : tie.Need-element-write-lengths
 element-write-lengths c =
-    let before10 = c .before .before .before .before .before .before .before .before .before .before in
-    let before17 = before10 .before .before .before .before .before .before .before in
-    let args = before17 .before .before .before .before .before .before .before .args in
-    let l = remove-place (args .key) (before10 .before .before .before .before .before .place-of .result)
-    (before10 .before .before .before .length-at .result) (args .version .now) _
-    (before10 .before .before .remove-rules .ensures) (before10 .if2 .left) in
+    let before11 = c .before .before .before .before .before .before .before .before .before .before .before in
+    let before18 = before11 .before .before .before .before .before .before .before in
+    let args = before18 .before .before .before .before .before .before .before .before .args in
+    let l = remove-place (args .key) (before11 .before .before .before .before .before .place-of .result)
+    (before11 .before .before .before .length-at .result) (args .version .now) _
+    (before11 .before .before .remove-rules .ensures) (before11 .if2 .left) in
+    omega (arith, l)
+
+element-write-forms : tie.Need-element-write-forms
+element-write-forms c =
+    let before11 = c .before .before .before .before .before .before .before .before .before .before .before in
+    let before18 = before11 .before .before .before .before .before .before .before in
+    let args = before18 .before .before .before .before .before .before .before .before .args in
+    let l = remove-place (args .key) (before11 .before .before .before .before .before .place-of .result)
+    (before11 .before .before .before .length-at .result) (args .version .now) _
+    (before11 .before .before .remove-rules .ensures) (before11 .if2 .left) in
     omega (arith, l)
 
 returns-3 : tie.Need-returns-3
 returns-3 c =
-    let before10 = c .before .before .before .before .before .before .before .before .before .before in
-    let before15 = before10 .before .before .before .before .before in
-    let args = before15 .before .before .before .before .before .before .before .before .before .args in
-    let t = tableOf (args .keys .now) (args .versions .now) (args .lengths .now) (args .version .now) (args .floor) in
+    let before11 = c .before .before .before .before .before .before .before .before .before .before .before in
+    let before16 = before11 .before .before .before .before .before in
+    let args = before16 .before .before .before .before .before .before .before .before .before .before .args in
+    let t = tableOf (args .keys .now) (args .versions .now) (args .lengths .now) (args .version .now) (args .floor) (args .forms .now) in
     let b = withRows t (args .order .now) (args .tops .now) in
-    let h = record-is b _ _ (before15 .before .before .is-board .ensures) (before15 .before .if1 .left) in
-    let l = remove-place (args .key) (before15 .place-of .result) (before10 .before .before .before .length-at .result)
-    (args .version .now) _ (before10 .before .before .remove-rules .ensures) (before10 .if2 .left) in
-    let if2-left = before10 .if2 .left in
-    let place-of = before15 .place-of in
-    let rules = before10 .before .before .remove-rules in
+    let h = record-is b _ _ (before16 .before .before .is-board .ensures) (before16 .before .if1 .left) in
+    let l = remove-place (args .key) (before16 .place-of .result) (before11 .before .before .before .length-at .result)
+    (args .version .now) _ (before11 .before .before .remove-rules .ensures) (before11 .if2 .left) in
+    let if2-left = before11 .if2 .left in
+    let place-of = before16 .place-of in
+    let rules = before11 .before .before .remove-rules in
     result-accepted b _ _ _ _ _ (h .1)
     (remove-accepted t (args .store .now) (args .key) _ _
     (remove-verdict t (args .store .now) (args .key) true _ _ _ (sym (h .0)) refl (place-of .ensures)
-    (before10 .before .before .before .length-at .ensures) (rules .ensures)) if2-left (place-of .ensures) l) if2-left
+    (before11 .before .before .before .length-at .ensures) (rules .ensures)) if2-left (place-of .ensures) l) if2-left
     (remove-order t (args .key) _ _ (place-of .ensures) l
     (remove-key (args .key) _ (args .version .now) _ (rules .ensures) if2-left)
     (c .before .before .before .before .move-last .ensures)) (c .raise .ensures)
@@ -167,4 +177,5 @@ remove-spec =
     element-write-versions
     mul-lengths
     element-write-lengths
+    element-write-forms
     returns-3)

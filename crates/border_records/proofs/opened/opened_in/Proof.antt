@@ -23,6 +23,18 @@ depth-in-requires c κs = search needs
 depth-in-requires-2 : tie.Need-depth-in-requires-2
 depth-in-requires-2 c κs = search needs
 
+wide-requires : tie.Need-wide-requires
+wide-requires c κs = search needs
+
+yes-requires-5 : tie.Need-yes-requires-5
+yes-requires-5 c κs = search needs
+
+yes-requires-6 : tie.Need-yes-requires-6
+yes-requires-6 c κs = search needs
+
+limit-in-requires-2 : tie.Need-limit-in-requires-2
+limit-in-requires-2 c κs = search needs
+
 returns : tie.Need-returns
 returns c = cc
 
@@ -37,4 +49,8 @@ opened-in-spec =
     yes-requires-4
     depth-in-requires
     depth-in-requires-2
+    wide-requires
+    yes-requires-5
+    yes-requires-6
+    limit-in-requires-2
     returns)

@@ -32,6 +32,21 @@ there-requires-2 c κs = search needs
 value-requires-2 : tie.Need-value-requires-2
 value-requires-2 c κs = search needs
 
+flag-of-requires-5 : tie.Need-flag-of-requires-5
+flag-of-requires-5 c κs = search needs
+
+flag-of-requires-6 : tie.Need-flag-of-requires-6
+flag-of-requires-6 c κs = search needs
+
+limited-requires-2 : tie.Need-limited-requires-2
+limited-requires-2 c κs = search needs
+
+form-out-requires : tie.Need-form-out-requires
+form-out-requires c κs = search needs
+
+most-requires-2 : tie.Need-most-requires-2
+most-requires-2 c κs = search needs
+
 returns : tie.Need-returns
 returns c = cc
 
@@ -49,4 +64,9 @@ opened-out-spec =
     value-requires
     there-requires-2
     value-requires-2
+    flag-of-requires-5
+    flag-of-requires-6
+    limited-requires-2
+    form-out-requires
+    most-requires-2
     returns)

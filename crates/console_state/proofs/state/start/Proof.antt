@@ -11,6 +11,9 @@ refused-open-requires c κs = search needs
 refused-open-requires-2 : tie.Need-refused-open-requires-2
 refused-open-requires-2 c κs = search needs
 
+cast-t4 : tie.Need-cast-t4
+cast-t4 c = search needs
+
 first-two-requires : tie.Need-first-two-requires
 first-two-requires c κs = search needs
 
@@ -19,4 +22,4 @@ returns c = cc
 
 pub start-spec : {M : Type 1} → statement M
 start-spec =
-    tie.close (tie.spec empty-requires refused-open-requires refused-open-requires-2 first-two-requires returns)
+    tie.close (tie.spec empty-requires refused-open-requires refused-open-requires-2 cast-t4 first-two-requires returns)

@@ -12,7 +12,7 @@ use Rattle.console_state.specs.Standing.{listIn}
 use Rattle.printing.proofs.Laws.{behind-none}
 use Rattle.command_forms.specs.Forms.{mostSize}
 use Rattle.command_forms.specs.declared.verb.Verb.the-variants as v
-use Rattle.session.specs.declared.Session.{Session}
+use Rattle.session.specs.declared.Sessions.{Sessions}
 use Prim.Native.Nat.{ℕ}
 use mathlib.Core.List.{List}
 use lib.Seq.{length-take-le}
@@ -554,7 +554,7 @@ returns-13 c =
     let parse = before20 .parse in
     let call = before7 .reported in
     let list = listIn (a .state .given) (a .memory .now) in
-    let e = ap (λ (x : Session). reportTurn (a .state .board) (a .store .now) x list (parse .result) (a .line .now)) (before17 .agree .ensures) in
+    let e = ap (λ (x : Sessions). reportTurn (a .state .board) (a .store .now) x list (parse .result) (a .line .now)) (before17 .agree .ensures) in
     does v.Report (parse .ensures) (before12 .enum-told13 .given .1) (c .boarded .ensures) (call .ensures .1 .1) (ap (λ (t : Boarding). t .answer) e)
     (parts (call .ensures .0 ∙ ap (λ (t : Boarding). t .board) e) (call .ensures .1 .0 ∙ ap (λ (t : Boarding). t .store) e) refl refl refl refl refl)
 

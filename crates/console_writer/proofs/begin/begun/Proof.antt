@@ -41,7 +41,7 @@ returns c =
     let before8 = c .before .before .before .before .before .before .before .before in
     let a = before8 .before .before .before .before .before .before .before .args in
     let e = before8 .begin .ensures .0
-    ∙ begin-trial _ (a .c .two) (a .old) (a .c .ero)
+    ∙ begin-trial _ (a .c .three) (a .old) (a .c .ero) (a .c .two)
     (omega (
       arith,
       before8 .before .before .fit .ensures .0 .1,
@@ -49,7 +49,7 @@ returns c =
       before8 .before .before .before .before .narrow .ensures,
     )) in
     let h = rw e at (c .before .before .before .before .if1 .taken) in (
-      begin-keeps (freshBuffer (a .c .two)) (a .old) (a .c .ero) h,
+      begin-keeps (freshBuffer (a .c .three)) (a .old) (a .c .ero) (a .c .two) h,
       (kept-old _ _ _ h, rw (← e) (c .before .before .placed .ensures)),
     )
 
@@ -67,7 +67,7 @@ fresh-requires : tie.Need-fresh-requires
 fresh-requires c κs = search needs
 
 placed-requires-2 : tie.Need-placed-requires-2
-placed-requires-2 c κs = search needs
+placed-requires-2 c κs = c .before .before .before .before .before .before .before .before .before .before .before .before .before .before .before .before .before .pre .1
 
 same-length-2 : tie.Need-same-length-2
 same-length-2 c = search needs
@@ -87,10 +87,10 @@ returns-2 c =
     let l = length-take-le new m k in
     let n = l ∙ narrow .ensures in
     let t = before7 .before .before .before .before .before .before .begin .ensures .0
-    ∙ begin-trial _ (a .c .two) (a .old) (a .c .ero)
+    ∙ begin-trial _ (a .c .three) (a .old) (a .c .ero) (a .c .two)
     (omega (arith, before15 .fit .ensures .0 .1, before15 .fit .ensures .1, narrow .ensures)) in
     let z = rw t at (before7 .before .before .if1 .left) in
-    let e = before7 .fresh .ensures .0 ∙ ap (λ (x : ℕ). beginAnswer (freshBuffer x) (a .old) (a .c .ero)) n in
+    let e = before7 .fresh .ensures .0 ∙ ap (λ (x : ℕ). beginAnswer (freshBuffer x) (a .old) (a .c .ero) (a .c .two)) n in
     let b = before7 .fresh .ensures .1 ∙ ap (λ (x : ℕ). beginBuffer (freshBuffer x) (a .old) (a .c .ero)) n in (
       rw (← e),
       (

@@ -18,7 +18,7 @@ same-length c = search needs
 returns : tie.Need-returns
 returns c = let a = c .before .before .before .before .before .before .before .before .before .args in
     let f = c .before .before .before .before .before .before .fill .ensures in (
-      c .before .before .begin .ensures .0 ∙ ap (λ (x : List ℕ). beginAnswer x (a .old) (a .ero)) f,
+      c .before .before .begin .ensures .0 ∙ ap (λ (x : List ℕ). beginAnswer x (a .old) (a .ero) (a .pst)) f,
       c .before .before .begin .ensures .1 ∙ ap (λ (x : List ℕ). beginBuffer x (a .old) (a .ero)) f,
     )
 

@@ -6,6 +6,12 @@ use borrow.Author.Needs.{needs}
 use Rattle.console_writer.proofs.word.segment_in.Statement.{statement}
 use Rattle.console_writer.proofs.word.segment_in.Tie as tie
 
+number-at-requires : tie.Need-number-at-requires
+number-at-requires c κs = search needs
+
+number-at-requires-2 : tie.Need-number-at-requires-2
+number-at-requires-2 c κs = search needs
+
 sid-in-requires : tie.Need-sid-in-requires
 sid-in-requires c κs = search needs
 
@@ -18,11 +24,11 @@ word-requires c κs = search needs
 structure-requires : tie.Need-structure-requires
 structure-requires c κs = search needs
 
-cast-t14 : tie.Need-cast-t14
-cast-t14 c = search needs
+cast-t17 : tie.Need-cast-t17
+cast-t17 c = omega (arith, c .before .before .before .before .before .before .before .before .before .before .before .before .before .before .before .before .before .pre .1 .nt)
 
-cast-t15 : tie.Need-cast-t15
-cast-t15 c = omega (arith, c .before .before .before .before .before .before .before .before .before .before .before .before .before .before .before .before .pre .1 .behaviour)
+cast-t18 : tie.Need-cast-t18
+cast-t18 c = omega (arith, c .before .before .before .before .before .before .before .before .before .before .before .before .before .before .before .before .before .before .pre .1 .behaviour)
 
 word-requires-2 : tie.Need-word-requires-2
 word-requires-2 c κs = search needs
@@ -46,12 +52,13 @@ returns c =
     let before8 = c .before .before .before .before .before .before .before .before in
     let before12 = before8 .before .before .before .before in
     let before16 = before12 .before .before .before .before in (
-      segment-made (before16 .before .before .before .before .args .c)
-          (before16 .before .before .before .before .args .line .now) (before16 .sid-in .ensures .0)
+      segment-made (before16 .before .before .before .before .before .before .args .c)
+          (before16 .before .before .before .before .before .before .args .line .now) (before16 .sid-in .ensures .0)
           (before12 .nai-in .ensures .0)
           (c .before .before .is-none .ensures ∙ ap isNone (c .before .before .before .word2 .ensures .0))
           (c .is-none2 .ensures ∙ ap isNone (c .before .word3 .ensures .0))
-          (before8 .structure .ensures ∙ ap structureOf (before8 .before .word .ensures .0)),
+          (before8 .structure .ensures ∙ ap structureOf (before8 .before .word .ensures .0))
+          (before16 .before .before .before .number-at .ensures) (before16 .before .before .number-at2 .ensures),
       before12 .nai-in .ensures .1 ∙ before16 .sid-in .ensures .1,
     )
 
@@ -59,12 +66,14 @@ pub segment-in-spec : {M : Type 1} → statement M
 segment-in-spec =
     tie.close
     (tie.spec
+    number-at-requires
+    number-at-requires-2
     sid-in-requires
     nai-in-requires
     word-requires
     structure-requires
-    cast-t14
-    cast-t15
+    cast-t17
+    cast-t18
     word-requires-2
     is-none-requires
     word-requires-3

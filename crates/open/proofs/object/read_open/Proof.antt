@@ -1,6 +1,7 @@
 use Rattle.open.proofs.Laws.{long-framed, part-rest, unusable, unframed, answered}
 use Rattle.open.specs.Open.{tlvsAt, framed}
 use Rattle.open_walk.specs.Walk.{sightOf, openWalk}
+use Rattle.capability.specs.Mpls.{mplsCapability}
 use Rattle.capability.specs.Srv6.{srv6Capability}
 use Rattle.positions.specs.Positions.{usableSetup}
 use lib.ListN.{drop}
@@ -18,10 +19,14 @@ of-use c = sym (c .before .usable .ensures) ∙ not-false _ (c .if1 .left)
 good : (c : tie.Else2) → framed (c .before .before .before .before .before .args .s .now) ≡ true
 good c = sym (c .before .is-framed .ensures .0) ∙ not-false _ (c .if2 .left)
 
--- where the walk has been made
+-- where the walks have been made
 walked : (c : tie.After-walk)
-    → (let s = c .before .before .before .before .before .before .args .s .now in sightOf s (c .walk .result) ≡ openWalk false srv6Capability (drop tlvsAt s))
+    → (let s = c .before .before .before .before .before .before .args .s .now in sightOf s (c .walk .result) ≡ openWalk false mplsCapability (drop tlvsAt s))
 walked c = rw (part-rest (c .before .before .before .before .before .before .args .s .now) tlvsAt) at (c .walk .ensures .0)
+
+walked-again : (c : tie.After-walk2)
+    → (let s = c .before .before .before .before .before .before .before .before .before .before .before .args .s .now in sightOf s (c .walk2 .result) ≡ openWalk false srv6Capability (drop tlvsAt s))
+walked-again c = rw (part-rest (c .before .before .before .before .before .before .before .before .before .before .before .args .s .now) tlvsAt) at (c .walk2 .ensures .0)
 
 usable-requires : tie.Need-usable-requires
 usable-requires c κs = search needs
@@ -55,8 +60,27 @@ refused-open-requires-3 c κs = search needs
 enum-known-list : tie.Need-enum-known-list
 enum-known-list c = search needs
 
-carried-by-requires : tie.Need-carried-by-requires
-carried-by-requires c κs = rw (c .before .list .given .1) at (c .before .before .before .walk .ensures .1)
+mpls-by-requires : tie.Need-mpls-by-requires
+mpls-by-requires c κs = rw (c .before .list .given .1) at (c .before .before .before .walk .ensures .1)
+
+walk-requires-2 : tie.Need-walk-requires-2
+walk-requires-2 c κs = let tested = c .before .before .before .before .before in
+    let h = long-framed _ (good tested) in omega (arith, tested .before .is-framed .ensures .1 (not-false _ (tested .if2 .left)))
+
+enum-told-2 : tie.Need-enum-told-2
+enum-told-2 c = search needs
+
+refused-open-requires-4 : tie.Need-refused-open-requires-4
+refused-open-requires-4 c κs = search needs
+
+enum-known-again : tie.Need-enum-known-again
+enum-known-again c = search needs
+
+srv6-by-requires : tie.Need-srv6-by-requires
+srv6-by-requires c κs = rw (c .before .again .given .1) at (c .before .before .before .walk2 .ensures .1)
+
+joined-requires : tie.Need-joined-requires
+joined-requires c κs = search needs
 
 returns-3 : tie.Need-returns-3
 returns-3 c =
@@ -66,9 +90,25 @@ returns-3 c =
 
 returns-4 : tie.Need-returns-4
 returns-4 c =
-    let tested = c .before .before .before .before .before in
-    c .carried-by .ensures
-    ∙ rw (← rw (c .before .before .list .given .1) at (walked (c .before .before .before .before))) at (answered _ _ (of-use (tested .before .before)) (good tested))
+    let second = c .before .before .before in
+    let first = second .before .before .before .before .before in
+    let tested = first .before in
+    c .refused-open4 .ensures
+    ∙ rw (← rw (second .before .before .before .list .given .1) at (walked first), ← rw (c .before .enum-told2 .given .1) at (walked-again second)) at (
+    answered _ _ (of-use (tested .before .before)) (good tested)
+    )
+
+returns-5 : tie.Need-returns-5
+returns-5 c =
+    let second = c .before .before .before .before .before in
+    let first = second .before .before .before .before .before in
+    let tested = first .before in
+    c .joined .ensures
+    ∙ rw (c .before .srv6-by .ensures, second .before .mpls-by .ensures) (
+    rw (← rw (second .before .before .before .list .given .1) at (walked first), ← rw (c .before .before .before .again .given .1) at (walked-again second)) at (
+    answered _ _ (of-use (tested .before .before)) (good tested)
+    )
+    )
 
 pub read-open-spec : {M : Type 1} → statement M
 read-open-spec =
@@ -84,6 +124,13 @@ read-open-spec =
     enum-told
     refused-open-requires-3
     enum-known-list
-    carried-by-requires
+    mpls-by-requires
+    walk-requires-2
+    enum-told-2
+    refused-open-requires-4
+    enum-known-again
+    srv6-by-requires
+    joined-requires
     returns-3
-    returns-4)
+    returns-4
+    returns-5)

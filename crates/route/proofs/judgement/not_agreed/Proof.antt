@@ -3,6 +3,9 @@ use borrow.Author.Needs.{needs}
 use Rattle.route.proofs.judgement.not_agreed.Statement.{statement}
 use Rattle.route.proofs.judgement.not_agreed.Tie as tie
 
+cast-both : tie.Need-cast-both
+cast-both c = search needs
+
 both-requires : tie.Need-both-requires
 both-requires c κs = search needs
 
@@ -11,4 +14,4 @@ unfolding rule13
 returns c = cc
 
 pub not-agreed-spec : {M : Type 1} → statement M
-not-agreed-spec = tie.close (tie.spec both-requires returns)
+not-agreed-spec = tie.close (tie.spec cast-both both-requires returns)

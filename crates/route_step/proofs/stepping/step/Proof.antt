@@ -1,53 +1,19 @@
-use native.Mathlib.Omega.{arith}
-use Rattle.route_step.proofs.Laws.{step-refused, step-short, step-room, step-lies, step-accepted}
+use Rattle.forms.proofs.Laws.{sized-by}
+use Rattle.route_step.proofs.Laws.{by-named}
 use borrow.Author.Needs.{needs}
 use Rattle.route_step.proofs.stepping.step.Statement.{statement}
 use Rattle.route_step.proofs.stepping.step.Tie as tie
 
-verdict-at-requires : tie.Need-verdict-at-requires
-verdict-at-requires c κs = search needs
+named-requires : tie.Need-named-requires
+named-requires c κs = search needs
 
-no-segment-requires : tie.Need-no-segment-requires
-no-segment-requires c κs = search needs
+step-as-requires : tie.Need-step-as-requires
+step-as-requires c κs = rw (c .named .ensures) (sized-by (c .before .before .args .pst))
 
 returns : tie.Need-returns
 returns c =
-    let args = c .before .before .before .before .before .args in
-    step-refused (args .s .now) (args .ero) (args .at) _ (c .before .before .before .verdict-at .ensures) (c .before .if1 .taken) (c .no-segment .ensures)
-
-add-octet : tie.Need-add-octet
-add-octet c =
-    let args = c .before .before .before .before .args in
-    omega (arith, step-short (args .s .now) (args .ero) (args .at) _ (c .before .before .verdict-at .ensures) (c .if1 .left))
-
-octet-requires : tie.Need-octet-requires
-octet-requires c κs = search needs
-
-segment-at-requires : tie.Need-segment-at-requires
-segment-at-requires c κs =
-    let args = c .before .before .before .before .before .args in
-    step-lies (args .s .now) (args .ero) (args .at) _ (c .before .before .before .verdict-at .ensures) (c .before .if1 .left)
-
-add-t8 : tie.Need-add-t8
-add-t8 c =
-    let args = c .before .before .before .before .before .before .args in
-    omega (arith, step-room (args .s .now) (args .ero) (args .at) _ (c .before .before .before .before .verdict-at .ensures) (c .before .before .if1 .left), c .before .octet .ensures .0)
-
-returns-2 : tie.Need-returns-2
-returns-2 c =
-    let args = c .before .before .before .before .before .before .args in
-    step-accepted (args .s .now) (args .ero) (args .at) _ (c .before .before .before .before .verdict-at .ensures) (c .before .before .if1 .left)
-    (c .segment-at .ensures) (c .before .octet .ensures .0)
+    let args = c .before .before .before .args in
+    by-named (args .s .now) (args .ero) (args .pst) (args .at) (c .before .named .ensures) (c .step-as .ensures)
 
 pub step-spec : {M : Type 1} → statement M
-step-spec =
-    tie.close
-    (tie.spec
-    verdict-at-requires
-    no-segment-requires
-    returns
-    add-octet
-    octet-requires
-    segment-at-requires
-    add-t8
-    returns-2)
+step-spec = tie.close (tie.spec named-requires step-as-requires returns)

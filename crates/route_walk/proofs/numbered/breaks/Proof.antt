@@ -39,9 +39,23 @@ returns-5 : tie.Need-returns-5
 unfolding brokenBy
 returns-5 c = search tests
 
+bad-label-requires : tie.Need-bad-label-requires
+bad-label-requires c κs = search needs
+
 returns-6 : tie.Need-returns-6
 unfolding brokenBy
 returns-6 c = search tests
+
+bad-format-requires : tie.Need-bad-format-requires
+bad-format-requires c κs = search needs
+
+returns-7 : tie.Need-returns-7
+unfolding brokenBy
+returns-7 c = search tests
+
+returns-8 : tie.Need-returns-8
+unfolding brokenBy
+returns-8 c = search tests
 
 pub breaks-spec : {M : Type 1} → statement M
 breaks-spec =
@@ -57,4 +71,8 @@ breaks-spec =
     returns-4
     too-long-requires
     returns-5
-    returns-6)
+    bad-label-requires
+    returns-6
+    bad-format-requires
+    returns-7
+    returns-8)

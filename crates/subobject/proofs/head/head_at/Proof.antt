@@ -1,9 +1,15 @@
 use native.Mathlib.Omega.{arith}
 use Rattle.octets.specs.Octets.{octetOf}
-use Rattle.subobject.specs.Layout.{headAt, headOf}
+use Rattle.subobject.proofs.Laws.{head-made}
 use borrow.Author.Needs.{needs}
 use Rattle.subobject.proofs.head.head_at.Statement.{statement}
 use Rattle.subobject.proofs.head.head_at.Tie as tie
+use Rattle.subobject.proofs.head.head_at.Reads as reads
+use Rattle.subobject.proofs.head.head_at.Lts as lts
+use Rattle.forms.proofs.flag.Reads as flag-reads
+use Rattle.octets.proofs.wide.Reads as wide-reads
+use Rattle.subobject.proofs.head.kind.Reads as kind-reads
+use Rattle.subobject.proofs.head.only.Reads as only-reads
 
 shared-slice-read-wide : tie.Need-shared-slice-read-wide
 shared-slice-read-wide c = search needs
@@ -41,15 +47,33 @@ wide-requires-4 c κs = search needs
 kind-requires : tie.Need-kind-requires
 kind-requires c κs = search needs
 
+flag-requires : tie.Need-flag-requires
+flag-requires c κs = search needs
+
+flag-requires-2 : tie.Need-flag-requires-2
+flag-requires-2 c κs = search needs
+
+flag-requires-3 : tie.Need-flag-requires-3
+flag-requires-3 c κs = search needs
+
+flag-requires-4 : tie.Need-flag-requires-4
+flag-requires-4 c κs = search needs
+
 only-requires : tie.Need-only-requires
 only-requires c κs = search needs
 
 only-requires-2 : tie.Need-only-requires-2
 only-requires-2 c κs = search needs
 
+flag-requires-5 : tie.Need-flag-requires-5
+flag-requires-5 c κs = search needs
+
+flag-requires-6 : tie.Need-flag-requires-6
+flag-requires-6 c κs = search needs
+
 returns : tie.Need-returns
-unfolding headAt headOf octetOf
-returns c = (cc, omega arith)
+unfolding octetOf
+returns c = (search head-made, omega arith)
 
 pub head-at-spec : {M : Type 1} → statement M
 head-at-spec =
@@ -67,6 +91,12 @@ head-at-spec =
     shared-slice-read-wide-4
     wide-requires-4
     kind-requires
+    flag-requires
+    flag-requires-2
+    flag-requires-3
+    flag-requires-4
     only-requires
     only-requires-2
+    flag-requires-5
+    flag-requires-6
     returns)

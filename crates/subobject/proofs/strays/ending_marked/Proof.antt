@@ -1,7 +1,9 @@
 use native.Mathlib.Omega.{arith}
 use mathlib.Core.Path.{sym, _∙_}
 use borrow.Author.Needs.{needs}
-use Rattle.subobject.specs.Layout.{expectedLength}
+use Prim.Native.Nat.{_+_}
+use native.Mathlib.Nat.{le-refl}
+use Rattle.subobject.proofs.StrayLaws.{structure-room}
 use Rattle.subobject.specs.Four.{endingMarked}
 use Rattle.subobject.proofs.strays.ending_marked.Statement.{statement}
 use Rattle.subobject.proofs.strays.ending_marked.Tie as tie
@@ -13,12 +15,20 @@ add-four : tie.Need-add-four
 add-four c = search needs
 
 sub-four : tie.Need-sub-four
-unfolding expectedLength
-sub-four c = omega (arith, c .before .before .before .before .pre .0)
+sub-four c =
+    let start = c .before .before .before .before in
+    let h = start .args .h in
+    let q = structure-room (start .args .form) h (start .args .at) (start .args .at + h .size)
+    (sym (c .before .before .structured .ensures) ∙ c .before .if1 .taken) (rw (start .pre .0) (le-refl _)) in
+    omega (arith, q)
 
 four-requires : tie.Need-four-requires
-unfolding expectedLength
-four-requires c κs = omega (arith, c .before .before .before .before .pre .0, c .before .before .before .before .pre .1)
+four-requires c κs =
+    let start = c .before .before .before .before in
+    let h = start .args .h in
+    let q = structure-room (start .args .form) h (start .args .at) (start .args .at + h .size)
+    (sym (c .before .before .structured .ensures) ∙ c .before .if1 .taken) (rw (start .pre .0) (le-refl _)) in
+    omega (arith, q, start .pre .1)
 
 returns : tie.Need-returns
 unfolding endingMarked

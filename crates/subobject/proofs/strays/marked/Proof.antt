@@ -1,17 +1,26 @@
+use native.Mathlib.Omega.{arith}
+use Rattle.subobject.proofs.StrayLaws.{fixed-least, marked-of}
 use borrow.Author.Needs.{needs}
-use Rattle.subobject.specs.Four.{markedAt}
 use Rattle.subobject.proofs.strays.marked.Statement.{statement}
 use Rattle.subobject.proofs.strays.marked.Tie as tie
+use Rattle.subobject.proofs.strays.marked.Reads as reads
+use Rattle.subobject.proofs.strays.marked.Lts as lts
+use Rattle.octets.proofs.either.Reads as either-reads
+use Rattle.subobject.proofs.strays.reserved_two.Reads as reserved-two-reads
+use Rattle.subobject.proofs.strays.stray_flags.Reads as stray-flags-reads
 
-add-four : tie.Need-add-four
-add-four c = search needs
+stray-flags-requires : tie.Need-stray-flags-requires
+stray-flags-requires c κs = (omega (arith, fixed-least (c .before .pre .1), c .before .pre .0), c .before .pre .1)
 
-four-requires : tie.Need-four-requires
-four-requires c κs = search needs
+reserved-two-requires : tie.Need-reserved-two-requires
+reserved-two-requires c κs = search needs
+
+either-requires : tie.Need-either-requires
+either-requires c κs = search needs
 
 returns : tie.Need-returns
-unfolding markedAt
-returns c = rw (c .four .ensures)
+returns c = marked-of _ _ _ _ _ _ (c .before .before .stray-flags .ensures .0) (c .before .reserved-two .ensures) (c .either .ensures)
 
 pub marked-spec : {M : Type 1} → statement M
-marked-spec = tie.close (tie.spec add-four four-requires returns)
+marked-spec =
+    tie.close (tie.spec stray-flags-requires reserved-two-requires either-requires returns)

@@ -1,17 +1,21 @@
 use native.Mathlib.Omega.{arith}
-use borrow.Author.Needs.{needs}
+use Rattle.subobject.proofs.StrayLaws.{fixed-least}
 use Rattle.subobject_read.proofs.Laws.{read-short, read-cut, read-whole}
+use borrow.Author.Needs.{needs}
 use Rattle.subobject_read.proofs.answer.read_at.Statement.{statement}
 use Rattle.subobject_read.proofs.answer.read_at.Tie as tie
 
 sub-room : tie.Need-sub-room
 sub-room c = search needs
 
+wide-requires : tie.Need-wide-requires
+wide-requires c κs = search needs
+
 returns : tie.Need-returns
 returns c = search read-short
 
 head-at-requires : tie.Need-head-at-requires
-head-at-requires c κs = search needs
+head-at-requires c κs = omega (arith, fixed-least (c .before .before .before .pre .1), c .before .wide .ensures .0)
 
 expected-requires : tie.Need-expected-requires
 expected-requires c κs = search needs
@@ -30,6 +34,7 @@ read-at-spec =
     tie.close
     (tie.spec
     sub-room
+    wide-requires
     returns
     head-at-requires
     expected-requires

@@ -1,8 +1,9 @@
-use mathlib.Core.Path.{_≡_, refl, sym, _∙_}
+use Prim.Native.Nat.{ℕ}
+use mathlib.Core.Path.{_∙_, ap}
 use lib.ListN.{length-set}
 use native.Mathlib.Omega.{arith}
 use borrow.Author.Tests.{lt-ltb, le-ltb}
-use Rattle.writer.specs.Writing.{beginNumber, beginAnswer, beginBuffer}
+use Rattle.writer.specs.Writing.{beginNumber, beginAnswer, beginBuffer, acceptedAs}
 use Rattle.writer.proofs.Laws.{header-stored}
 use borrow.Author.Needs.{needs}
 use Rattle.writer.proofs.writing.begin.Statement.{statement}
@@ -36,6 +37,9 @@ cast-buf-2 c = search needs
 slice-write-buf-4 : tie.Need-slice-write-buf-4
 slice-write-buf-4 c = search needs
 
+kept-form-requires : tie.Need-kept-form-requires
+kept-form-requires c κs = search needs
+
 accept-requires : tie.Need-accept-requires
 accept-requires c κs = search needs
 
@@ -44,12 +48,13 @@ same-length c = search needs
 
 returns-2 : tie.Need-returns-2
 unfolding beginNumber beginAnswer beginBuffer
-returns-2 c = (
-  simp (le-ltb _ _ (c .before .before .if1 .left)) (c .accept .ensures),
-  simp (le-ltb _ _ (c .before .before .if1 .left))
-      (header-stored (c .before .before .before .before .args .buf .now) (c .before .before .before .before .args .ero)
-      (c .before .pick .result) (c .before .pick .ensures .0) (c .before .before .if1 .left)),
-)
+returns-2 c =
+    let a = c .before .before .before .before .before .args in (
+      simp (le-ltb _ _ (c .before .before .before .if1 .left))
+          (c .accept .ensures ∙ ap (λ (f : ℕ). acceptedAs (record { ero = a .ero; at = 4; form = f })) (c .before .kept-form .ensures)),
+      simp (le-ltb _ _ (c .before .before .before .if1 .left))
+          (header-stored (a .buf .now) (a .ero) (c .before .before .pick .result) (c .before .before .pick .ensures .0) (c .before .before .before .if1 .left)),
+    )
 
 pub begin-spec : {M : Type 1} → statement M
 begin-spec =
@@ -64,6 +69,7 @@ begin-spec =
     slice-write-buf-3
     cast-buf-2
     slice-write-buf-4
+    kept-form-requires
     accept-requires
     same-length
     returns-2)

@@ -1,117 +1,40 @@
--- Each number fits its octet because the head is `Small`; eight stores are the run of eight octets (`sets-eq`).
-use Rattle.subobject.specs.Segments.{fixedOctets}
-use Rattle.octets.specs.Octets.{over}
-use lib.Seq.{sets-eq, length-sets}
-use lib.ListN.{length-set}
 use native.Mathlib.Omega.{arith}
+use Rattle.writer_layout.proofs.Laws.{fixed-least, fixed-long, fixed-eight, fixed-four}
 use borrow.Author.Needs.{needs}
 use Rattle.writer_layout.proofs.image.fixed.Statement.{statement}
 use Rattle.writer_layout.proofs.image.fixed.Tie as tie
 
-mul-out : tie.Need-mul-out
-mul-out c = search needs
+four-requires : tie.Need-four-requires
+four-requires c κs = (c .before .before .pre .0, omega (arith, fixed-least (c .before .before .pre .2), c .before .before .pre .1))
 
-add-out : tie.Need-add-out
-add-out c = search needs
-
-cast-out : tie.Need-cast-out
-cast-out c = search needs
-
-slice-write-out : tie.Need-slice-write-out
-slice-write-out c = search needs
-
-cast-out-2 : tie.Need-cast-out-2
-cast-out-2 c = search needs
-
-slice-write-out-2 : tie.Need-slice-write-out-2
-slice-write-out-2 c = simp length-set (omega arith)
-
-mul-out-2 : tie.Need-mul-out-2
-mul-out-2 c = search needs
-
-cast-out-3 : tie.Need-cast-out-3
-cast-out-3 c = search needs
-
-slice-write-out-3 : tie.Need-slice-write-out-3
-slice-write-out-3 c = simp length-set (omega arith)
-
-mul-out-3 : tie.Need-mul-out-3
-mul-out-3 c = search needs
-
-mul-out-4 : tie.Need-mul-out-4
-mul-out-4 c = search needs
-
-add-out-2 : tie.Need-add-out-2
-add-out-2 c = search needs
-
-mul-out-5 : tie.Need-mul-out-5
-mul-out-5 c = search needs
-
-add-out-3 : tie.Need-add-out-3
-add-out-3 c = search needs
-
-add-out-4 : tie.Need-add-out-4
-add-out-4 c = search needs
-
-cast-out-4 : tie.Need-cast-out-4
-cast-out-4 c = search needs
-
-slice-write-out-4 : tie.Need-slice-write-out-4
-slice-write-out-4 c = simp length-set (omega arith)
-
-slice-write-out-5 : tie.Need-slice-write-out-5
-slice-write-out-5 c = simp length-set (omega arith)
-
-slice-write-out-6 : tie.Need-slice-write-out-6
-slice-write-out-6 c = simp length-set (omega arith)
-
-cast-out-5 : tie.Need-cast-out-5
-cast-out-5 c = search needs
-
-slice-write-out-7 : tie.Need-slice-write-out-7
-slice-write-out-7 c = simp length-set (omega arith)
-
-cast-out-6 : tie.Need-cast-out-6
-cast-out-6 c = search needs
-
-slice-write-out-8 : tie.Need-slice-write-out-8
-slice-write-out-8 c = simp length-set (omega arith)
+four-more-requires : tie.Need-four-more-requires
+four-more-requires c κs =
+    let b4 = c .before .before .before .before in
+    let b7 = b4 .before .before .before in
+    omega (arith, fixed-long (b7 .pre .2) (c .before .if1 .taken), b7 .pre .1, b4 .four .kept .0)
 
 same-length : tie.Need-same-length
-same-length c = simp length-set
+same-length c = search needs
 
 returns : tie.Need-returns
-unfolding fixedOctets over
 returns c =
-    let args = c .before .before .before .before .before .before .before .before .args in
-    sets-eq (fixedOctets (args .h) (args .behaviour)) (args .out .now) 0 (omega arith)
+    let b2 = c .before .before in
+    let b4 = b2 .before .before in
+    let b7 = b4 .before .before .before in
+    let b10 = b7 .before .before .before in
+    let a = b10 .args in
+    fixed-eight (a .form) (a .h) (a .behaviour) (a .out .now) _ _ (b4 .if1 .taken)
+    (omega (arith, fixed-long (b10 .pre .2) (b4 .if1 .taken), b10 .pre .1)) (b7 .four .ensures) (b2 .four-more .ensures)
+
+same-length-2 : tie.Need-same-length-2
+same-length-2 c = search needs
+
+returns-2 : tie.Need-returns-2
+returns-2 c =
+    let a = c .before .before .before .before .before .before .args in
+    fixed-four (a .form) (a .h) (a .behaviour) (a .out .now) _ (c .if1 .left) (c .before .before .before .four .ensures)
 
 pub fixed-spec : {M : Type 1} → statement M
 fixed-spec =
     tie.close
-    (tie.spec
-    mul-out
-    add-out
-    cast-out
-    slice-write-out
-    cast-out-2
-    slice-write-out-2
-    mul-out-2
-    cast-out-3
-    slice-write-out-3
-    mul-out-3
-    mul-out-4
-    add-out-2
-    mul-out-5
-    add-out-3
-    add-out-4
-    cast-out-4
-    slice-write-out-4
-    slice-write-out-5
-    slice-write-out-6
-    cast-out-5
-    slice-write-out-7
-    cast-out-6
-    slice-write-out-8
-    same-length
-    returns)
+    (tie.spec four-requires four-more-requires same-length returns same-length-2 returns-2)

@@ -1,13 +1,7 @@
--- By NT: the octets laid are `naiLength nt` of them, as many as fit; without an NAI nothing is laid and nothing changes.
-use Prim.Native.Nat.{ℕ}
-use mathlib.Core.List.{List}
-use mathlib.Core.Path.{_≡_, sym, _∙_, ap}
-use lib.ListN.{length, take}
-use lib.Seq.{length-take-le}
+use mathlib.Core.Path.{refl}
 use native.Mathlib.Omega.{arith}
+use Rattle.writer_layout.proofs.Laws.{laid-first, laid-whole, first-long, first-room}
 use borrow.Author.Needs.{needs}
-use Rattle.octets.specs.Octets.{placed}
-use Rattle.writer_layout.proofs.Laws.{own, nai-node, nai-adjacency, nai-link, nai-none, room-nai, laid-nai, laid-nai-whole, laid-nai-none}
 use Rattle.writer_layout.proofs.image.lay_nai.Statement.{statement}
 use Rattle.writer_layout.proofs.image.lay_nai.Tie as tie
 
@@ -19,98 +13,107 @@ array-share-prefix-whole c = search needs
 
 slice-aggregate-lay : tie.Need-slice-aggregate-lay
 slice-aggregate-lay c =
-    let before3 = c .before .before .before in
-    let e = ap length
-    (own (before3 .before .before .before .args .nai .now) (before3 .part40 .result) 40
-    (before3 .before .before .before .pre .0) (before3 .part40 .ensures)) in
-    sym (length-take-le 16 (before3 .part40 .result) (omega (arith, before3 .before .before .before .pre .0)))
+    let b3 = c .before .before .before in
+    let b6 = b3 .before .before .before in
+    first-long (b6 .args .nai .now) (b3 .part40 .result) 16 40 (b6 .pre .0) (b3 .part40 .ensures) (omega arith)
 
 lay-requires : tie.Need-lay-requires
 lay-requires c κs =
-    let before6 = c .before .before .before .before .before .before in
-    let e = ap length
-    (own (before6 .args .nai .now) (c .before .before .before .part40 .result) 40 (before6 .pre .0)
-    (c .before .before .before .part40 .ensures)) in
-    room-nai (before6 .args .nt) 16 (before6 .args .at) _ (c .before .before .before .part40 .result)
-    (nai-node (before6 .args .nt) (c .before .before .if1 .taken)) (omega (arith, before6 .pre .0)) (before6 .pre .1)
+    let b2 = c .before .before in
+    let b3 = b2 .before in
+    let b6 = b3 .before .before .before in
+    first-room (b6 .args .nai .now) (b3 .part40 .result) (b6 .args .n) 16 (b6 .args .at) _ 40 (b6 .pre .0)
+    (b3 .part40 .ensures) (b2 .if1 .taken) (omega arith) (b6 .pre .2)
 
 same-length : tie.Need-same-length
 same-length c = search needs
 
 returns : tie.Need-returns
 returns c =
-    let before5 = c .before .before .before .before .before in
-    let before9 = before5 .before .before .before .before in
-    let e = own (before9 .args .nai .now) (before5 .before .part40 .result) 40 (before9 .pre .0)
-    (before5 .before .part40 .ensures) in
-    laid-nai (before9 .args .nt) 16 (before9 .args .at) (before9 .args .out .now) (before9 .args .nai .now) _
-    (nai-node (before9 .args .nt) (before5 .if1 .taken))
-    (c .before .before .lay .ensures
-    ∙ ap (λ (l : List ℕ). placed (before9 .args .out .now) (before9 .args .at) (take 16 l)) e)
+    let b2 = c .before .before in
+    let b5 = b2 .before .before .before in
+    let b6 = b5 .before in
+    let b9 = b6 .before .before .before in
+    let a = b9 .args in
+    laid-first (a .nai .now) (b6 .part40 .result) (a .out .now) _ (a .at) (a .n) 16 40 (b9 .pre .0) (b6 .part40 .ensures)
+    (b5 .if1 .taken) (b2 .lay .ensures)
 
 array-share-prefix-whole-2 : tie.Need-array-share-prefix-whole-2
 array-share-prefix-whole-2 c = search needs
 
 slice-aggregate-lay-2 : tie.Need-slice-aggregate-lay-2
 slice-aggregate-lay-2 c =
-    let before4 = c .before .before .before .before in
-    let e = ap length
-    (own (before4 .before .before .before .args .nai .now) (before4 .part40 .result) 40
-    (before4 .before .before .before .pre .0) (before4 .part40 .ensures)) in
-    sym (length-take-le 32 (before4 .part40 .result) (omega (arith, before4 .before .before .before .pre .0)))
+    let b4 = c .before .before .before .before in
+    let b7 = b4 .before .before .before in
+    first-long (b7 .args .nai .now) (b4 .part40 .result) 32 40 (b7 .pre .0) (b4 .part40 .ensures) (omega arith)
 
 lay-requires-2 : tie.Need-lay-requires-2
 lay-requires-2 c κs =
-    let before4 = c .before .before .before .before in
-    let before7 = before4 .before .before .before in
-    let e = ap length
-    (own (before7 .args .nai .now) (before4 .part40 .result) 40 (before7 .pre .0) (before4 .part40 .ensures)) in
-    room-nai (before7 .args .nt) 32 (before7 .args .at) _ (before4 .part40 .result)
-    (nai-adjacency (before7 .args .nt) (c .before .before .if2 .taken)) (omega (arith, before7 .pre .0))
-    (before7 .pre .1)
+    let b2 = c .before .before in
+    let b4 = b2 .before .before in
+    let b7 = b4 .before .before .before in
+    first-room (b7 .args .nai .now) (b4 .part40 .result) (b7 .args .n) 32 (b7 .args .at) _ 40 (b7 .pre .0)
+    (b4 .part40 .ensures) (b2 .if2 .taken) (omega arith) (b7 .pre .2)
 
 same-length-2 : tie.Need-same-length-2
 same-length-2 c = search needs
 
 returns-2 : tie.Need-returns-2
 returns-2 c =
-    let before5 = c .before .before .before .before .before in
-    let before10 = before5 .before .before .before .before .before in
-    let e = own (before10 .args .nai .now) (before5 .before .before .part40 .result) 40 (before10 .pre .0)
-    (before5 .before .before .part40 .ensures) in
-    laid-nai (before10 .args .nt) 32 (before10 .args .at) (before10 .args .out .now) (before10 .args .nai .now) _
-    (nai-adjacency (before10 .args .nt) (before5 .if2 .taken))
-    (c .before .before .lay2 .ensures
-    ∙ ap (λ (l : List ℕ). placed (before10 .args .out .now) (before10 .args .at) (take 32 l)) e)
+    let b2 = c .before .before in
+    let b5 = b2 .before .before .before in
+    let b7 = b5 .before .before in
+    let b10 = b7 .before .before .before in
+    let a = b10 .args in
+    laid-first (a .nai .now) (b7 .part40 .result) (a .out .now) _ (a .at) (a .n) 32 40 (b10 .pre .0) (b7 .part40 .ensures)
+    (b5 .if2 .taken) (b2 .lay2 .ensures)
 
 slice-aggregate-lay-3 : tie.Need-slice-aggregate-lay-3
 slice-aggregate-lay-3 c = search needs
 
 lay-requires-3 : tie.Need-lay-requires-3
-lay-requires-3 c κs =
-    let before8 = c .before .before .before .before .before .before .before .before in
-    let e = ap length
-    (own (before8 .args .nai .now) (c .before .before .before .before .before .part40 .result) 40 (before8 .pre .0)
-    (c .before .before .before .before .before .part40 .ensures)) in
-    omega (arith, before8 .pre .0, before8 .pre .1, nai-link (before8 .args .nt) (c .before .before .if3 .taken))
+lay-requires-3 c κs = search needs
 
 same-length-3 : tie.Need-same-length-3
 same-length-3 c = search needs
 
 returns-3 : tie.Need-returns-3
 returns-3 c =
-    let before8 = c .before .before .before .before .before .before .before .before in
-    let before11 = before8 .before .before .before in
-    let e = own (before11 .args .nai .now) (before8 .part40 .result) 40 (before11 .pre .0) (before8 .part40 .ensures) in
-    laid-nai-whole (before11 .args .nt) (before11 .args .at) (before11 .args .out .now) (before11 .args .nai .now) _
-    (before11 .pre .0) (nai-link (before11 .args .nt) (c .before .before .before .before .before .if3 .taken))
-    (c .before .before .lay3 .ensures ∙ ap (λ (l : List ℕ). placed (before11 .args .out .now) (before11 .args .at) l) e)
+    let b2 = c .before .before in
+    let b5 = b2 .before .before .before in
+    let b8 = b5 .before .before .before in
+    let b11 = b8 .before .before .before in
+    let a = b11 .args in
+    laid-whole (a .nai .now) (b8 .part40 .result) (a .out .now) _ (a .at) (a .n) 40 (b8 .part40 .ensures)
+    (omega (arith, b11 .pre .0)) (b5 .if3 .taken) (b2 .lay3 .ensures)
+
+array-share-prefix-whole-3 : tie.Need-array-share-prefix-whole-3
+array-share-prefix-whole-3 c = search needs
+
+slice-aggregate-lay-4 : tie.Need-slice-aggregate-lay-4
+slice-aggregate-lay-4 c =
+    let b5 = c .before .before .before .before .before in
+    let b8 = b5 .before .before .before in
+    first-long (b8 .args .nai .now) (b5 .part40 .result) (b8 .args .n) 40 (b8 .pre .0) (b5 .part40 .ensures) (omega (arith, b8 .pre .1))
+
+lay-requires-4 : tie.Need-lay-requires-4
+lay-requires-4 c κs =
+    let b5 = c .before .before .before .before .before in
+    let b8 = b5 .before .before .before in
+    first-room (b8 .args .nai .now) (b5 .part40 .result) (b8 .args .n) (b8 .args .n) (b8 .args .at) _ 40 (b8 .pre .0)
+    (b5 .part40 .ensures) refl (omega (arith, b8 .pre .1)) (b8 .pre .2)
+
+same-length-4 : tie.Need-same-length-4
+same-length-4 c = search needs
 
 returns-4 : tie.Need-returns-4
 returns-4 c =
-    let args = c .before .before .before .before .before .before .args in
-    laid-nai-none (args .nt) (args .at) (args .out .now) (args .nai .now)
-    (nai-none (args .nt) (c .before .before .if1 .left) (c .before .if2 .left) (c .if3 .left))
+    let b2 = c .before .before in
+    let b8 = b2 .before .before .before .before .before .before in
+    let b11 = b8 .before .before .before in
+    let a = b11 .args in
+    laid-first (a .nai .now) (b8 .part40 .result) (a .out .now) _ (a .at) (a .n) (b11 .args .n) 40 (b11 .pre .0) (b8 .part40 .ensures)
+    refl (b2 .lay4 .ensures)
 
 pub lay-nai-spec : {M : Type 1} → statement M
 lay-nai-spec =
@@ -131,4 +134,8 @@ lay-nai-spec =
     lay-requires-3
     same-length-3
     returns-3
+    array-share-prefix-whole-3
+    slice-aggregate-lay-4
+    lay-requires-4
+    same-length-4
     returns-4)

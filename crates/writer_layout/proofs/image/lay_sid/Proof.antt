@@ -1,12 +1,8 @@
-use Prim.Native.Nat.{ℕ}
-use mathlib.Core.List.{List}
-use mathlib.Core.Path.{_≡_, sym, _∙_, ap}
-use lib.ListN.{length, take}
+use mathlib.Core.Path.{sym}
 use lib.Seq.{length-take-le}
 use native.Mathlib.Omega.{arith}
+use Rattle.writer_layout.proofs.Laws.{laid-whole}
 use borrow.Author.Needs.{needs}
-use Rattle.octets.specs.Octets.{placed}
-use Rattle.writer_layout.proofs.Laws.{own, laid-there, laid-absent, room-there}
 use Rattle.writer_layout.proofs.image.lay_sid.Statement.{statement}
 use Rattle.writer_layout.proofs.image.lay_sid.Tie as tie
 
@@ -17,30 +13,75 @@ slice-aggregate-lay : tie.Need-slice-aggregate-lay
 slice-aggregate-lay c = search needs
 
 lay-requires : tie.Need-lay-requires
-lay-requires c κs =
-    let before6 = c .before .before .before .before .before .before in
-    let e = own (before6 .args .sid .now) (c .before .before .part16 .result) 16 (before6 .pre .0)
-    (c .before .before .part16 .ensures) in
-    room-there (before6 .args .there) (c .before .before .part16 .result) (before6 .args .at) 16 _
-    (ap length e ∙ before6 .pre .0) (c .before .before .before .if1 .taken) (before6 .pre .1)
+lay-requires c κs = search needs
 
 same-length : tie.Need-same-length
 same-length c = search needs
 
 returns : tie.Need-returns
 returns c =
-    let before5 = c .before .before .before .before .before in
-    let before9 = before5 .before .before .before .before in
-    let e = own (before9 .args .sid .now) (before5 .part16 .result) 16 (before9 .pre .0) (before5 .part16 .ensures) in
-    laid-there (before9 .args .there) (before9 .args .out .now) (before9 .args .sid .now) _ (before9 .args .at) 16
-    (before9 .pre .0) (before5 .before .if1 .taken)
-    (c .before .before .lay .ensures ∙ ap (λ (l : List ℕ). placed (before9 .args .out .now) (before9 .args .at) l) e)
+    let b2 = c .before .before in
+    let b5 = b2 .before .before .before in
+    let b6 = b5 .before in
+    let b9 = b6 .before .before .before in
+    let a = b9 .args in
+    laid-whole (a .sid .now) (b5 .part16 .result) (a .out .now) _ (a .at) (a .n) 16 (b5 .part16 .ensures)
+    (omega (arith, b9 .pre .0)) (b6 .if1 .taken) (b2 .lay .ensures)
+
+part4-requires : tie.Need-part4-requires
+part4-requires c κs = search needs
+
+slice-aggregate-lay-2 : tie.Need-slice-aggregate-lay-2
+slice-aggregate-lay-2 c = search needs
+
+lay-requires-2 : tie.Need-lay-requires-2
+lay-requires-2 c κs = search needs
+
+same-length-2 : tie.Need-same-length-2
+same-length-2 c = search needs
 
 returns-2 : tie.Need-returns-2
 returns-2 c =
-    laid-absent (c .before .before .before .args .there) (c .before .before .before .args .out .now) (c .before .before .before .args .sid .now) (c .before .before .before .args .at) 16 (c .if1 .left)
+    let b2 = c .before .before in
+    let b5 = b2 .before .before .before in
+    let b6 = b5 .before in
+    let b10 = b6 .before .before .before .before in
+    let a = b10 .args in
+    laid-whole (a .sid .now) (b5 .part4 .result) (a .out .now) _ (a .at) (a .n) 4 (b5 .part4 .ensures)
+    (omega (arith, b10 .pre .0)) (b6 .if2 .taken) (b2 .lay2 .ensures)
+
+slice-aggregate-lay-3 : tie.Need-slice-aggregate-lay-3
+slice-aggregate-lay-3 c =
+    let b6 = c .before .before .before .before .before .before in
+    sym (length-take-le (b6 .args .n) (b6 .args .sid .now) (omega (arith, b6 .pre .0, b6 .pre .1)))
+
+lay-requires-3 : tie.Need-lay-requires-3
+lay-requires-3 c κs =
+    let b6 = c .before .before .before .before .before .before in
+    let z = length-take-le (b6 .args .n) (b6 .args .sid .now) (omega (arith, b6 .pre .0, b6 .pre .1)) in
+    omega (arith, b6 .pre .2)
+
+same-length-3 : tie.Need-same-length-3
+same-length-3 c = search needs
+
+returns-3 : tie.Need-returns-3
+returns-3 c = search needs
 
 pub lay-sid-spec : {M : Type 1} → statement M
 lay-sid-spec =
     tie.close
-    (tie.spec part16-requires slice-aggregate-lay lay-requires same-length returns returns-2)
+    (tie.spec
+    part16-requires
+    slice-aggregate-lay
+    lay-requires
+    same-length
+    returns
+    part4-requires
+    slice-aggregate-lay-2
+    lay-requires-2
+    same-length-2
+    returns-2
+    slice-aggregate-lay-3
+    lay-requires-3
+    same-length-3
+    returns-3)

@@ -1,24 +1,51 @@
 -- The four runs are laid one behind the other (`written-subobject`); each fits because the whole subobject does (`room`).
-use Prim.Native.Nat.{ℕ}
+use Prim.Native.Nat.{ℕ, _+_, _≤_}
 use mathlib.Core.Bool.{Bool, cond}
 use mathlib.Core.Path.{_≡_, ap}
+use lib.Dec.{eqb}
 use lib.ListN.{length}
 use native.Mathlib.Omega.{arith}
-use borrow.Author.Needs.{needs}
+use Rattle.octets.proofs.Said.{cond-most}
+use Rattle.forms.specs.Forms.{naiLength}
+use Rattle.forms.proofs.Laws.{nai-most}
+use Rattle.subobject.specs.declared.segment.Segment.{Segment}
+use Rattle.subobject.specs.Layout.{sidLength}
+use Rattle.subobject.specs.Rules.{hasStructure}
 use Rattle.subobject.specs.Segments.{headOfSegment, segmentWith}
-use Rattle.writer_layout.proofs.Laws.{small-head, room, written-subobject}
+use Rattle.writer_layout.proofs.Laws.{small-head, room, written-subobject, sid-picked}
+use borrow.Author.Needs.{needs}
 use Rattle.writer_layout.proofs.image.write.Statement.{statement}
 use Rattle.writer_layout.proofs.image.write.Tie as tie
 
-head : (c : tie.Start) → c .args .h ≡ headOfSegment (segmentWith (c .args .o) (c .args .sid .now) (c .args .nai .now) (c .args .bits .now))
+abbrev seg : tie.Start → Segment
+seg c = segmentWith (c .args .o) (c .args .sid .now) (c .args .nai .now) (c .args .bits .now)
+
+head : (c : tie.Start) → c .args .h ≡ headOfSegment (c .args .form) (seg c)
 unfolding headOfSegment
 head c = c .pre .1
+
+parts : (c : tie.Start)
+    → c .args .form .fixed + sidLength (c .args .form) (c .args .h .s) + naiLength (c .args .form) (c .args .h .nt) + cond (hasStructure (c .args .h)) 8 0
+    ≤ length (c .args .out .now)
+parts c = room (c .pre .4) (seg c) (c .args .h) (length (c .args .out .now)) (c .pre .0) (head c) (c .pre .3)
+
+abbrev start : tie.After-pick → tie.Start
+start c = c .before .before .before .before .before .before .before .before .before .before
+
+picked : (c : tie.After-pick) → c .pick .result ≡ sidLength (start c .args .form) (start c .args .h .s)
+picked c = sid-picked (start c .args .form) (start c .args .h .s) (c .before .wide2 .result) _ (c .before .wide2 .ensures .0) (c .pick .ensures .0)
 
 structure-requires : tie.Need-structure-requires
 structure-requires c κs = search needs
 
 structured-requires : tie.Need-structured-requires
 structured-requires c κs = search needs
+
+wide-requires : tie.Need-wide-requires
+wide-requires c κs = search needs
+
+wide-requires-2 : tie.Need-wide-requires-2
+wide-requires-2 c κs = search needs
 
 pick-requires : tie.Need-pick-requires
 pick-requires c κs = search needs
@@ -28,32 +55,19 @@ nai-length-requires c κs = search needs
 
 fixed-requires : tie.Need-fixed-requires
 fixed-requires c κs =
-    let before10 = c .before .before .before .before .before .before .before .before .before .before in (
-      small-head
-          (segmentWith (before10 .args .o) (before10 .args .sid .now) (before10 .args .nai .now)
-          (before10 .args .bits .now)) (before10 .args .h) (head before10) (before10 .pre .2),
-      omega (
-        arith,
-        room
-            (segmentWith (before10 .args .o) (before10 .args .sid .now) (before10 .args .nai .now)
-            (before10 .args .bits .now)) (before10 .args .h) (length (before10 .args .out .now)) (before10 .pre .0)
-            (head before10) (before10 .pre .3),
-      ),
+    let t = c .before .before .before .before .before .before .before .before .before .before .before .before in (
+      small-head (t .pre .4) (t .pre .5) (seg t) (t .args .h) (head t) (t .pre .2),
+      omega (arith, parts t),
+      t .pre .4,
     )
 
 lay-sid-requires : tie.Need-lay-sid-requires
 lay-sid-requires c κs =
-    let before14 = c .before .before .before .before .before .before .before .before .before .before .before .before .before .before in
-    let before15 = before14 .before in (
-      before15 .pre .0 .sid,
-      omega (
-        arith,
-        room
-            (segmentWith (before15 .args .o) (before15 .args .sid .now) (before15 .args .nai .now)
-            (before15 .args .bits .now)) (before15 .args .h) (length (before15 .args .out .now)) (before15 .pre .0)
-            (head before15) (before15 .pre .3),
-        c .before .before .before .before .fixed .kept .0,
-      ),
+    let t = c .before .before .before .before .before .before .before .before .before .before .before .before .before .before .before .before in
+    let k = picked (c .before .before .before .before .before .before) in (
+      t .pre .0 .sid,
+      omega (arith, t .pre .4 .sid, cond-most (eqb (t .args .h .s) 0) (t .args .form .sid)),
+      omega (arith, parts t, c .before .before .before .fixed .kept .0, c .before .before .before .before .before .before .before .before .before .wide .ensures .0),
     )
 
 add-lay-nai : tie.Need-add-lay-nai
@@ -61,19 +75,18 @@ add-lay-nai c = search needs
 
 lay-nai-requires : tie.Need-lay-nai-requires
 lay-nai-requires c κs =
-    let before8 = c .before .before .before .before .before .before .before .before in
-    let before19 = before8 .before .before .before .before .before .before .before .before .before .before .before in (
-      before19 .pre .0 .nai,
-      omega (
-        arith,
-        room
-            (segmentWith (before19 .args .o) (before19 .args .sid .now) (before19 .args .nai .now)
-            (before19 .args .bits .now)) (before19 .args .h) (length (before19 .args .out .now)) (before19 .pre .0)
-            (head before19) (before19 .pre .3),
-        before8 .fixed .kept .0,
-        c .before .before .before .lay-sid .kept .0,
-        before8 .before .before .before .pick .ensures .0,
-      ),
+    let b3 = c .before .before .before in
+    let b7 = b3 .before .before .before .before in
+    let b9 = b7 .before .before in
+    let b10 = b9 .before in
+    let b13 = b10 .before .before .before in
+    let b20 = b13 .before .before .before .before .before .before .before in
+    let t = b20 in
+    let k = picked (b10) in
+    let n = b9 .nai-length .ensures .0 in (
+      t .pre .0 .nai,
+      omega (arith, nai-most (t .pre .4) (t .args .h .nt)),
+      omega (arith, parts t, b3 .lay-sid .kept .0, b7 .fixed .kept .0, b13 .wide .ensures .0),
     )
 
 add-lay-structure : tie.Need-add-lay-structure
@@ -84,19 +97,25 @@ add-lay-structure-2 c = search needs
 
 lay-structure-requires : tie.Need-lay-structure-requires
 lay-structure-requires c κs =
-    let before12 = c .before .before .before .before .before .before .before .before .before .before .before .before in
-    let before23 = before12 .before .before .before .before .before .before .before .before .before .before .before in
-    let r = room
-    (segmentWith (before23 .args .o) (before23 .args .sid .now) (before23 .args .nai .now) (before23 .args .bits .now))
-    (before23 .args .h) (length (before23 .args .out .now)) (before23 .pre .0) (head before23) (before23 .pre .3) in
+    let b3 = c .before .before .before in
+    let b7 = b3 .before .before .before .before in
+    let b11 = b7 .before .before .before .before in
+    let b13 = b11 .before .before in
+    let b14 = b13 .before in
+    let b17 = b14 .before .before .before in
+    let b18 = b17 .before in
+    let b24 = b18 .before .before .before .before .before .before in
+    let t = b24 in
+    let k = picked (b14) in
+    let n = b13 .nai-length .ensures .0 in
     omega (
       arith,
-      before12 .fixed .kept .0,
-      c .before .before .before .before .before .before .before .lay-sid .kept .0,
-      c .before .before .before .lay-nai .kept .0,
-      before12 .before .before .before .pick .ensures .0,
-      before12 .before .before .nai-length .ensures .0,
-      ap (λ (x : Bool). cond {A = ℕ} x 8 0) (before12 .before .before .before .before .before .structured .ensures),
+      parts t,
+      b3 .lay-nai .kept .0,
+      b7 .lay-sid .kept .0,
+      b11 .fixed .kept .0,
+      b17 .wide .ensures .0,
+      ap (λ (x : Bool). cond {A = ℕ} x 8 0) (b18 .structured .ensures),
     )
 
 same-length : tie.Need-same-length
@@ -104,20 +123,21 @@ same-length c = search needs
 
 returns : tie.Need-returns
 returns c =
-    let before6 = c .before .before .before .before .before .before in
-    let before10 = before6 .before .before .before .before in
-    let before15 = before10 .before .before .before .before .before in
-    let before17 = before15 .before .before in
-    let before20 = before17 .before .before .before in
-    let before26 = before20 .before .before .before .before .before .before in
-    written-subobject
-    (segmentWith (before26 .args .o) (before26 .args .sid .now) (before26 .args .nai .now) (before26 .args .bits .now))
-    (before26 .args .h) (before20 .before .structure .result) (before26 .args .out .now) (before15 .fixed .last .0)
-    (before10 .lay-sid .last .0) (before6 .lay-nai .last .0) (c .before .before .lay-structure .last .0)
-    (before17 .before .pick .result) (before17 .nai-length .result) (before20 .structured .result) (before26 .pre .0)
-    (head before26) (before20 .before .structure .ensures) (before17 .before .pick .ensures .0)
-    (before17 .nai-length .ensures .0) (before20 .structured .ensures) (before26 .pre .3) (before15 .fixed .ensures)
-    (before10 .lay-sid .ensures) (before6 .lay-nai .ensures) (c .before .before .lay-structure .ensures)
+    let b2 = c .before .before in
+    let b6 = b2 .before .before .before .before in
+    let b10 = b6 .before .before .before .before in
+    let b14 = b10 .before .before .before .before in
+    let b16 = b14 .before .before in
+    let b17 = b16 .before in
+    let b20 = b17 .before .before .before in
+    let b21 = b20 .before in
+    let b22 = b21 .before in
+    let b27 = b22 .before .before .before .before .before in
+    let t = b27 in
+    written-subobject (t .pre .4) (seg t) (t .args .h) (b22 .structure .result) (t .args .out .now) (b14 .fixed .last .0) (b10 .lay-sid .last .0)
+    (b6 .lay-nai .last .0) (b2 .lay-structure .last .0) (b20 .wide .result) (b17 .pick .result) (b16 .nai-length .result)
+    (b21 .structured .result) (t .pre .0) (head t) (b22 .structure .ensures) (b20 .wide .ensures .0) (picked (b17)) (b16 .nai-length .ensures .0)
+    (b21 .structured .ensures) (t .pre .3) (b14 .fixed .ensures) (b10 .lay-sid .ensures) (b6 .lay-nai .ensures) (b2 .lay-structure .ensures)
 
 pub write-spec : {M : Type 1} → statement M
 write-spec =
@@ -125,6 +145,8 @@ write-spec =
     (tie.spec
     structure-requires
     structured-requires
+    wide-requires
+    wide-requires-2
     pick-requires
     nai-length-requires
     fixed-requires

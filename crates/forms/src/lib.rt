@@ -1,0 +1,134 @@
+// The two forms of a segment, each as its papers lay its subobject out: SRv6 (document 000, 4.3.1) and MPLS (RFC 8664, 4.3.1, and V of document 003).
+//
+//              SRv6                                   MPLS
+//   0          top bit L, low 7 bits the type 40      the type 36
+//   1          length of the whole subobject          the same
+//   2-3        NT (4 bits), 12 flags: V, T, F, S      V, F, S, C, M, the last the lowest
+//   4-5        reserved                               SID, 4, if S is 0: an index, or where M is 1 a label
+//   6-7        endpoint behaviour
+//   then       SID, 16, if S is 0
+//   then       NAI by NT                              NAI by NT
+//   then       SID structure, 8, if T is 1 and S is 0
+ghost use mathlib.Core.Path.{_≡_};
+ghost use Prim.Native.Nat.{_≤_};
+ghost use Rattle.forms.specs.Forms.{srv6Form, mplsForm, formOf, flagIn, naiLength, knows};
+
+// the setup type of MPLS
+const MPLS_SETUP: u64 = 1;
+
+// A form in numbers. A flag worth 0 is one that the form has not; an NAI of no octets belongs to an NT that it does not know.
+pub struct Form {
+    // the setup type that names it, and the type of its subobjects
+    pub setup: u8,
+    pub kind: u8,
+    // the octets before the SID, and those of the SID
+    pub fixed: u8,
+    pub sid: u8,
+    // what V, T, F, S, C and M are worth in octet 3, and the lowest flag that is not assigned
+    pub v: u8,
+    pub t: u8,
+    pub f: u8,
+    pub s: u8,
+    pub c: u8,
+    pub m: u8,
+    pub free: u8,
+    // whether octets 4 and 5 are reserved and octets 6 and 7 the endpoint behaviour
+    pub behaves: bool,
+    // the octets of the NAI for NT 1 to 6
+    pub nai1: u8,
+    pub nai2: u8,
+    pub nai3: u8,
+    pub nai4: u8,
+    pub nai5: u8,
+    pub nai6: u8,
+}
+
+pub fn srv6() -> Form
+    ensures form { λ r. ⌜ r ≡ srv6Form ⌝ }
+{
+    Form {
+        setup: 3,
+        kind: 40,
+        fixed: 8,
+        sid: 16,
+        v: 8,
+        t: 4,
+        f: 2,
+        s: 1,
+        c: 0,
+        m: 0,
+        free: 16,
+        behaves: true,
+        nai1: 0,
+        nai2: 16,
+        nai3: 0,
+        nai4: 32,
+        nai5: 0,
+        nai6: 40,
+    }
+}
+
+pub fn mpls() -> Form
+    ensures form { λ r. ⌜ r ≡ mplsForm ⌝ }
+{
+    Form {
+        setup: 1,
+        kind: 36,
+        fixed: 4,
+        sid: 4,
+        v: 16,
+        t: 0,
+        f: 8,
+        s: 4,
+        c: 2,
+        m: 1,
+        free: 32,
+        behaves: false,
+        nai1: 4,
+        nai2: 16,
+        nai3: 8,
+        nai4: 32,
+        nai5: 16,
+        nai6: 40,
+    }
+}
+
+// The form that a setup type names, SRv6's if it names none.
+pub fn named(pst: u64) -> Form
+    ensures form { λ r. ⌜ r ≡ formOf pst ⌝ }
+{
+    if pst == MPLS_SETUP {
+        return mpls();
+    }
+    srv6()
+}
+
+// The flag that is worth `worth` in an octet, as a number.
+pub fn flag(octet: usize, worth: u8) -> usize
+    ensures flag { λ r. ⌜ (r ≡ flagIn octet worth) × (r ≤ 1) ⌝ }
+{
+    let w = octets::wide(worth);
+    if w == 0 {
+        return 0;
+    }
+    octet / w % 2
+}
+
+// The octets of the NAI for an NT. Choices and not tests: with tests the compiler looks for the number in the form, and keeps no form in registers.
+pub fn nai_length(form: Form, nt: usize) -> usize
+    ensures length { λ r. ⌜ (r ≡ naiLength form nt) × (r ≤ 255) ⌝ }
+{
+    let six = octets::pick(nt == 6, octets::wide(form.nai6), 0);
+    let five = octets::pick(nt == 5, octets::wide(form.nai5), six);
+    let four = octets::pick(nt == 4, octets::wide(form.nai4), five);
+    let three = octets::pick(nt == 3, octets::wide(form.nai3), four);
+    let two = octets::pick(nt == 2, octets::wide(form.nai2), three);
+    octets::pick(nt == 1, octets::wide(form.nai1), two)
+}
+
+// Whether the form knows an NT; NT 0, no NAI, is known to all.
+pub fn known(form: Form, nt: usize) -> bool
+    ensures known { λ r. ⌜ r ≡ knows form nt ⌝ }
+{
+    octets::either(nt == 0, nai_length(form, nt) != 0)
+}

@@ -1,0 +1,40 @@
+// A nested walk over MPLS's subobjects and their checks, in which the compiler knows the form's numbers. It stops at the first broken rule, even inside a
+// subobject. What is set and ought to be 0 is no broken rule: the subobjects that are stray are counted.
+ghost use mathlib.Core.Path.{_≡_};
+ghost use mathlib.Core.Bool.{true};
+ghost use Prim.Native.Nat.{_≤_, _<_};
+ghost use lib.ListN.{length};
+ghost use Rattle.objects.specs.Objects.{header};
+ghost use Rattle.frame.specs.Frames.{apartOf};
+ghost use Rattle.forms.specs.Forms.{mplsForm};
+ghost use Rattle.route_walk.specs.Walk.{walkOf};
+use super::numbered;
+use answers::Verdict;
+
+// The first broken rule with the place of its subobject; else an acceptance of `count` segments, with how many of them are stray.
+pub fn walk_mpls(s: &[u8], ero: bool, n: bool, count: usize) -> Verdict
+    requires { ⌜ (header ≤ length (now s)) × (length (now s) < 65536) × (apartOf (now s) .whole ≡ true) ⌝ }
+    ensures walked { λ r. ⌜ r ≡ walkOf mplsForm (now (s .entry)) ero n count ⌝ }
+{
+    let form = forms::mpls();
+    let end = s.len();
+    let mut at: usize = objects::HEADER;
+    let mut stray: usize = 0;
+    'walk: loop {
+        if at == end {
+            break 'walk answers::carrying(count, stray);
+        }
+        let h = subobject::head_at(form, s, at, ero);
+        let next = at + h.size;
+        let mut k: usize = 0;
+        while k < numbered::RULES {
+            let number = numbered::ORDER[k];
+            if numbered::breaks(form, s, at, h, ero, n, number) {
+                break 'walk answers::refused(number, numbered::place(number, at));
+            }
+            k = k + 1;
+        }
+        stray = stray + subobject::stray_of(form, s, at, h);
+        at = next;
+    }
+}
