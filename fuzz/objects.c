@@ -1,6 +1,6 @@
 /* A target for libFuzzer over the archive and the header: any octets are taken as a PCC OPEN, a PCE OPEN and a route, cut as the checking
  * program cuts, and put through every call, once as an SRv6 route and once as an MPLS one. It stops where two calls disagree. tests/library.sh builds it
- * and runs it for a moment.
+ * and runs it for a moment. Without libFuzzer, stored.c is the program around it.
  *
  *     rt staticlib strundevi
  *     clang -g -O1 -fsanitize=fuzzer,address -I include fuzz/objects.c target/staticlib/libstrundevi.a -o target/fuzz-objects

@@ -13,7 +13,7 @@
  *
  * Stack: no call recurses, and none needs more than 2,048 octets of stack, the caller's own records apart.
  *
- * Threads: strundevi_body, strundevi_next and strundevi_fresh_mark only read, so any number of readers may ask one board at once. While
+ * Threads: strundevi_body, _next, _moved and _fresh_mark only read, so any number of readers may ask one board at once. While
  * strundevi_empty, _report, _remove or _compact runs, nobody else may use that board or its store. Different boards have nothing in common.
  *
  * A path's octets stay in the store: who was handed a path copies them before the board is changed again.

@@ -8,10 +8,10 @@ cd "$(dirname "$0")/.."
 out=target/pages
 rm -rf "$out"
 mkdir -p "$out"
-console=rust/target/release/reference-console
+console() { "${STRUNDEVI_BIN:-rust/target/release}/reference-console"; }
 if [ "${1:-}" = proved ]; then
     rt check console > "$out/log" 2>&1 || { cat "$out/log"; exit 1; }
-    console=target/bin/console
+    console() { tests/emulate.sh target/bin/console; }
 fi
 faults=0
 fault() {
@@ -87,7 +87,7 @@ for page in README.md docs/CONSOLE.md; do
     ' "$page"
     for typed in "$folder"/*.in; do
         example=${typed%.in}
-        "$console" < "$typed" | tail -n "+$(($(cat "$example.skip") + 1))" > "$example.told"
+        console < "$typed" | tail -n "+$(($(cat "$example.skip") + 1))" > "$example.told"
         diff "$example.out" "$example.told" > "$example.diff" || {
             cat "$typed" "$example.diff"
             fault "an example of $page answers otherwise"

@@ -3,16 +3,18 @@
 #
 #     tests/planted.py [WORD ..]      only the faults that have one of these words in their names
 #
-# Needs the archive (`rt staticlib strundevi`). Prints a line for each fault and ends with status 1 if one was let pass, or does not compile and so shows
-# nothing. It takes a quarter of an hour, and is no part of the gate.
+# Needs the archive (`rt staticlib strundevi`); STRUNDEVI_LIB names the folder of another, such as that of `tools/native`. Prints a line for each fault and ends
+# with status 1 if one was let pass, or does not compile and so shows nothing. It takes some minutes, and is no part of the gate.
+import filecmp
 import os
+import resource
 import shutil
 import subprocess
 import sys
 
 ROOT = os.path.dirname(os.path.dirname(os.path.abspath(__file__)))
 COPY = os.path.join(ROOT, "target", "planted")
-ARCHIVE = os.path.join(ROOT, "target", "staticlib")
+ARCHIVE = os.path.abspath(os.environ.get("STRUNDEVI_LIB") or os.path.join(ROOT, "target", "staticlib"))
 HEADER = "include/strundevi.h"
 WRAPPER = "rust/strundevi/src/"
 REFERENCE = "rust/reference/src/"
@@ -83,6 +85,10 @@ FAULTS = {
     "level at 0": (HEADER, "    mark.s = version;\n    mark.w = version;\n", "    mark.s = version;\n    mark.w = version & 0;\n"),
     "words of 17 for 18": (HEADER, 'return "not a board";', 'return "key out of range";'),
     "PCErr of an ERO for an RRO": (HEADER, "mixed_rro = {10, 36}", "mixed_rro = {10, 20}"),
+    "positions of A and R swapped": (HEADER, "    uint64_t a;\n    uint64_t r;\n} strundevi_setup;", "    uint64_t r;\n    uint64_t a;\n} strundevi_setup;"),
+    "moved of the range backwards": (HEADER, "strundevi_lent(store, size), from, to, v);", "strundevi_lent(store, size), to, from, v);"),
+    "moved of one key less": (HEADER, "strundevi_lent(store, size), from, to, v);", "strundevi_lent(store, size), from, to - (to > from), v);"),
+    "flags and reserved of a stray segment swapped": (HEADER, "    uint8_t sflags;   /* the flag octet of the SID structure; 0 without one */\n    uint8_t reserved; /* 1 if a reserved octet is not 0, else 0 */\n", "    uint8_t reserved; /* 1 if a reserved octet is not 0, else 0 */\n    uint8_t sflags;   /* the flag octet of the SID structure; 0 without one */\n"),
     # ---- the wrapper
     "wrapper: sides of agree swapped": (WRAPPER + "open.rs", "raw::agree(opened(pcc), opened(pce))", "raw::agree(opened(pce), opened(pcc))"),
     "wrapper: a limit where there is none": (WRAPPER + "open.rs", "(there != 0).then_some(value)", "(there == 0).then_some(value)"),
@@ -139,6 +145,10 @@ FAULTS = {
     "wrapper: L and V swapped at the border": (WRAPPER + "raw.rs", "Outline { loose, verify, nt,", "Outline { loose: verify, verify: loose, nt,"),
     "wrapper: version lent for the floor": (WRAPPER + "raw.rs", "&mut b.lengths, &mut b.version, b.floor, &mut b.order", "&mut b.lengths, &mut b.version, b.version, &mut b.order"),
     "wrapper: SRv6 and N of an OPEN swapped": (WRAPPER + "raw.rs", "    pub srv6: u8,\n    pub n: u8,\n", "    pub n: u8,\n    pub srv6: u8,\n"),
+    "wrapper: positions of A and R swapped": (WRAPPER + "open.rs", "raw::Setup { a: at.a, r: at.r }", "raw::Setup { a: at.r, r: at.a }"),
+    "wrapper: moved of the range's start alone": (WRAPPER + "board.rs", "*keys.start(), *keys.end(), v)", "*keys.start(), *keys.start(), v)"),
+    "wrapper: moved says no for yes": (WRAPPER + "board.rs", "counts.segments == 1)", "counts.segments != 1)"),
+    "wrapper: flags of the structure dropped": (WRAPPER + "route.rs", "structure: r.sflags,", "structure: r.sflags & 0,"),
     # ---- the reference, which must be found to differ from the proved code
     "reference: limit of the PCE": (REFERENCE + "session.rs", "let Open { n, limit, v, m, .. } = pcc;", "let Open { n, limit, v, m, .. } = pce;"),
     "reference: MPLS's limit of the PCE": (REFERENCE + "session.rs", "pcc.mpls.filter(|_| pce.mpls.is_some())", "pce.mpls.filter(|_| pcc.mpls.is_some())"),
@@ -171,36 +181,57 @@ FAULTS = {
     "reference: objects up to 65,536 octets": (REFERENCE + "writer.rs", "MOST_OCTETS: usize = 65_532;", "MOST_OCTETS: usize = 65_536;"),
     "reference: removal at c kept": (REFERENCE + "board.rs", "self.versions[i] <= c", "self.versions[i] < c"),
     "reference: change at w handed out again": (REFERENCE + "board.rs", "version > w &&", "version >= w &&"),
+    "reference: moved at its own version": (REFERENCE + "board.rs", "self.versions[i] > v", "self.versions[i] >= v"),
+    "reference: the structure's reserved octets not stray": (REFERENCE + "srv6.rs", "strays.reserved |= last[0] != 0 ||", "strays.reserved |="),
     "reference: too old at the floor": (REFERENCE + "board.rs", "if self.floor > s.max(w) {", "if self.floor >= s.max(w) {"),
 }
 
-ENV = dict(os.environ, STRUNDEVI_LIB=ARCHIVE, CARGO_TARGET_DIR=os.path.join(COPY, "cargo"), CARGO_PROFILE_RELEASE_OPT_LEVEL="1")
+ENV = dict(os.environ, STRUNDEVI_LIB=ARCHIVE, CARGO_TARGET_DIR=os.path.join(COPY, "cargo"), CARGO_PROFILE_RELEASE_OPT_LEVEL="1", CARGO_INCREMENTAL="1")
 
 
-def run(*words, out=None):
-    """Whether the command ends well, and writes what it should."""
-    done = subprocess.run(words, cwd=COPY, env=ENV, stdout=subprocess.PIPE, stderr=subprocess.STDOUT, timeout=900)
-    return done.returncode == 0 and (out is None or done.stdout == open(os.path.join(COPY, out), "rb").read())
+def built(*words):
+    return subprocess.run(words, cwd=COPY, env=ENV, stdout=subprocess.DEVNULL, stderr=subprocess.DEVNULL).returncode == 0
+
+
+def limit():
+    """A fault may make a test go on for ever, or write for ever."""
+    resource.setrlimit(resource.RLIMIT_CPU, (120, 120))
+    resource.setrlimit(resource.RLIMIT_FSIZE, (1 << 20, 1 << 20))
+
+
+def passes(command, out):
+    """Whether the test ends well, and writes what it should."""
+    told = os.path.join(COPY, "told")
+    with open(told, "wb") as file:
+        done = subprocess.run(command.split(), cwd=COPY, env=ENV, stdout=file, stderr=subprocess.STDOUT, preexec_fn=limit)
+    return done.returncode == 0 and (out is None or filecmp.cmp(told, os.path.join(COPY, out), shallow=False))
 
 
 def cc(source, name):
-    return run("cc", "-std=c99", "-pedantic", "-Wall", "-Wextra", "-Werror", "-O1", "-I", "include", source, os.path.join(ARCHIVE, "libstrundevi.a"), "-o", name)
+    return built("cc", "-std=c99", "-pedantic", "-Wall", "-Wextra", "-Werror", "-O1", "-I", "include", source, os.path.join(ARCHIVE, "libstrundevi.a"), "-o", name)
 
 
 def cargo(*words):
-    return run("cargo", "build", "--quiet", "--release", "--offline", "--manifest-path", "rust/Cargo.toml", *words)
+    return built("cargo", "build", "--quiet", "--release", "--offline", "--manifest-path", "rust/Cargo.toml", *words)
 
 
-# A fault in the header changes nothing of the wrapper's example, and so on: only what a fault can change is built and run.
-def build(header, wrapper):
-    c = not header or (cc("tests/header.c", "header") and cc("tests/boundary.c", "boundary") and cc("examples/route.c", "route") and cc("examples/mpls.c", "mpls"))
-    return c and cargo("--package", "differ") and (not wrapper or cargo("--package", "strundevi", "--example", "route", "--example", "mpls"))
+# What is built and run in turn. A fault in the header changes nothing of the wrapper's examples, and so on: only what a fault can change is.
+def steps(header, wrapper):
+    for source in ["tests/header", "tests/boundary", "examples/route", "examples/mpls", "examples/follow"] if header else []:
+        name = os.path.basename(source)
+        yield cc(source + ".c", name), "./" + name, source + ".out" if source.startswith("examples") else None
+    for name in ["route", "mpls", "follow"] if wrapper else []:
+        yield cargo("--package", "strundevi", "--example", name), "cargo/release/examples/" + name, f"rust/strundevi/examples/{name}.out"
+    yield cargo("--package", "differ"), "cargo/release/differ 1 60000 40000", None
 
 
-def pass_all(header, wrapper):
-    c = not header or (run("./header") and run("./boundary") and run("./route", out="examples/route.out") and run("./mpls", out="examples/mpls.out"))
-    rust = not wrapper or all(run("cargo/release/examples/" + name, out=f"rust/strundevi/examples/{name}.out") for name in ("route", "mpls"))
-    return c and rust and run("cargo/release/differ", "1", "60000", "40000")
+def verdict(header, wrapper):
+    for compiled, command, out in steps(header, wrapper):
+        if not compiled:
+            return "does not compile"
+        if not passes(command, out):
+            return "found"
+    return "let pass"
 
 
 def copy():
@@ -215,7 +246,7 @@ def write(path, text):
 
 def main(words):
     copy()
-    if not (build(True, True) and pass_all(True, True)):
+    if verdict(True, True) != "let pass":
         sys.exit("planted: the tests do not pass without a fault")
     found, other = 0, []
     chosen = {name: fault for name, fault in FAULTS.items() if not words or any(word in name for word in words)}
@@ -227,11 +258,10 @@ def main(words):
                 sys.exit(f"planted: {name}: {old!r} stands {wrong.count(old)} times in {path}")
             wrong = wrong.replace(old, new)
         write(path, wrong)
-        parts = (path == HEADER, path.startswith(WRAPPER))
-        verdict = "does not compile" if not build(*parts) else "let pass" if pass_all(*parts) else "found"
+        told = verdict(path == HEADER, path.startswith(WRAPPER))
         write(path, whole)
-        print(f"{name}: {verdict}", flush=True)
-        if verdict == "found":
+        print(f"{name}: {told}", flush=True)
+        if told == "found":
             found += 1
         else:
             other.append(name)

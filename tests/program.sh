@@ -9,11 +9,11 @@ cd "$(dirname "$0")/.."
 out=target/program
 rm -rf "$out"
 mkdir -p "$out"
-program=$PWD/rust/target/release/strundevi
-checker=rust/target/release/reference-checker
+program=${STRUNDEVI_BIN:-$PWD/rust/target/release}/strundevi
+checker() { "${STRUNDEVI_BIN:-rust/target/release}/reference-checker"; }
 if [ "${1:-}" = proved ]; then
     rt check checker > "$out/log" 2>&1 || { cat "$out/log"; exit 1; }
-    checker=target/bin/checker
+    checker() { tests/emulate.sh target/bin/checker; }
 fi
 faults=0
 fault() {
@@ -36,7 +36,7 @@ expect() {
 
 # The same input, in $out/in, to the checking program; the status is that of its number.
 as_checked() {
-    line=$("$checker" < "$out/in")
+    line=$(checker < "$out/in")
     case $line in
         "0 "*) expect 0 check --plain - ;;
         *) expect 1 check --plain - ;;

@@ -60,7 +60,7 @@ unfolding freshB
 walk-ends xs i k p w z = sym (all-of (λ j. not (eqb (getD xs j 0) k)) i (λ j l. rw (ne-eqb (getD xs j 0) k (w .past j l (omega arith)))))
 
 -- ---- one place more
-pub chain-heads : (xs hs : List ℕ) (i : ℕ) → Heads xs hs i → (getD xs i 0 ≡ 0 → ⊥) → slotOf (getD xs i 0) < 512 → Heads xs (set hs (slotOf (getD xs i 0)) (i + 1)) (i + 1)
+pub chain-heads : (xs hs : List ℕ) (i : ℕ) → Heads xs hs i → (getD xs i 0 ≡ 0 → ⊥) → slotOf (getD xs i 0) < 1024 → Heads xs (set hs (slotOf (getD xs i 0)) (i + 1)) (i + 1)
 chain-heads xs hs i h u b =
     let s = slotOf (getD xs i 0) in
     let r : s < length hs = omega (arith, h .size) in
@@ -89,9 +89,9 @@ chain-links xs hs ns i h n l u =
 zeros : (n j : ℕ) → getD {A = ℕ} (replicate n 0) j 0 ≡ 0
 zeros n j = ⊎-elim (λ l. List·getD-eq-default (replicate n 0) 0 (omega (arith, length-replicate {A = ℕ} n 0))) (λ l. getD-replicate n j 0 0 l) (from? n j)
 
-pub no-heads : (xs : List ℕ) → Heads xs (replicate 512 0) 0
+pub no-heads : (xs : List ℕ) → Heads xs (replicate 1024 0) 0
 no-heads xs =
-    record { size = length-replicate {A = ℕ} 512 0; low = λ g. omega (arith, zeros 512 g); node = λ g q. absurd (omega (arith, zeros 512 g)); all = λ j l v. absurd (omega arith) }
+    record { size = length-replicate {A = ℕ} 1024 0; low = λ g. omega (arith, zeros 1024 g); node = λ g q. absurd (omega (arith, zeros 1024 g)); all = λ j l v. absurd (omega arith) }
 
 pub no-links : (xs : List ℕ) → Links xs (replicate 128 0) 0
 no-links xs =
@@ -108,11 +108,11 @@ pub record Hashed (xs hs ns : List ℕ) (i : ℕ) : Type 0 where
   pub links : Links xs ns i
   pub fine : allBelow (newB xs) i ≡ true
 
-pub hashed-none : (xs : List ℕ) → Hashed xs (replicate 512 0) (replicate 128 0) 0
+pub hashed-none : (xs : List ℕ) → Hashed xs (replicate 1024 0) (replicate 128 0) 0
 hashed-none xs = record { heads = no-heads xs; links = no-links xs; fine = all-none (newB xs) }
 
 pub hashed-more : (xs hs ns : List ℕ) (i k h : ℕ) (r : Bool) → Hashed xs hs ns i → i < 128 → (getD xs i 0 ≡ 0 → ⊥) → k ≡ getD xs i 0
-    → h ≡ slotOf k → h < 512 → r ≡ freshB xs i (getD xs i 0) → not r ≡ false
+    → h ≡ slotOf k → h < 1024 → r ≡ freshB xs i (getD xs i 0) → not r ≡ false
     → Hashed xs (set hs h (i + 1)) (set ns i (getD hs h 0)) (i + 1)
 hashed-more xs hs ns i k h r c l u g o b f n =
     let e : h ≡ slotOf (getD xs i 0) = rw g at o in

@@ -1,3 +1,4 @@
+pub mod Bodies
 pub mod Laws
 pub mod Rows
 pub mod Passing

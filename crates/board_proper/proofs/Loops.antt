@@ -1,82 +1,65 @@
--- The two loops over what the order does not name: a count, and the highest number. Assumes nothing.
-use Prim.Native.Nat.{ℕ, zero, suc, _+_, _<_, _≤_}
+-- The loops that look at every place: what they count. Assumes nothing.
+use Prim.Native.Nat.{ℕ, zero, suc, _+_, _-_, _<_, _≤_}
 use native.Mathlib.Numerals.{add-one}
 use native.Mathlib.Omega.{arith}
-use mathlib.Core.Path.{_≡_, refl, sym, ap, _∙_}
-use mathlib.Core.Bool.{Bool, true, false, cond, _&&_, _||_}
-use mathlib.Core.List.{List}
-use mathlib.Core.Logic.{_⊎_, inl, inr, ⊎-elim}
-use lib.ListN.{getD}
-use lib.Dec.{eqb, ltb}
-use borrow.Author.Tests.{eq-eqb, ne-eqb, lt-ltb, le-ltb, ltb-true, ltb-false}
+use mathlib.Core.Path.{_≡_, refl, ap}
+use mathlib.Core.Bool.{Bool, true, false, not, cond, _&&_}
+use mathlib.Core.Logic.{⊎-elim}
+use lib.Dec.{eqb}
+use borrow.Author.Tests.{eq-eqb, eqb-true}
 use Rattle.board_record.specs.Sizes.{places}
 use Rattle.board_record.specs.Lists.{countBelow}
 use Rattle.board_record.specs.Proper.{allBelow}
-use Rattle.board_record.proofs.Logic.{same?, from?}
-use Rattle.board_record.proofs.All.{all-of, all-fails}
-use Rattle.board_proper.specs.Places.{emptyB, clearB}
+use Rattle.board_record.proofs.Logic.{from?, test-is}
+use Rattle.board_record.proofs.Lists.{count-most, count-full, count-less, count-not}
+use Rattle.board_record.proofs.All.{all-of, all-at}
 
--- ---- the count
+-- ---- a count
 pub count-none : (t : ℕ → Bool) → 0 ≡ countBelow t 0
 unfolding countBelow
 count-none t = refl
 
-pub count-more : (ks vs ls fs : List ℕ) (i n x : ℕ) → n ≡ countBelow (emptyB ks vs ls fs) i → x ≡ cond (eqb (getD ks i 0) 0 && eqb (getD vs i 0) 0 && eqb (getD ls i 0) 0 && eqb (getD fs i 0) 0) 1 0
-    → n + x ≡ countBelow (emptyB ks vs ls fs) (i + 1)
-unfolding countBelow emptyB
-count-more ks vs ls fs i n x e f = rw (add-one i, countBelow, emptyB, f) (go (eqb (getD ks i 0) 0 && eqb (getD vs i 0) 0 && eqb (getD ls i 0) 0 && eqb (getD fs i 0) 0))
+pub count-more : (t : ℕ → Bool) (i n x : ℕ) → n ≡ countBelow t i → x ≡ cond (t i) 1 0 → n + x ≡ countBelow t (i + 1)
+unfolding countBelow
+count-more t i n x e f = rw (add-one i, countBelow, f) (go (t i))
   where
-    go : (t : Bool) → n + cond t 1 0 ≡ cond t (suc (countBelow (emptyB ks vs ls fs) i)) (countBelow (emptyB ks vs ls fs) i)
+    go : (y : Bool) → n + cond y 1 0 ≡ cond y (suc (countBelow t i)) (countBelow t i)
     go true = omega (arith, e)
     go false = omega (arith, e)
-
-pub one-most : (ks vs ls fs : List ℕ) (i x : ℕ) → x ≡ cond (eqb (getD ks i 0) 0 && eqb (getD vs i 0) 0 && eqb (getD ls i 0) 0 && eqb (getD fs i 0) 0) 1 0 → x ≤ 1
-one-most ks vs ls fs i x e = go (eqb (getD ks i 0) 0 && eqb (getD vs i 0) 0 && eqb (getD ls i 0) 0 && eqb (getD fs i 0) 0) e
-  where
-    go : (t : Bool) → x ≡ cond t 1 0 → x ≤ 1
-    go true f = omega (arith, f)
-    go false f = omega (arith, f)
 
 pub count-end : (t : ℕ → Bool) (i n : ℕ) → i ≤ places → places ≤ i → n ≡ countBelow t i → n ≡ countBelow t places
 count-end t i n h l e = let q : i ≡ 128 = omega arith in rw q at e
 
--- ---- the highest number
-pub record Highest (order : List ℕ) (from i most : ℕ) : Type 0 where
-  pub above : (j : ℕ) → from ≤ j → j < i → getD order j 0 ≤ most
-  pub is : (most ≡ 0) ⊎ ((j : ℕ) × (from ≤ j) × (j < i) × (getD order j 0 ≡ most))
-
-pub highest-none : (order : List ℕ) (from : ℕ) → Highest order from from 0
-highest-none order from = record { above = λ j h l. absurd (omega arith); is = inl refl }
-
-pub highest-more : (order : List ℕ) (from i most r : ℕ) → Highest order from i most → from ≤ i → r ≡ cond (ltb most (getD order i 0)) (getD order i 0) most
-    → Highest order from (i + 1) r
-highest-more order from i most r s h e = go (ltb most (getD order i 0)) refl e (s .is)
+-- it fits an octet
+pub count-small : (t : ℕ → Bool) (i n x : ℕ) → i < places → n ≡ countBelow t i → x ≡ cond (t i) 1 0 → n + x ≤ places
+count-small t i n x l e f = omega (arith, count-most t i, e, one (t i) f)
   where
-    more : (j : ℕ) → from ≤ j → j < i + 1 → most ≤ r → getD order i 0 ≤ r → getD order j 0 ≤ r
-    more j k l f g = ⊎-elim (λ z. omega (arith, ap (λ (y : ℕ). getD order y 0) z)) (λ d. omega (arith, s .above j k (omega (arith, d)))) (same? j i)
+    one : (y : Bool) → x ≡ cond y 1 0 → x ≤ 1
+    one true q = omega arith
+    one false q = omega arith
 
-    go : (t : Bool) → ltb most (getD order i 0) ≡ t → r ≡ cond t (getD order i 0) most → (most ≡ 0) ⊎ ((j : ℕ) × (from ≤ j) × (j < i) × (getD order j 0 ≡ most))
-        → Highest order from (i + 1) r
-    go true q f y =
-        record { above = λ j k l. more j k l (omega (arith, f, ltb-true most (getD order i 0) q)) (omega (arith, f)); is = inr (i, h, omega arith, sym f) }
-    go false q f (inl z) =
-        record { above = λ j k l. more j k l (omega (arith, f)) (omega (arith, f, ltb-false most (getD order i 0) q)); is = inl (f ∙ z) }
-    go false q f (inr y) =
-        record {
-          above = λ j k l. more j k l (omega (arith, f)) (omega (arith, f, ltb-false most (getD order i 0) q));
-          is = inr (y .0, y .1, omega (arith, y .2), y .3 ∙ sym f);
-        }
+-- where the first i fail and the others pass
+pub cut-count : (t : ℕ → Bool) (i n : ℕ) → i ≤ n → ((j : ℕ) → j < i → t j ≡ false) → ((j : ℕ) → i ≤ j → j < n → t j ≡ true) → countBelow t n ≡ n - i
+unfolding countBelow
+cut-count t i zero l f g = omega arith
+cut-count t i (suc n) l f g =
+    ⊎-elim (λ h. rw (countBelow, g n h (omega arith)) (omega (arith, cut-count t i n h f (λ j y k. g j y (omega arith)))))
+    (λ h. omega (arith, count-not t (suc n), count-full (λ j. not (t j)) (suc n) (λ j k. rw (f j (omega arith))))) (from? i n)
 
-pub highest-clear : (order : List ℕ) (from i most : ℕ) → Highest order from i most → places ≤ i → i ≤ places → eqb most 0 ≡ clearB order from
-unfolding clearB
-highest-clear order from i most s h l = ⊎-elim yes no (same? most 0)
+-- one for a place of which four things hold
+pub one-of-four : (a b d e r s t y : Bool) → r ≡ (a && b) → s ≡ (r && d) → t ≡ (s && e) → t ≡ y → _≡_ {A = ℕ} (cond y 1 0) (cond (a && b && d && e) 1 0)
+one-of-four a b d e r s t y p q o z = let w : y ≡ (a && b && d && e) = cc in ap (λ (x : Bool). cond {A = ℕ} x 1 0) w
+
+-- ---- all pass where none fails
+pub none-fails : (t : ℕ → Bool) (m n : ℕ) → n ≡ countBelow (λ i. not (t i)) m → eqb n 0 ≡ allBelow t m
+none-fails t m n e = test-is (eqb n 0) (allBelow t m) all none
   where
-    yes : most ≡ 0 → eqb most 0 ≡ allBelow (λ j. ltb j from || eqb (getD order j 0) 0) 128
-    yes e =
-        rw (eq-eqb most 0 e) (sym (all-of (λ j. ltb j from || eqb (getD order j 0) 0) 128
-        (λ j k. ⊎-elim (λ y. rw (le-ltb j from y, eq-eqb (getD order j 0) 0 (omega (arith, s .above j y (omega arith), e)))) (λ y. rw (lt-ltb j from y)) (from? from j))))
+    all : eqb n 0 ≡ true → allBelow t m ≡ true
+    all z = all-of t m (λ i l. go i l (t i) refl)
+      where
+        go : (i : ℕ) → i < m → (y : Bool) → t i ≡ y → t i ≡ true
+        go i l true q = q
+        go i l false q = absurd (omega (arith, count-less t m i l q, count-not t m, e, eqb-true n 0 z))
 
-    no : (most ≡ 0 → ⊥) → eqb most 0 ≡ allBelow (λ j. ltb j from || eqb (getD order j 0) 0) 128
-    no d = ⊎-elim (λ z. absurd (d z))
-        (λ (y : (j : ℕ) × (from ≤ j) × (j < i) × (getD order j 0 ≡ most)). rw (ne-eqb most 0 d) (sym (all-fails (λ j. ltb j from || eqb (getD order j 0) 0) 128 (y .0) (omega (arith, y .2))
-        (rw (le-ltb (y .0) from (y .1), ne-eqb (getD order (y .0) 0) 0 (λ z. d (sym (y .3) ∙ z))))))) (s .is)
+    none : allBelow t m ≡ true → eqb n 0 ≡ true
+    none a = eq-eqb n 0 (omega (arith, count-not t m, count-full t m (all-at t m a), e))

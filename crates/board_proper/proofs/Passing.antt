@@ -9,14 +9,14 @@ use mathlib.Core.List.{List}
 use mathlib.Core.Logic.{_⊎_, inl, inr, ⊎-elim}
 use lib.ListN.{getD}
 use lib.Dec.{eqb, ltb, leb}
-use borrow.Author.Tests.{eq-eqb, ne-eqb, eqb-true, eqb-false, lt-ltb, le-ltb, ltb-true, le-leb, leb-true, not-true, not-false}
+use borrow.Author.Tests.{eq-eqb, ne-eqb, eqb-true, eqb-false, le-leb, lt-leb, leb-true, not-true}
 use Rattle.objects.specs.Objects.{unit}
 use Rattle.board_record.specs.Sizes.{places, room, keyMost, versionMost, bodyLeast}
 use Rattle.board_record.specs.Lists.{row, countBelow}
 use Rattle.board_record.specs.Table.{Table, Entry, keyAt, versionAt, lengthAt, formAt, entryAt, Used, usedB}
 use Rattle.board_record.specs.Proper.{Proper, IsForm, allBelow, pathOk, freshB, newB, properB}
 use Rattle.board_record.specs.Order.{named, placeOn, OnRow, Chained, inOrder}
-use Rattle.octets.proofs.Said.{both-true}
+use Rattle.octets.proofs.Said.{both-true, said-yes}
 use Rattle.board_record.proofs.Logic.{true≢false, same?, from?}
 use Rattle.board_record.proofs.Lists.{count-same, count-full, count-most, count-less, count-equal, count-not, Hit, hits, hits-where, count-hits}
 use Rattle.board_record.proofs.All.{all-at, all-of, all-fails}
@@ -25,8 +25,9 @@ use Rattle.board_record.proofs.Proper.{Sound, body-is, is-body, proper-sound, s
 use Rattle.board_order.proofs.Names.{named-none}
 use Rattle.board_order.proofs.Chains.{proper-apart, once, chain-apart, chained-in, in-chained, chained-count, count-chained}
 use Rattle.board_proper.specs.Chain.{along}
-use Rattle.board_proper.specs.Places.{usedOk, emptyB, clearB}
+use Rattle.board_proper.specs.Places.{bodyB, emptyB}
 use Rattle.board_proper.proofs.Laws.{along-at}
+use Rattle.board_proper.proofs.Loops.{cut-count}
 use Rattle.board_proper.proofs.Rows.{Risen, risen-none, risen-more, risen-once}
 
 -- ---- a used place by itself
@@ -40,38 +41,29 @@ pub record Fit (e : Entry) (floor : ℕ) : Type 0 where
   pub form : (e .length ≡ 0 → ⊥) → IsForm (e .form)
   pub bare : e .length ≡ 0 → e .form ≡ 0
 
-pub fit : (e : Entry) (floor : ℕ) → usedOk e floor ≡ true → Fit e floor
-unfolding usedOk
-fit e floor t = go (eqb (e .length) 0) refl (p .1)
+pub fit : (e : Entry) (floor : ℕ) → bodyB (e .length) (e .form) ≡ true → e .key ≤ keyMost → (e .key ≡ 0 → ⊥) → (e .length ≡ 0 → floor < e .version) → Fit e floor
+unfolding bodyB
+fit e floor t k u m = go (eqb (e .length) 0) refl t
   where
-    p : (not (eqb (e .key) 0) && leb (e .key) keyMost ≡ true)
-        × (cond (eqb (e .length) 0) (eqb (e .form) 0 && ltb floor (e .version)) (pathOk (e .length) (e .form)) ≡ true)
-    p = both-true (not (eqb (e .key) 0) && leb (e .key) keyMost) _ t
-
-    q : (not (eqb (e .key) 0) ≡ true) × (leb (e .key) keyMost ≡ true)
-    q = both-true (not (eqb (e .key) 0)) (leb (e .key) keyMost) (p .0)
-
-    go : (x : Bool) → eqb (e .length) 0 ≡ x
-        → cond x (eqb (e .form) 0 && ltb floor (e .version)) (pathOk (e .length) (e .form)) ≡ true → Fit e floor
+    go : (x : Bool) → eqb (e .length) 0 ≡ x → cond x (eqb (e .form) 0) (pathOk (e .length) (e .form)) ≡ true → Fit e floor
     go true z h =
         let n = eqb-true (e .length) 0 z in
-        let s = both-true _ _ h in
         record {
-          used = eqb-false (e .key) 0 (not-true (eqb (e .key) 0) (q .0));
-          key = leb-true (e .key) keyMost (q .1);
-          mark = λ y. ltb-true floor (e .version) (s .1);
+          used = u;
+          key = k;
+          mark = m;
           least = λ y. absurd (y n);
           most = omega arith;
           four = omega arith;
           form = λ y. absurd (y n);
-          bare = λ y. eqb-true (e .form) 0 (s .0);
+          bare = λ y. eqb-true (e .form) 0 h;
         }
     go false z h =
         let s = body-is (e .length) (e .form) h in
         record {
-          used = eqb-false (e .key) 0 (not-true (eqb (e .key) 0) (q .0));
-          key = leb-true (e .key) keyMost (q .1);
-          mark = λ y. absurd (eqb-false (e .length) 0 z y);
+          used = u;
+          key = k;
+          mark = m;
           least = λ y. s .least;
           most = s .most;
           four = s .four;
@@ -79,14 +71,12 @@ fit e floor t = go (eqb (e .length) 0) refl (p .1)
           bare = λ y. absurd (eqb-false (e .length) 0 z y);
         }
 
-is-fit : (e : Entry) (top floor : ℕ) → Sound e top floor → (e .key ≡ 0 → ⊥) → usedOk e floor ≡ true
-unfolding usedOk
-is-fit e top floor s u = rw (ne-eqb (e .key) 0 u, le-leb (e .key) keyMost (s .key)) (go (eqb (e .length) 0) refl)
+sound-body : (e : Entry) (top floor : ℕ) → Sound e top floor → bodyB (e .length) (e .form) ≡ true
+unfolding bodyB
+sound-body e top floor s = go (eqb (e .length) 0) refl
   where
-    go : (x : Bool) → eqb (e .length) 0 ≡ x → cond x (eqb (e .form) 0 && ltb floor (e .version)) (pathOk (e .length) (e .form)) ≡ true
-    go true z =
-        let n = eqb-true (e .length) 0 z in
-        rw (eq-eqb (e .form) 0 (s .bare n), lt-ltb floor (e .version) (s .mark u n))
+    go : (x : Bool) → eqb (e .length) 0 ≡ x → cond x (eqb (e .form) 0) (pathOk (e .length) (e .form)) ≡ true
+    go true z = eq-eqb (e .form) 0 (s .bare (eqb-true (e .length) 0 z))
     go false z =
         let n = eqb-false (e .length) 0 z in
         is-body (e .length) (e .form) (record { four = s .four; form = s .form n; least = s .least n; most = s .most })
@@ -106,6 +96,14 @@ fit-sound e top floor f l h =
       bare = f .bare;
     }
 
+-- what all places have, and what is found at one of them
+pub fit-at : (b : Table) (r s : Bool) → r ≡ allBelow (λ i. bodyB (lengthAt b i) (formAt b i)) places → not r ≡ false
+    → s ≡ allBelow (λ i. leb (keyAt b i) keyMost) places → not s ≡ false
+    → (x : ℕ) → x < places → Used b x → (lengthAt b x ≡ 0 → b .floor < versionAt b x) → Fit (entryAt b x) (b .floor)
+fit-at b r s e n f m x l u k =
+    fit (entryAt b x) (b .floor) (all-at (λ i. bodyB (lengthAt b i) (formAt b i)) 128 (said-yes r _ e n) x l)
+    (leb-true (keyAt b x) keyMost (all-at (λ i. leb (keyAt b i) keyMost) 128 (said-yes s _ f m) x l)) u k
+
 -- ---- the pass along the order of a record
 module _ (b : Table) (order : List ℕ) where
   pub record Along (i last : ℕ) : Type 0 where
@@ -115,15 +113,11 @@ module _ (b : Table) (order : List ℕ) where
   pub along-none : Along 0 0
   along-none = record { risen = risen-none (b .versions) order; fits = λ j l. absurd (omega arith) }
 
-  pub along-more : (i last x v : ℕ) (r : Bool) → Along i last → x ≡ placeOn order i → x < places → v ≡ versionAt b x → last < v
-      → r ≡ usedOk (entryAt b x) (b .floor) → not r ≡ false
-      → Along (i + 1) v
-  along-more i last x v r a e l f h q n =
+  pub along-more : (i last x v : ℕ) → Along i last → x ≡ placeOn order i → x < places → v ≡ versionAt b x → last < v → Fit (entryAt b x) (b .floor) → Along (i + 1) v
+  along-more i last x v a e l f h w =
       record {
         risen = risen-more (b .versions) order i last x v (a .risen) e l f h;
-        fits = λ j k.
-            ⊎-elim (λ z. subst (λ (p : ℕ). Fit (entryAt b p) (b .floor)) (e ∙ ap (placeOn order) (sym z)) (fit (entryAt b x) (b .floor) (sym q ∙ not-false r n)))
-            (λ d. a .fits j (omega (arith, d))) (same? j i);
+        fits = λ j k. ⊎-elim (λ z. subst (λ (p : ℕ). Fit (entryAt b p) (b .floor)) (e ∙ ap (placeOn order) (sym z)) w) (λ d. a .fits j (omega (arith, d))) (same? j i);
       }
 
   -- what stops the pass
@@ -143,8 +137,14 @@ module _ (b : Table) (order : List ℕ) where
   pub stop-version : versionMost < b .version → false ≡ (properB b && inOrder b order)
   stop-version l = refuted (λ p x. omega (arith, p .version-in))
 
-  pub stop-number : (i n x : ℕ) → i < places → n ≡ getD order i 0 → (n ≡ 0 → ⊥) → x ≡ named n → places ≤ x → false ≡ (properB b && inOrder b order)
-  stop-number i n x l e d f h = refuted (λ p c. d (e ∙ c .rest i l (omega (arith, ap named e))))
+  pub stop-bodies : (r : Bool) → r ≡ allBelow (λ i. bodyB (lengthAt b i) (formAt b i)) places → not r ≡ true → false ≡ (properB b && inOrder b order)
+  stop-bodies r f n =
+      refuted (λ p c. true≢false (sym (all-of (λ i. bodyB (lengthAt b i) (formAt b i)) 128 (λ j k. sound-body (entryAt b j) (b .version) (b .floor) (proper-sound b p j k)))
+      ∙ sym f ∙ not-true r n))
+
+  pub stop-low : (r : Bool) → r ≡ allBelow (λ i. leb (keyAt b i) keyMost) places → not r ≡ true → false ≡ (properB b && inOrder b order)
+  stop-low r f n =
+      refuted (λ p c. true≢false (sym (all-of (λ i. leb (keyAt b i) keyMost) 128 (λ j k. le-leb (keyAt b j) keyMost (proper-sound b p j k .key))) ∙ sym f ∙ not-true r n))
 
   pub stop-rising : (i last x v : ℕ) → i < places → Along i last → x ≡ placeOn order i → x < places → v ≡ versionAt b x → v ≤ last → false ≡ (properB b && inOrder b order)
   stop-rising zero last x v l a e h f g =
@@ -152,16 +152,19 @@ module _ (b : Table) (order : List ℕ) where
   stop-rising (suc j) last x v l a e h f g =
       refuted (λ p c. omega (arith, a .risen .is j refl, c .rises j (suc j) (omega arith) l (omega arith) .1, ap (versionAt b) e))
 
-  pub stop-place : (i x : ℕ) (r : Bool) → i < places → x ≡ placeOn order i → x < places → r ≡ usedOk (entryAt b x) (b .floor) → not r ≡ true → false ≡ (properB b && inOrder b order)
-  stop-place i x r l e h f n =
-      refuted (λ p c. true≢false (sym (is-fit (entryAt b x) (b .version) (b .floor) (proper-sound b p x h) (subst (Used b) (sym e) (c .used i l (omega arith)))) ∙ sym f ∙ not-true r n))
+  pub stop-mark : (i x : ℕ) → i < places → x ≡ placeOn order i → x < places → versionAt b x ≤ b .floor → lengthAt b x ≡ 0 → false ≡ (properB b && inOrder b order)
+  stop-mark i x l e h f z =
+      refuted (λ p c. omega (arith, p .removal-above x h (record { used = subst (Used b) (sym e) (c .used i l (omega arith)); bare = z })))
+
+  pub stop-empty : (i x : ℕ) → i < places → x ≡ placeOn order i → x < places → keyAt b x ≡ 0 → false ≡ (properB b && inOrder b order)
+  stop-empty i x l e h z = refuted (λ p c. c .used i l (omega arith) (ap (keyAt b) (sym e) ∙ z))
 
   -- the key of a number of the order
   pub key-along : (i x : ℕ) → i < places → x ≡ placeOn order i → keyAt b x ≡ getD (along (b .keys) order) i 0
   key-along i x l e = ap (keyAt b) e ∙ sym (along-at (b .keys) order i l)
 
-  pub used-along : (i x : ℕ) (r : Bool) → i < places → x ≡ placeOn order i → r ≡ usedOk (entryAt b x) (b .floor) → not r ≡ false → getD (along (b .keys) order) i 0 ≡ 0 → ⊥
-  used-along i x r l e f n z = fit (entryAt b x) (b .floor) (sym f ∙ not-false r n) .used (key-along i x l e ∙ z)
+  pub used-along : (i x : ℕ) → i < places → x ≡ placeOn order i → (keyAt b x ≡ 0 → ⊥) → getD (along (b .keys) order) i 0 ≡ 0 → ⊥
+  used-along i x l e u z = u (key-along i x l e ∙ z)
 
   pub stop-key : (i last x : ℕ) (r : Bool) → i < places → Along i last → x ≡ placeOn order i → x < places → r ≡ freshB (along (b .keys) order) i (keyAt b x) → not r ≡ true
       → false ≡ (properB b && inOrder b order)
@@ -215,33 +218,42 @@ module _ (b : Table) (order : List ℕ) where
             ⊎-elim (λ e. e) (λ d. absurd (omega (arith, count-chained b order c (i - 1) (omega arith) (a .risen .low (i - 1) (omega (arith, d))), d)))
             (same? (countBelow (usedB b) places) i)
 
-    pub stop-count : getD order i 0 ≡ 0 → i < places → (n : ℕ) → n ≡ countBelow none? places → (n ≡ places - i → ⊥) → false ≡ (properB b && inOrder b order)
+    pub stop-count : places ≤ placeOn order i → i < places → (n : ℕ) → n ≡ countBelow none? places → (n ≡ places - i → ⊥) → false ≡ (properB b && inOrder b order)
     unfolding emptyB usedB
-    stop-count z m n e d =
-        refuted (λ p c. d (omega (arith, e, count-same (λ q. not (usedB b q)) none? 128 (same p), count-not (usedB b) 128, named-used c z m)))
+    stop-count g m n e d =
+        refuted (λ p c. d (omega (arith, e, count-same (λ q. not (usedB b q)) none? 128 (same p), count-not (usedB b) 128, named-used c (c .rest i m g) m)))
       where
         same : Proper b → (q : ℕ) → q < 128 → none? q ≡ not (not (eqb (keyAt b q) 0))
         same p q k = ⊎-elim
             (λ y. rw (eq-eqb (keyAt b q) 0 y, eq-eqb (versionAt b q) 0 (p .empty-version q k y), eq-eqb (lengthAt b q) 0 (p .empty-length q k y), eq-eqb (formAt b q) 0 (p .empty-form q k y)))
             (λ y. rw (ne-eqb (keyAt b q) 0 y)) (same? (keyAt b q) 0)
 
-    pub clear-at : clearB order i ≡ true → (j : ℕ) → i ≤ j → j < places → getD order j 0 ≡ 0
-    unfolding clearB
-    clear-at e j h k =
-        let t : eqb (getD order j 0) 0 ≡ true = rw (le-ltb j i h) at (all-at (λ m. ltb m i || eqb (getD order m 0) 0) 128 e j k) in
-        eqb-true (getD order j 0) 0 t
+    -- the numbers so far are not 0
+    some : (j : ℕ) → j < i → getD order j 0 ≡ 0 → ⊥
+    some j k z = omega (arith, a .risen .low j k, named-none (getD order j 0) z)
 
-    chain-clear : Chained b order → getD order i 0 ≡ 0 → clearB order i ≡ true
-    unfolding clearB
-    chain-clear c z =
-        all-of (λ j. ltb j i || eqb (getD order j 0) 0) 128
-        (λ j k. ⊎-elim (λ y. rw (le-ltb j i y, eq-eqb (getD order j 0) 0 (zero-at j y k))) (λ y. rw (lt-ltb j i y)) (from? i j))
+    pub stop-zeros : places ≤ placeOn order i → i < places → (n : ℕ) → n ≡ countBelow (λ j. eqb (getD order j 0) 0) places → (n ≡ places - i → ⊥) → false ≡ (properB b && inOrder b order)
+    stop-zeros g m n e d = refuted (λ p c. d (e ∙ counted c))
       where
-        zero-at : (j : ℕ) → i ≤ j → j < places → getD order j 0 ≡ 0
-        zero-at j y k =
+        zero-at : Chained b order → (j : ℕ) → i ≤ j → j < places → getD order j 0 ≡ 0
+        zero-at c j y k =
             ⊎-elim (λ h. c .rest j k h)
-            (λ h. absurd (⊎-elim (λ w. omega (arith, named-none (getD order i 0) z, ap (placeOn order) w))
-            (λ d. omega (arith, c .rises i j (omega (arith, d)) k h .0, named-none (getD order i 0) z)) (same? i j))) (from? places (placeOn order j))
+            (λ h. absurd (⊎-elim (λ w. omega (arith, ap (placeOn order) w)) (λ w. omega (arith, c .rises i j (omega (arith, w)) k h .0)) (same? i j))) (from? places (placeOn order j))
+
+        counted : Chained b order → countBelow (λ j. eqb (getD order j 0) 0) 128 ≡ 128 - i
+        counted c =
+            cut-count (λ j. eqb (getD order j 0) 0) i 128 l (λ j k. ne-eqb (getD order j 0) 0 (some j k)) (λ j y k. eq-eqb (getD order j 0) 0 (zero-at c j y k))
+
+    pub clear-at : (n : ℕ) → n ≡ countBelow (λ j. eqb (getD order j 0) 0) places → n ≡ places - i → (j : ℕ) → i ≤ j → j < places → getD order j 0 ≡ 0
+    clear-at n e f j h k =
+        eqb-true (getD order j 0) 0
+        (count-equal (λ m. eqb (getD order m 0) 0) (λ m. leb i m) 128 behind (omega (arith, e, f, upper)) j k (le-leb i j h))
+      where
+        behind : (m : ℕ) → m < 128 → eqb (getD order m 0) 0 ≡ true → leb i m ≡ true
+        behind m q t = ⊎-elim (λ y. le-leb i m y) (λ y. absurd (some m y (eqb-true (getD order m 0) 0 t))) (from? i m)
+
+        upper : countBelow (λ m. leb i m) 128 ≡ 128 - i
+        upper = cut-count (λ m. leb i m) i 128 l (λ m q. lt-leb i m q) (λ m y q. le-leb i m y)
 
     -- ---- and where it ends well
     data Seen (p : ℕ) : Type 0 where
@@ -331,10 +343,9 @@ module _ (b : Table) (order : List ℕ) where
             go true e = let y = hits-where (λ j. true) (placeOn order) i p e in on (y .at) (y .here) (y .is)
             go false e = absurd (omega (arith, count-less (hits (λ j. true) (placeOn order) i) 128 p k e, all-hit))
 
-    pub end-short : (n : ℕ) (r : Bool) → n ≡ countBelow none? places → n ≡ places - i → r ≡ clearB order i → allBelow (newB (along (b .keys) order)) i ≡ true
-        → b .floor ≤ b .version → b .version ≤ versionMost → last ≤ b .version → i < places → getD order i 0 ≡ 0
-        → r ≡ (properB b && inOrder b order)
-    end-short n r e f q new low high top m z = go (clearB order i) refl
+    pub end-short : (n : ℕ) → n ≡ countBelow none? places → n ≡ places - i → ((j : ℕ) → i ≤ j → j < places → getD order j 0 ≡ 0)
+        → allBelow (newB (along (b .keys) order)) i ≡ true → b .floor ≤ b .version → b .version ≤ versionMost → last ≤ b .version → true ≡ (properB b && inOrder b order)
+    end-short n e f rest new low high top = well seen rest new low high top
       where
         seen : (p : ℕ) → p < places → Seen p
         seen p k = pick (none? p) refl
@@ -355,7 +366,3 @@ module _ (b : Table) (order : List ℕ) where
                 let y = hits-where (λ j. true) (placeOn order) i p
                 (count-equal (hits (λ j. true) (placeOn order) i) (λ x. not (none? x)) 128 hit-shown shown p k (rw w)) in
                 on (y .at) (y .here) (y .is)
-
-        go : (t : Bool) → clearB order i ≡ t → r ≡ (properB b && inOrder b order)
-        go true w = q ∙ w ∙ well seen (clear-at w) new low high top
-        go false w = q ∙ w ∙ refuted (λ p c. true≢false (sym (chain-clear c z) ∙ w))

@@ -1,13 +1,15 @@
 -- The numbers of a row so far name places whose versions rise from above 0. Assumes nothing.
-use Prim.Native.Nat.{ℕ, zero, suc, _+_, _<_, _≤_}
+use Prim.Native.Nat.{ℕ, zero, suc, _+_, _<_, _≤_, _%_, max}
 use native.Mathlib.Omega.{arith}
 use mathlib.Core.Path.{_≡_, refl, sym, ap, _∙_}
 use mathlib.Core.List.{List}
 use mathlib.Core.Logic.{_⊎_, inl, inr, ⊎-elim}
 use lib.ListN.{getD}
 use Rattle.board_record.specs.Sizes.{places}
-use Rattle.board_record.specs.Order.{placeOn}
+use Rattle.board_record.specs.Order.{named, placeOn}
 use Rattle.board_record.proofs.Logic.{same?, from?}
+use Rattle.board_order.proofs.Names.{named-none, named-some, named-place}
+use Rattle.board_proper.specs.Places.{Numbered}
 
 -- the first i numbers of a row are places, their versions rise, and the last of these is `last`
 pub record Risen (vs order : List ℕ) (i last : ℕ) : Type 0 where
@@ -48,3 +50,34 @@ pub risen-once : (vs order : List ℕ) (n last : ℕ) → Risen vs order n last 
 risen-once vs order n last r i j l m e =
     ⊎-elim (λ k. ⊎-elim (λ y. y) (λ d. absurd (omega (arith, r .up i j (omega (arith, d)) m, ap (λ (p : ℕ). getD vs p 0) e))) (same? i j))
     (λ k. absurd (omega (arith, r .up j i k l, ap (λ (p : ℕ). getD vs p 0) e))) (from? i j)
+
+-- 1 less than a number, below 0 from the top again, is the place that it names
+pub less-one : (n r x : ℕ) → (r + 1) % 256 ≡ n → x < 256 → x ≡ r → Numbered n x
+less-one n r x e l q =
+    record {
+      is = λ h. let z : n ≡ x + 1 = omega arith in sym (ap named z ∙ named-place x);
+      none = λ h. ⊎-elim (λ z. omega (arith, named-none n z)) (λ d. omega (arith, named-some n d, d)) (same? n 0);
+    }
+
+-- the larger of the last version and the floor: a version above it is above both, and one that is not, but is above the last, is at most the floor
+pub record Bounded (floor last bound : ℕ) : Type 0 where
+  pub last-in : last ≤ bound
+  pub floor-in : floor ≤ bound
+  pub is : (bound ≡ last) ⊎ (bound ≡ floor)
+
+pub bounded-none : (floor : ℕ) → Bounded floor 0 floor
+bounded-none floor = record { last-in = omega arith; floor-in = omega arith; is = inr refl }
+
+pub bounded-more : (floor last bound v r : ℕ) → Bounded floor last bound → last < v → r ≡ max bound v → Bounded floor v r
+bounded-more floor last bound v r k l e = record { last-in = omega arith; floor-in = omega (arith, k .floor-in); is = ⊎-elim (λ h. older h (k .is)) (λ h. inl (omega arith)) (from? v bound) }
+  where
+    older : v ≤ bound → (bound ≡ last) ⊎ (bound ≡ floor) → (r ≡ v) ⊎ (r ≡ floor)
+    older h (inl z) = absurd (omega arith)
+    older h (inr z) = inr (omega arith)
+
+pub below-floor : (floor last bound v : ℕ) → Bounded floor last bound → v ≤ bound → last < v → v ≤ floor
+below-floor floor last bound v k h l = ⊎-elim (λ z. absurd (omega arith)) (λ z. omega arith) (k .is)
+
+pub above-both : (floor last bound v n : ℕ) → Bounded floor last bound → ((last < v) × (n ≡ 0 → ⊥)) ⊎ (bound < v) → (last < v) × (n ≡ 0 → floor < v)
+above-both floor last bound v n k (inl w) = (w .0, λ z. absurd (w .1 z))
+above-both floor last bound v n k (inr w) = (omega (arith, k .last-in), λ z. omega (arith, k .floor-in))

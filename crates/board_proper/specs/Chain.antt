@@ -14,11 +14,11 @@ use Rattle.board_record.specs.Order.{placeOn}
 unfoldable pub along : List ℕ → List ℕ → List ℕ
 along keys order = row (λ j. getD keys (placeOn order j) 0) places
 
--- the hashes are below 512
+-- the hashes are below 1,024
 abbrev pub slots : ℕ
-slots = 512
+slots = 1024
 
--- the low 32 bits of a number, what they are multiplied by, and the worth of the lowest of the nine bits of the product that are the hash
+-- the low 32 bits of a number, what they are multiplied by, and the worth of the lowest of the ten bits of the product that are the hash
 abbrev pub low : ℕ
 low = 4294967296
 
@@ -26,7 +26,7 @@ abbrev pub mix : ℕ
 mix = 2654435761
 
 abbrev pub top : ℕ
-top = 8388608
+top = 4194304
 
 -- the hash of a number
 unfoldable pub slotOf : ℕ → ℕ

@@ -8,16 +8,16 @@ ghost use Rattle.board_record.specs.Order.{placeOn};
 ghost use Rattle.board_proper.specs.Chain.{along, slots, slotOf, Links, Walking};
 use board_order::place_in;
 
-// the low 32 bits of a number, what they are multiplied by, and the worth of the lowest of the nine bits of the product that are the hash
+// the low 32 bits of a number, what they are multiplied by, and the worth of the lowest of the ten bits of the product that are the hash
 const LOW: u64 = 4294967296;
 
 const MIX: u64 = 2654435761;
 
-const TOP: u64 = 8388608;
+const TOP: u64 = 4194304;
 
-const SLOTS: u64 = 512;
+const SLOTS: u64 = 1024;
 
-// The hash of a number: the nine bits of the product that are worth most in its low 32 bits.
+// The hash of a number: the ten bits of the product that are worth most in its low 32 bits.
 pub fn slot(k: u64) -> usize
     ensures slot { λ r. ⌜ (r ≡ slotOf k) × (r < slots) ⌝ }
 {

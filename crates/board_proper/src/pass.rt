@@ -1,23 +1,34 @@
 // The pass along the order. `heads[h]` is 1 more than the last number of the order whose key has the hash h, and `nexts` its
-// chain; `last` is the version of the place before. As versions rise, the last one met in a group is its largest: `seen`.
+// chain; `last` is the version of the place before, `bound` the larger of that and the floor: a version above it is above both,
+// which is one test. As versions rise, the last one met in a group is its largest: `seen`.
 ghost use mathlib.Core.Path.{_≡_};
 ghost use mathlib.Core.Bool.{_&&_};
 ghost use Rattle.board_record.specs.Table.{tableOf};
 ghost use Rattle.board_record.specs.Proper.{properB};
 ghost use Rattle.board_record.specs.Order.{inOrder};
 ghost use Rattle.board_record.specs.Tops.{inTops};
+ghost use Rattle.board_proper.specs.Places.{Numbered};
 use super::chain::fresh;
 use super::chain::slot;
-use super::place::used_ok;
-use super::rest::clear;
+use super::place::bodies;
+use super::place::low;
 use super::rest::empties;
-use board_order::place_in;
+use super::rest::zeros;
 use board_record::GROUP;
 use board_record::PLACES;
 use board_record::VERSION_MOST;
+use board_record::larger;
 use board_record::wide32;
 use board_tops::same;
 use octets::wide;
+use std::num::wrapping_sub_u8;
+
+// The place that a number of the order names; 128 or more where it names none.
+fn numbered(n: u8) -> usize
+    ensures place { λ r. ⌜ Numbered n r ⌝ }
+{
+    wide(wrapping_sub_u8(n, 1))
+}
 
 pub fn is_proper<'a>(
     keys: &'a [u32; 128],
@@ -39,35 +50,43 @@ pub fn is_proper<'a>(
     if VERSION_MOST < top {
         return false;
     }
-    let mut heads = [0u8; 512];
+    if !bodies(lengths, forms) {
+        return false;
+    }
+    if !low(keys) {
+        return false;
+    }
+    let mut heads = [0u8; 1024];
     let mut nexts = [0u8; 128];
     let mut seen = [0u64; 16];
     let mut last: u64 = 0;
+    let mut bound = floor;
     let mut i: usize = 0;
     while i < PLACES {
-        let n = order[i];
-        if n == 0 {
+        let x = numbered(order[i]);
+        if PLACES <= x {
             if top < last {
                 return false;
             }
             if empties(keys, versions, lengths, forms) != PLACES - i {
                 return false;
             }
-            if !clear(order, i) {
+            if zeros(order) != PLACES - i {
                 return false;
             }
             return same(&seen, tops);
         }
-        let x = place_in(n);
-        if PLACES <= x {
-            return false;
-        }
         let v = versions[x];
-        if v <= last {
-            return false;
+        if v <= bound {
+            if v <= last {
+                return false;
+            }
+            if lengths[x] == 0 {
+                return false;
+            }
         }
         let k = keys[x];
-        if !used_ok(k, v, lengths[x], forms[x], floor) {
+        if k == 0 {
             return false;
         }
         let h = slot(wide32(k));
@@ -79,6 +98,7 @@ pub fn is_proper<'a>(
         heads[h] = (i + 1) as u8;
         seen[x / GROUP] = v;
         last = v;
+        bound = larger(bound, v);
         i += 1;
     }
     if top < last {

@@ -1,30 +1,25 @@
-// What the order does not name: places that must be empty, and numbers that must be 0.
+// What the order does not name: places that must be empty, and numbers that must be 0. Neither loop has a way out, so that the
+// compiler can take many places at a time.
 ghost use mathlib.Core.Path.{_≡_};
 ghost use mathlib.Core.Bool.{cond, _&&_};
-ghost use lib.Dec.{eqb, ltb};
-ghost use Prim.Native.Nat.{_≤_};
+ghost use lib.ListN.{getD};
+ghost use lib.Dec.{eqb};
 ghost use Rattle.board_record.specs.Sizes.{places};
 ghost use Rattle.board_record.specs.Lists.{countBelow};
-ghost use Rattle.board_proper.specs.Places.{emptyB, clearB};
+ghost use Rattle.board_proper.specs.Places.{emptyB};
 use board_record::PLACES;
+use octets::both;
+use octets::wide;
 
 // 1 for an empty place with all numbers 0, else 0.
-fn empty_one(k: u32, v: u64, l: u16, form: u8) -> usize
+fn empty_one(k: u32, v: u64, l: u16, form: u8) -> u8
     ensures one { λ r. ⌜ r ≡ cond (eqb k 0 && eqb v 0 && eqb l 0 && eqb form 0) 1 0 ⌝ }
 {
-    if k != 0 {
-        return 0;
+    if both(both(both(k == 0, v == 0), l == 0), form == 0) {
+        1
+    } else {
+        0
     }
-    if v != 0 {
-        return 0;
-    }
-    if l != 0 {
-        return 0;
-    }
-    if form != 0 {
-        return 0;
-    }
-    1
 }
 
 // How many places are empty, with all their numbers 0.
@@ -36,33 +31,31 @@ pub fn empties<'a>(
 ) -> usize
     ensures count { λ r. ⌜ r ≡ countBelow (emptyB (now (keys .entry)) (now (versions .entry)) (now (lengths .entry)) (now (forms .entry))) places ⌝ }
 {
-    let mut none: usize = 0;
+    let mut none: u8 = 0;
     let mut i: usize = 0;
     while i < PLACES {
         none += empty_one(keys[i], versions[i], lengths[i], forms[i]);
         i += 1;
     }
-    none
+    wide(none)
 }
 
-// The larger of two numbers.
-fn larger(a: u8, b: u8) -> u8
-    ensures larger { λ r. ⌜ r ≡ cond (ltb a b) b a ⌝ }
+// 1 for 0, else 0.
+fn zero_one(n: u8) -> u8
+    ensures one { λ r. ⌜ r ≡ cond (eqb n 0) 1 0 ⌝ }
 {
-    if a < b { b } else { a }
+    if n == 0 { 1 } else { 0 }
 }
 
-// Whether the numbers of the order are 0 from number `from` on. The loop has no way out, so that the compiler can take many
-// numbers at a time.
-pub fn clear(order: &[u8; 128], from: usize) -> bool
-    requires { ⌜ from ≤ places ⌝ }
-    ensures clear { λ r. ⌜ r ≡ clearB (now (order .entry)) from ⌝ }
+// How many numbers of the order are 0.
+pub fn zeros(order: &[u8; 128]) -> usize
+    ensures count { λ r. ⌜ r ≡ countBelow (λ j. eqb (getD (now (order .entry)) j 0) 0) places ⌝ }
 {
-    let mut most: u8 = 0;
-    let mut i = from;
+    let mut none: u8 = 0;
+    let mut i: usize = 0;
     while i < PLACES {
-        most = larger(most, order[i]);
+        none += zero_one(order[i]);
         i += 1;
     }
-    most == 0
+    wide(none)
 }

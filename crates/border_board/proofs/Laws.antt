@@ -7,8 +7,9 @@ use Rattle.session.specs.declared.Sessions.{Sessions}
 use Rattle.board_record.specs.declared.record.Board.{Board}
 use Rattle.board_rules.specs.OnRecord.{Result, resultOf}
 use Rattle.border_records.specs.declared.verdict.VerdictRecord.{VerdictRecord}
-use Rattle.border_records.specs.declared.agreement.SessionRecord.{SessionRecord}
-use Rattle.border_records.specs.Records.{sessionsIn, verdictOut}
+use Rattle.border_session.specs.declared.SessionRecord.{SessionRecord}
+use Rattle.border_records.specs.Records.{verdictOut}
+use Rattle.border_session.specs.Agreed.{sessionsIn}
 
 pub told : (v : Verdict) (r : VerdictRecord) (after : Board) (a : Result) → resultOf v after ≡ a → r ≡ verdictOut v
     → (r ≡ verdictOut (a .verdict)) × (after ≡ a .board)

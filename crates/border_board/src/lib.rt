@@ -5,9 +5,10 @@ ghost use Rattle.board_record.specs.Table.{tableOf};
 ghost use Rattle.board_record.specs.Record.{withRows, emptyBoard};
 ghost use Rattle.board_rules.specs.OnRecord.{removeOn, compactOn};
 ghost use Rattle.report_call.specs.Reported.{reportForOn, reportStoreForOn};
-ghost use Rattle.border_records.specs.Records.{sessionsIn, verdictOut};
-use border_records::SessionRecord;
+ghost use Rattle.border_records.specs.Records.{verdictOut};
+ghost use Rattle.border_session.specs.Agreed.{sessionsIn};
 use border_records::VerdictRecord;
+use border_session::SessionRecord;
 
 // Makes the record that of the empty board.
 pub fn empty(
@@ -62,7 +63,7 @@ pub fn report(
         let before = withRows (tableOf (now (keys .entry)) (now (versions .entry)) (now (lengths .entry)) (now (version .entry)) (now (floor .entry)) (now (forms .entry))) (now (order .entry)) (now (tops .entry)) in
         ⌜ now (store .exit) ≡ reportStoreForOn before (now (store .entry)) key (now (ero .entry)) (sessionsIn session) pst (now (addresses .entry)) ⌝ }
 {
-    let both = border_records::sessions_in(session);
+    let both = border_session::sessions_in(session);
     let v = report_call::report(
         keys,
         versions,

@@ -3,9 +3,10 @@ use mathlib.Core.Path.{_≡_, ap, _∙_}
 use Rattle.session.specs.declared.Opened.{Opened}
 use Rattle.session.specs.declared.Sessions.{Sessions}
 use Rattle.session.specs.Sessions.{sessionsOf}
-use Rattle.border_records.specs.declared.opened.OpenedRecord.{OpenedRecord}
-use Rattle.border_records.specs.declared.agreement.SessionRecord.{SessionRecord}
-use Rattle.border_records.specs.Records.{openedIn, sessionsOut}
+use Rattle.border_opened.specs.declared.opened.OpenedRecord.{OpenedRecord}
+use Rattle.border_session.specs.declared.SessionRecord.{SessionRecord}
+use Rattle.border_opened.specs.Opens.{openedIn}
+use Rattle.border_session.specs.Agreed.{sessionsOut}
 
 pub agree-told : (x y : OpenedRecord) (a b : Opened) (s : Sessions) (r : SessionRecord) → a ≡ openedIn x → b ≡ openedIn y → s ≡ sessionsOf a b → r ≡ sessionsOut s
     → r ≡ sessionsOut (sessionsOf (openedIn x) (openedIn y))

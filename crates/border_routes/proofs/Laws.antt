@@ -6,17 +6,20 @@ use mathlib.Core.Bool.{Bool, true, false, cond}
 use Rattle.answers.specs.declared.verdict.Verdict.{Verdict}
 use Rattle.answers.specs.Numbers.{notUsable}
 use Rattle.answers.specs.Verdicts.{refusedBy}
-use Rattle.session.specs.declared.Sessions.{Sessions}
+use Rattle.session.specs.declared.Session.{Session}
 use Rattle.session.specs.Sessions.{sessionUnder}
 use Rattle.forms.specs.Forms.{formOf}
 use Rattle.frame.specs.Checks.{Check, firstBroken}
 use Rattle.route.specs.declared.picking.Picked.{Picked}
 use Rattle.route.specs.Routes.{judgeAs, judgeOf, checksOf, acceptanceOf}
 use Rattle.route_limit.specs.FirstOff.{sessionFor}
-use Rattle.route_call.specs.Called.{rule28, judgedIn, judgedFor, segmentFor}
+use Rattle.octets.proofs.Said.{either-false}
+use Rattle.route_call.proofs.Laws.{own-session}
+use Rattle.route_call.specs.Called.{rule28, judgedIn, judgedFor, segmentIn, segmentFor}
 use Rattle.border_records.specs.declared.verdict.VerdictRecord.{VerdictRecord}
-use Rattle.border_records.specs.declared.agreement.SessionRecord.{SessionRecord}
-use Rattle.border_records.specs.Records.{isYes, sessionsIn, verdictOut}
+use Rattle.border_session.specs.declared.SessionRecord.{SessionRecord}
+use Rattle.border_records.specs.Records.{isYes, verdictOut}
+use Rattle.border_session.specs.Agreed.{sessionsIn, flaggedOf, plainOf}
 use Rattle.border_segment.specs.declared.picking.PickedRecord.{PickedRecord}
 use Rattle.border_segment.specs.declared.stepping.SteppedRecord.{SteppedRecord}
 use Rattle.border_segment.specs.Segments.{pickedOut, steppedOut}
@@ -34,32 +37,37 @@ counted (c ∷ cs) after d =
     let e = counted-at (c .broken) (c .number) (c .place) (firstBroken cs after) d in
     e ∙ counted cs after (λ z. d (ap (λ (v : Verdict). v .count) e ∙ z))
 
-module _ (s addresses : List ℕ) (ero : ℕ) (session : SessionRecord) (k : Bool) (g : Sessions) (f : k ≡ isYes ero) (h : g ≡ sessionsIn session) where
-  -- What is asked of the call below is what is asked at the border.
-  same : {A : Type 0} (answer : Bool → Sessions → A) → answer k g ≡ answer (isYes ero) (sessionsIn session)
-  same answer = rw (f, h)
+-- With neither flag v and m play no part, so that a session without them is judged in alike.
+pub plain-judged : (s : List ℕ) (ero : Bool) (session : Session) (pst : ℕ) (addresses : List ℕ) → flaggedOf session ≡ false
+    → judgedIn s ero (plainOf session) pst addresses ≡ judgedIn s ero session pst addresses
+unfolding judgedIn judgeOf judgeAs
+plain-judged s ero session pst addresses e =
+    let none = either-false (session .a) (session .r) e in
+    rw (own-session s ero (plainOf session) pst addresses refl refl, own-session s ero session pst addresses (none .0) (none .1))
 
-  pub judge-told : (pst : ℕ) (v : Verdict) (r : VerdictRecord) → v ≡ judgedFor s k g pst addresses → r ≡ verdictOut v
+module _ (s addresses : List ℕ) (ero : ℕ) (session : SessionRecord) (pst : ℕ) (k : Bool) (f : k ≡ isYes ero) where
+  pub judge-told : (v : Verdict) (r : VerdictRecord) → v ≡ judgedFor s k (sessionsIn session) pst addresses → r ≡ verdictOut v
       → r ≡ verdictOut (judgedFor s (isYes ero) (sessionsIn session) pst addresses)
-  judge-told pst v r e o = o ∙ ap verdictOut (e ∙ same (λ (x : Bool) (y : Sessions). judgedFor s x y pst addresses))
+  judge-told v r e o = o ∙ ap verdictOut (e ∙ ap (λ (x : Bool). judgedFor s x (sessionsIn session) pst addresses) f)
 
-  accepted : (pst : ℕ) (v : Verdict) → v ≡ judgedFor s k g pst addresses → (v .count ≡ 0 → ⊥)
+  accepted : (v : Verdict) → v ≡ judgedFor s k (sessionsIn session) pst addresses → (v .count ≡ 0 → ⊥)
       → record { number = 0; place = 0; count = v .count; stray = v .stray } ≡ verdictOut v
   unfolding judgedIn judgeOf judgeAs
-  accepted pst v e d =
+  accepted v e d =
       let form = formOf pst in
-      let under = sessionFor s k (sessionUnder g pst) addresses in
+      let under = sessionFor s k (sessionUnder (sessionsIn session) pst) addresses in
       let judged = firstBroken (checksOf form s k under pst) (acceptanceOf form s k) in
       let f = e ∙ counted-at (rule28 addresses) notUsable 0 judged (λ z. d (ap (λ (x : Verdict). x .count) e ∙ z)) in
       rw (f ∙ counted (checksOf form s k under pst) (acceptanceOf form s k) (λ z. d (ap (λ (x : Verdict). x .count) f ∙ z)))
 
-  pub judge-counted : (pst : ℕ) (v : Verdict) → v ≡ judgedFor s k g pst addresses → (v .count ≡ 0 → ⊥)
+  pub judge-counted : (v : Verdict) → v ≡ judgedFor s k (sessionsIn session) pst addresses → (v .count ≡ 0 → ⊥)
       → record { number = 0; place = 0; count = v .count; stray = v .stray } ≡ verdictOut (judgedFor s (isYes ero) (sessionsIn session) pst addresses)
-  judge-counted pst v e d = judge-told pst v _ e (accepted pst v e d)
+  judge-counted v e d = judge-told v _ e (accepted v e d)
 
-  pub segment-told : (pst i : ℕ) (p : Picked) (r : PickedRecord) → p ≡ segmentFor s k g pst addresses i → r ≡ pickedOut p
+  pub segment-told : (i : ℕ) (g : Session) (p : Picked) (r : PickedRecord) → g ≡ sessionUnder (sessionsIn session) pst → p ≡ segmentIn s k g pst addresses i → r ≡ pickedOut p
       → r ≡ pickedOut (segmentFor s (isYes ero) (sessionsIn session) pst addresses i)
-  segment-told pst i p r e o = o ∙ ap pickedOut (e ∙ same (λ (x : Bool) (y : Sessions). segmentFor s x y pst addresses i))
+  segment-told i g p r h e o =
+      o ∙ ap pickedOut (e ∙ ap (λ (x : Bool). segmentIn s x g pst addresses i) f ∙ ap (λ (y : Session). segmentIn s (isYes ero) y pst addresses i) h)
 
 pub step-told : (s : List ℕ) (ero pst at : ℕ) (k : Bool) (x : Stepped) (r : SteppedRecord) → k ≡ isYes ero → x ≡ stepOf s k pst at → r ≡ steppedOut x
     → r ≡ steppedOut (stepOf s (isYes ero) pst at)

@@ -1,13 +1,27 @@
 // Judging a route, asking for its segments and stepping through it, over the records of the border (include/strundevi.h). `ero` is a flag: an ERO, else an RRO.
 ghost use mathlib.Core.Path.{_≡_};
 ghost use Rattle.route_call.specs.Called.{judgedFor, segmentFor};
-ghost use Rattle.border_records.specs.Records.{isYes, sessionsIn, verdictOut};
+ghost use Rattle.border_records.specs.Records.{isYes, verdictOut};
+ghost use Rattle.border_session.specs.Agreed.{sessionsIn};
 ghost use Rattle.route_step.specs.Steps.{stepOf};
 ghost use Rattle.border_segment.specs.Segments.{pickedOut, steppedOut};
-use border_records::SessionRecord;
+use answers::Verdict;
 use border_records::VerdictRecord;
 use border_segment::PickedRecord;
 use border_segment::SteppedRecord;
+use border_session::SessionRecord;
+
+// The verdict on a route. Where neither flag is agreed v and m are not looked for.
+fn judged(octets: &[u8], kind: bool, session: SessionRecord, pst: u64, addresses: &[u8]) -> Verdict
+    ensures judged { λ r. ⌜ r ≡ judgedFor (now (octets .entry)) kind (sessionsIn session) pst (now (addresses .entry)) ⌝ }
+{
+    if border_session::flagged(session, pst) {
+        let own = border_session::session_under(session, pst);
+        return route_call::judge_in(octets, kind, own, pst, addresses);
+    }
+    let plain = border_session::plain_under(session, pst);
+    route_call::judge_in(octets, kind, plain, pst, addresses)
+}
 
 // The verdict on a route under a session and a setup type. An acceptance is laid out by its counts alone, which is
 // quicker than to copy it.
@@ -21,8 +35,7 @@ pub fn judge(
     ensures judged { λ r. ⌜ r ≡ verdictOut (judgedFor (now (octets .entry)) (isYes ero) (sessionsIn session) pst (now (addresses .entry))) ⌝ }
 {
     let kind = border_records::yes(ero);
-    let agreed = border_records::sessions_in(session);
-    let v = route_call::judge(octets, kind, agreed, pst, addresses);
+    let v = judged(octets, kind, session, pst, addresses);
     if v.count == 0 {
         return border_records::verdict_out(v);
     }
@@ -46,8 +59,8 @@ pub fn segment_at(
     ensures picked { λ r. ⌜ r ≡ pickedOut (segmentFor (now (octets .entry)) (isYes ero) (sessionsIn session) pst (now (addresses .entry)) i) ⌝ }
 {
     let kind = border_records::yes(ero);
-    let agreed = border_records::sessions_in(session);
-    border_segment::picked_out(route_call::segment(octets, kind, agreed, pst, addresses, i))
+    let own = border_session::session_under(session, pst);
+    border_segment::picked_out(route_call::segment_in(octets, kind, own, pst, addresses, i))
 }
 
 // The segment at a place of a route judged under a setup type, and the place behind it.

@@ -20,7 +20,8 @@ pub fn begin(buffer: &mut [u8], writer: WriterRecord, ero: u8, pst: u64) -> Writ
     written_out(writer::begin(buffer, writer_in(writer), border_records::yes(ero), pst))
 }
 
-// Writes a segment from the present place on. The segment's octets are lent.
+// Writes a segment from the present place on. The segment's octets are lent. A record whose flag is 0 or 1 is handed back as it came, with another place: a caller
+// that loads kind and form as one number does not wait for two octets stored one by one.
 pub fn add(
     buffer: &mut [u8],
     writer: WriterRecord,
@@ -34,7 +35,18 @@ pub fn add(
 {
     let state = writer_in(writer);
     let beside = border_segment::outline_in(outline);
-    written_out(writer::add_parts(buffer, state, beside, sid, nai, structure))
+    let w = writer::add_parts(buffer, state, beside, sid, nai, structure);
+    if writer.ero > 1 {
+        return written_out(w);
+    }
+    let verdict = w.verdict;
+    let next = w.writer;
+    let mut kept = writer;
+    kept.at = next.at;
+    WrittenRecord {
+        verdict: border_records::verdict_out(verdict),
+        writer: kept,
+    }
 }
 
 // Writes the length.

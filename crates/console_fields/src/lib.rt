@@ -17,7 +17,7 @@ use msd::ABSENT;
 use session::Limit;
 use session::Opened;
 use subobject::Segment;
-use subobject::Strays;
+use subobject_strays::Strays;
 use words::COMMA;
 use words::DASH;
 use words::SPACE;

@@ -12,7 +12,7 @@ use Rattle.octets.proofs.Laws.{rest-back}
 use Rattle.session.specs.declared.Sessions.{Sessions}
 use Rattle.forms.specs.declared.Form.{Form}
 use Rattle.subobject.specs.declared.segment.Segment.{Segment}
-use Rattle.subobject.specs.declared.strays.Strays.{Strays}
+use Rattle.subobject_strays.specs.declared.Strays.{Strays}
 use Rattle.printing.specs.Text.{Behind}
 use Rattle.console_fields.specs.Shown.{segmentLine}
 use Rattle.route.specs.declared.picking.Picked.{Picked}

@@ -20,7 +20,7 @@ use positions::Setup;
 use session::Opened;
 use session::Sessions;
 use subobject::Segment;
-use subobject::Strays;
+use subobject_strays::Strays;
 
 // `pcc OCTETS`, `pce OCTETS`: the answer to the OPEN of the line.
 pub fn heard(p: Setup, line: &[u8], room: &mut [u8]) -> Opened

@@ -36,7 +36,7 @@ use Rattle.open.specs.Open.{
 use Rattle.forms.specs.Forms.{flagIn, naiLength, knows}
 use Rattle.subobject.specs.Layout.{expectedLength, kindOf, headOf, headAt}
 use Rattle.subobject.specs.Rules.{rule7, rule8, rule9, malformed, rule10, rule11, hasStructure, hasLabel, labelAt, timeAt, rule29, rule30, sumAt}
-use Rattle.subobject.specs.Strays.{strayFlags, structureFlags, reservedOctets, straysAt}
+use Rattle.subobject_strays.specs.Strays.{strayFlags, structureFlags, reservedOctets, straysAt}
 use Rattle.frame.specs.Frames.{headed, fitsIn, apart, apartOf, rule4, rule5, rule6, rule6Place, rule14}
 use Rattle.route.specs.Routes.{rule12, rule13, judgeAs, judgeOf}
 use Rattle.head_end.specs.Addresses.{usableList}

@@ -15,7 +15,7 @@ use Rattle.session.specs.Sessions.{sessionUnder}
 use Rattle.forms.specs.Forms.{flagIn, naiLength, knows}
 use Rattle.subobject.specs.Layout.{expectedLength, kindOf, headOf, headAt}
 use Rattle.subobject.specs.Rules.{rule7, rule8, rule9, malformed, rule10, rule11, hasStructure, hasLabel, labelAt, timeAt, rule29, rule30, sumAt}
-use Rattle.subobject.specs.Strays.{strayFlags, structureFlags, reservedOctets, straysAt}
+use Rattle.subobject_strays.specs.Strays.{strayFlags, structureFlags, reservedOctets, straysAt}
 use Rattle.frame.specs.Frames.{headed, fitsIn, apart, apartOf, rule4, rule5, rule6Place, rule6, rule14}
 use Rattle.route.specs.Routes.{rule13, rule12, judgeAs, judgeOf}
 use Rattle.head_end.specs.Addresses.{usableList}

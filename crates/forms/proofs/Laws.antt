@@ -1,5 +1,5 @@
 -- A flag of an octet, by what it is worth; the sizes of the two forms. Assumes nothing.
-use Prim.Native.Nat.{ℕ, _/_, _%_, _≤_, _<_}
+use Prim.Native.Nat.{ℕ, zero, suc, _*_, _^_, _/_, _%_, _≤_, _<_}
 use mathlib.Core.Path.{_≡_, refl, sym, _∙_}
 use mathlib.Core.Bool.{Bool, true, false, cond}
 use lib.Dec.{eqb}
@@ -46,65 +46,61 @@ named-again pst = of-both (λ form. formOf (form .setup) ≡ form) refl refl pst
 
 -- Both forms fit into a segment.
 pub srv6-sized : Sized srv6Form
+unfolding naiLength
 srv6-sized =
-    record {
-      fixed = refl;
-      sid = omega arith;
-      nai1 = omega arith;
-      nai2 = omega arith;
-      nai3 = omega arith;
-      nai4 = omega arith;
-      nai5 = omega arith;
-      nai6 = omega arith;
-      free = omega arith;
-    }
+    record { fixed = refl; sid = omega arith; nai = λ nt. go (eqb nt 1) (eqb nt 2) (eqb nt 3) (eqb nt 4) (eqb nt 5) (eqb nt 6); free = omega arith }
+  where
+    go : (a b c d e f : Bool) → cond a 0 (cond b 16 (cond c 0 (cond d 32 (cond e 0 (cond f 40 0))))) ≤ 40
+    go true b c d e f = omega arith
+    go false true c d e f = omega arith
+    go false false true d e f = omega arith
+    go false false false true e f = omega arith
+    go false false false false true f = omega arith
+    go false false false false false true = omega arith
+    go false false false false false false = omega arith
 
 pub mpls-sized : Sized mplsForm
+unfolding naiLength
 mpls-sized =
-    record {
-      fixed = refl;
-      sid = omega arith;
-      nai1 = omega arith;
-      nai2 = omega arith;
-      nai3 = omega arith;
-      nai4 = omega arith;
-      nai5 = omega arith;
-      nai6 = omega arith;
-      free = omega arith;
-    }
+    record { fixed = refl; sid = omega arith; nai = λ nt. go (eqb nt 1) (eqb nt 2) (eqb nt 3) (eqb nt 4) (eqb nt 5) (eqb nt 6); free = omega arith }
+  where
+    go : (a b c d e f : Bool) → cond a 4 (cond b 16 (cond c 8 (cond d 32 (cond e 16 (cond f 40 0))))) ≤ 40
+    go true b c d e f = omega arith
+    go false true c d e f = omega arith
+    go false false true d e f = omega arith
+    go false false false true e f = omega arith
+    go false false false false true f = omega arith
+    go false false false false false true = omega arith
+    go false false false false false false = omega arith
 
 pub sized-by : (pst : ℕ) → Sized (formOf pst)
 sized-by pst = of-both Sized srv6-sized mpls-sized pst
 
--- The octets of an NAI, chosen one after the other.
-pub nai-chosen : (form : Form) (nt : ℕ) {n1 n2 n3 n4 n5 n6 six five four three two r : ℕ} → n1 ≡ form .nai1 → n2 ≡ form .nai2 → n3 ≡ form .nai3 → n4 ≡ form .nai4
-    → n5 ≡ form .nai5 → n6 ≡ form .nai6 → six ≡ cond (eqb nt 6) n6 0 → five ≡ cond (eqb nt 5) n5 six → four ≡ cond (eqb nt 4) n4 five
-    → three ≡ cond (eqb nt 3) n3 four → two ≡ cond (eqb nt 2) n2 three → r ≡ cond (eqb nt 1) n1 two → r ≡ naiLength form nt
+-- The octets of an NAI: none for NT 0 and above 6,
+pub nai-none : (form : Form) (nt : ℕ) → nt ≡ 0 → 0 ≡ naiLength form nt
 unfolding naiLength
-nai-chosen form nt e1 e2 e3 e4 e5 e6 s6 s5 s4 s3 s2 s1 = s1 ∙ rw (s2, s3, s4, s5, s6, e1, e2, e3, e4, e5, e6)
+nai-none form nt e = rw e
 
--- A choice of two octets is an octet.
-pub chosen-octet : (b : Bool) (x y : ℕ) {z : ℕ} → z ≡ cond b x y → x < 256 → y ≤ 255 → z ≤ 255
-chosen-octet b x y e h l = rw e (go b)
-  where
-    go : (b : Bool) → cond b x y ≤ 255
-    go true = omega arith
-    go false = l
+pub nai-past : (form : Form) (nt : ℕ) → 6 < nt → 0 ≡ naiLength form nt
+unfolding naiLength
+nai-past form nt h =
+    rw (ne-eqb nt 1 (omega arith), ne-eqb nt 2 (omega arith), ne-eqb nt 3 (omega arith), ne-eqb nt 4 (omega arith), ne-eqb nt 5 (omega arith), ne-eqb nt 6 (omega arith))
+
+-- else the octet of the lengths to which a shift by as many octets comes.
+pub nai-shifted : (form : Form) (nt : ℕ) → (nt ≡ 0 → ⊥) → nt ≤ 6 → form .nais / 2 ^ (8 * nt) % 256 ≡ naiLength form nt
+unfolding naiLength
+nai-shifted form zero n h = absurd (n refl)
+nai-shifted form (suc zero) n h = refl
+nai-shifted form (suc (suc zero)) n h = refl
+nai-shifted form (suc (suc (suc zero))) n h = refl
+nai-shifted form (suc (suc (suc (suc zero)))) n h = refl
+nai-shifted form (suc (suc (suc (suc (suc zero))))) n h = refl
+nai-shifted form (suc (suc (suc (suc (suc (suc zero)))))) n h = refl
+nai-shifted form (suc (suc (suc (suc (suc (suc (suc k))))))) n h = absurd (omega arith)
 
 -- No NAI is longer than what a segment keeps for it.
 pub nai-most : {form : Form} → Sized form → (nt : ℕ) → naiLength form nt ≤ 40
-unfolding naiLength
-nai-most {form} z nt = go (eqb nt 1) (eqb nt 2) (eqb nt 3) (eqb nt 4) (eqb nt 5) (eqb nt 6)
-  where
-    go : (a b c d e f : Bool)
-        → cond a (form .nai1) (cond b (form .nai2) (cond c (form .nai3) (cond d (form .nai4) (cond e (form .nai5) (cond f (form .nai6) 0))))) ≤ 40
-    go true b c d e f = z .nai1
-    go false true c d e f = z .nai2
-    go false false true d e f = z .nai3
-    go false false false true e f = z .nai4
-    go false false false false true f = z .nai5
-    go false false false false false true = z .nai6
-    go false false false false false false = omega arith
+nai-most z nt = z .nai nt
 
 -- A SID or an NAI of SRv6 has 16 octets or more, one of MPLS 4 or more.
 pub srv6-shortest : Shortest srv6Form 16
@@ -134,3 +130,30 @@ mpls-shortest = record { sid = omega arith; nai = λ nt. go (eqb nt 1) (eqb nt 2
     go false false false false true f h = omega arith
     go false false false false false true h = omega arith
     go false false false false false false h = absurd (omega arith)
+
+-- An NAI is a multiple of 4 octets.
+pub srv6-fours : (nt : ℕ) → naiLength srv6Form nt % 4 ≡ 0
+unfolding naiLength
+srv6-fours nt = go (eqb nt 1) (eqb nt 2) (eqb nt 3) (eqb nt 4) (eqb nt 5) (eqb nt 6)
+  where
+    go : (a b c d e f : Bool) → cond a 0 (cond b 16 (cond c 0 (cond d 32 (cond e 0 (cond f 40 0))))) % 4 ≡ 0
+    go true b c d e f = refl
+    go false true c d e f = refl
+    go false false true d e f = refl
+    go false false false true e f = refl
+    go false false false false true f = refl
+    go false false false false false true = refl
+    go false false false false false false = refl
+
+pub mpls-fours : (nt : ℕ) → naiLength mplsForm nt % 4 ≡ 0
+unfolding naiLength
+mpls-fours nt = go (eqb nt 1) (eqb nt 2) (eqb nt 3) (eqb nt 4) (eqb nt 5) (eqb nt 6)
+  where
+    go : (a b c d e f : Bool) → cond a 4 (cond b 16 (cond c 8 (cond d 32 (cond e 16 (cond f 40 0))))) % 4 ≡ 0
+    go true b c d e f = refl
+    go false true c d e f = refl
+    go false false true d e f = refl
+    go false false false true e f = refl
+    go false false false false true f = refl
+    go false false false false false true = refl
+    go false false false false false false = refl

@@ -1,8 +1,27 @@
 -- The two forms, side by side as the papers have them, and what a form says of a flag and of an NT.
-use Prim.Native.Nat.{ℕ, _/_, _%_}
+use Prim.Native.Nat.{ℕ, _+_, _*_, _/_, _%_}
 use mathlib.Core.Bool.{Bool, true, false, cond, not, _||_}
 use lib.Dec.{eqb}
 use Rattle.forms.specs.declared.Form.{Form}
+
+-- The lengths of the NAIs for NT 1 to 6 are one number, with an octet for each: what that octet is worth.
+abbrev pub nt1 : ℕ
+nt1 = 256
+
+abbrev pub nt2 : ℕ
+nt2 = 65536
+
+abbrev pub nt3 : ℕ
+nt3 = 16777216
+
+abbrev pub nt4 : ℕ
+nt4 = 4294967296
+
+abbrev pub nt5 : ℕ
+nt5 = 1099511627776
+
+abbrev pub nt6 : ℕ
+nt6 = 281474976710656
 
 -- Document 000, 4.3.1: type 40; "NT (4 bits), 12 flags; the last four are V, T, F, S, with S lowest"; NAI for NT 2, 4 and 6.
 abbrev pub srv6Form : Form
@@ -20,12 +39,7 @@ srv6Form =
       m = 0;
       free = 16;
       behaves = true;
-      nai1 = 0;
-      nai2 = 16;
-      nai3 = 0;
-      nai4 = 32;
-      nai5 = 0;
-      nai6 = 40;
+      nais = 16 * nt2 + 32 * nt4 + 40 * nt6;
     }
 
 -- RFC 8664, 4.3.1: type 36; the last four flags are F, S, C, M, with M lowest, and V stands before them (document 003); NAI for NT 1 to 6.
@@ -44,12 +58,7 @@ mplsForm =
       m = 1;
       free = 32;
       behaves = false;
-      nai1 = 4;
-      nai2 = 16;
-      nai3 = 8;
-      nai4 = 32;
-      nai5 = 16;
-      nai6 = 40;
+      nais = 4 * nt1 + 16 * nt2 + 8 * nt3 + 32 * nt4 + 16 * nt5 + 40 * nt6;
     }
 
 -- "The form that the PST names, SRv6's if it names none."
@@ -60,12 +69,17 @@ formOf pst = cond (eqb pst (mplsForm .setup)) mplsForm srv6Form
 unfoldable pub flagIn : ℕ → ℕ → ℕ
 flagIn octet w = cond (eqb w 0) 0 (octet / w % 2)
 
+-- The octet that is worth w in a number.
+abbrev pub octetAt : ℕ → ℕ → ℕ
+octetAt n w = n / w % 256
+
 -- The octets of the NAI for an NT.
 unfoldable pub naiLength : Form → ℕ → ℕ
 naiLength form nt =
-    cond (eqb nt 1) (form .nai1)
-    (cond (eqb nt 2) (form .nai2)
-    (cond (eqb nt 3) (form .nai3) (cond (eqb nt 4) (form .nai4) (cond (eqb nt 5) (form .nai5) (cond (eqb nt 6) (form .nai6) 0)))))
+    cond (eqb nt 1) (octetAt (form .nais) nt1)
+    (cond (eqb nt 2) (octetAt (form .nais) nt2)
+    (cond (eqb nt 3) (octetAt (form .nais) nt3)
+    (cond (eqb nt 4) (octetAt (form .nais) nt4) (cond (eqb nt 5) (octetAt (form .nais) nt5) (cond (eqb nt 6) (octetAt (form .nais) nt6) 0)))))
 
 -- Whether the form knows an NT.
 unfoldable pub knows : Form → ℕ → Bool

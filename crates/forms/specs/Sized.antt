@@ -9,12 +9,7 @@ use Rattle.forms.specs.Forms.{naiLength}
 pub record Sized (form : Form) : Type 0 where
   pub fixed : form .fixed ≡ cond (form .behaves) 8 4
   pub sid : form .sid ≤ 16
-  pub nai1 : form .nai1 ≤ 40
-  pub nai2 : form .nai2 ≤ 40
-  pub nai3 : form .nai3 ≤ 40
-  pub nai4 : form .nai4 ≤ 40
-  pub nai5 : form .nai5 ≤ 40
-  pub nai6 : form .nai6 ≤ 40
+  pub nai : (nt : ℕ) → naiLength form nt ≤ 40
   pub free : 0 < form .free
 
 -- The least that stands behind the fixed part of a subobject with a SID or an NAI.

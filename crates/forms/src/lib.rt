@@ -12,9 +12,28 @@
 ghost use mathlib.Core.Path.{_≡_};
 ghost use Prim.Native.Nat.{_≤_};
 ghost use Rattle.forms.specs.Forms.{srv6Form, mplsForm, formOf, flagIn, naiLength, knows};
+use objects::MPLS_SETUP;
 
-// the setup type of MPLS
-const MPLS_SETUP: u64 = 1;
+// what the octet of an NT is worth among the lengths of NAIs
+const NT1: u64 = 256;
+
+const NT2: u64 = 65536;
+
+const NT3: u64 = 16777216;
+
+const NT4: u64 = 4294967296;
+
+const NT5: u64 = 1099511627776;
+
+const NT6: u64 = 281474976710656;
+
+// the lengths of SRv6's NAIs and of MPLS's
+const SRV6_NAIS: u64 = 16 * NT2 + 32 * NT4 + 40 * NT6;
+
+const MPLS_NAIS: u64 = 4 * NT1 + 16 * NT2 + 8 * NT3 + 32 * NT4 + 16 * NT5 + 40 * NT6;
+
+// the last NT that a form may know
+const LAST_NT: usize = 6;
 
 // A form in numbers. A flag worth 0 is one that the form has not; an NAI of no octets belongs to an NT that it does not know.
 pub struct Form {
@@ -34,13 +53,8 @@ pub struct Form {
     pub free: u8,
     // whether octets 4 and 5 are reserved and octets 6 and 7 the endpoint behaviour
     pub behaves: bool,
-    // the octets of the NAI for NT 1 to 6
-    pub nai1: u8,
-    pub nai2: u8,
-    pub nai3: u8,
-    pub nai4: u8,
-    pub nai5: u8,
-    pub nai6: u8,
+    // the octets of the NAI for NT 1 to 6, an octet each, worth NT1 to NT6
+    pub nais: u64,
 }
 
 pub fn srv6() -> Form
@@ -59,12 +73,7 @@ pub fn srv6() -> Form
         m: 0,
         free: 16,
         behaves: true,
-        nai1: 0,
-        nai2: 16,
-        nai3: 0,
-        nai4: 32,
-        nai5: 0,
-        nai6: 40,
+        nais: SRV6_NAIS,
     }
 }
 
@@ -84,12 +93,7 @@ pub fn mpls() -> Form
         m: 1,
         free: 32,
         behaves: false,
-        nai1: 4,
-        nai2: 16,
-        nai3: 8,
-        nai4: 32,
-        nai5: 16,
-        nai6: 40,
+        nais: MPLS_NAIS,
     }
 }
 
@@ -114,16 +118,17 @@ pub fn flag(octet: usize, worth: u8) -> usize
     octet / w % 2
 }
 
-// The octets of the NAI for an NT. Choices and not tests: with tests the compiler looks for the number in the form, and keeps no form in registers.
+// The octets of the NAI for an NT: its octet of the lengths.
 pub fn nai_length(form: Form, nt: usize) -> usize
     ensures length { λ r. ⌜ (r ≡ naiLength form nt) × (r ≤ 255) ⌝ }
 {
-    let six = octets::pick(nt == 6, octets::wide(form.nai6), 0);
-    let five = octets::pick(nt == 5, octets::wide(form.nai5), six);
-    let four = octets::pick(nt == 4, octets::wide(form.nai4), five);
-    let three = octets::pick(nt == 3, octets::wide(form.nai3), four);
-    let two = octets::pick(nt == 2, octets::wide(form.nai2), three);
-    octets::pick(nt == 1, octets::wide(form.nai1), two)
+    if nt == 0 {
+        return 0;
+    }
+    if LAST_NT < nt {
+        return 0;
+    }
+    ((form.nais >> (8 * nt)) % 256) as usize
 }
 
 // Whether the form knows an NT; NT 0, no NAI, is known to all.

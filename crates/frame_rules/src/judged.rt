@@ -4,8 +4,8 @@ ghost use Rattle.frame.specs.Frames.{headed, frameOf};
 use answers::Verdict;
 
 // The object's own part of 4.
-fn header(s: &[u8], ero: bool) -> bool
-    ensures header { λ r. ⌜ r ≡ headed (now (s .entry)) ero ⌝ }
+pub fn is_headed(s: &[u8], ero: bool) -> bool
+    ensures headed { λ r. ⌜ r ≡ headed (now (s .entry)) ero ⌝ }
 {
     let n = s.len();
     if n < objects::HEADER {
@@ -29,7 +29,7 @@ fn header(s: &[u8], ero: bool) -> bool
 pub fn framed(s: &[u8], ero: bool, kind: usize) -> Verdict
     ensures framed { λ r. ⌜ r ≡ frameOf (now (s .entry)) ero kind ⌝ }
 {
-    if !header(s, ero) {
+    if !is_headed(s, ero) {
         return answers::refused(answers::FRAME_BROKEN, 0);
     }
     let first = subobject::kind(octets::octet(s, objects::HEADER), ero);

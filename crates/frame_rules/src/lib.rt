@@ -6,3 +6,4 @@
 mod judged;
 
 pub use judged::framed;
+pub use judged::is_headed;

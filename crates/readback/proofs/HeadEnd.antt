@@ -12,7 +12,7 @@ use Rattle.session.specs.declared.Sessions.{Sessions}
 use Rattle.session.specs.Sessions.{sessionUnder}
 use Rattle.subobject.specs.declared.segment.Segment.{Segment}
 use Rattle.subobject.specs.Segments.{noSegment}
-use Rattle.subobject.specs.Strays.{noStrays}
+use Rattle.subobject_strays.specs.Strays.{noStrays}
 use Rattle.route_call.specs.Called.{rule28, judgedIn, segmentIn, judgedFor, segmentFor}
 use Rattle.route_call.proofs.Theorems.{neither-agreed, neither-agreed-picked}
 use Rattle.writer.specs.declared.state.Writer.{Writer}

@@ -23,7 +23,7 @@ use Rattle.subobject.specs.declared.segment.Segment.{Segment}
 use Rattle.subobject.specs.Layout.{sidLength, structureThere, structureLength, expectedLength, kindOf, headOf, headAt}
 use Rattle.subobject.specs.Rules.{rule7, rule8, rule9, malformed, rule10, rule11, flagF, hasStructure, sumAt, bitsAt, labelAt, timeAt, hasLabel, rule29, rule30}
 use Rattle.subobject.specs.Segments.{segmentAt, noSegment, headOfSegment, fixedOctets, structureOctets, subobjectOf, bitsOf, bit}
-use Rattle.subobject.specs.Strays.{straysAt, noStrays, strayIn}
+use Rattle.subobject_strays.specs.Strays.{straysAt, noStrays, strayIn}
 use Rattle.frame.specs.Checks.{Check, check, firstBroken}
 use Rattle.frame.specs.Frames.{classOf, headed, fitsIn, Apart, apart, apartOf, placesOf, kindAt, anyIs, otherThan, mixedAt, rule4, rule5, rule6, rule6Place, rule14, frameChecks}
 use Rattle.frame.proofs.Checks.{None, none-first, none-append}

@@ -19,7 +19,7 @@ use Rattle.subobject.specs.declared.segment.Segment.{Segment}
 use Rattle.subobject.specs.Layout.{sidLength, structureThere, structureLength, expectedLength, kindOf, headOf, headAt}
 use Rattle.subobject.specs.Rules.{rule8, rule9, malformed, rule11, flagF, hasStructure, sumAt, bitsAt}
 use Rattle.subobject.specs.Segments.{segmentBy, segmentAt, outlineOf, headOfSegment, flagsOctet, fixedOctets, structureOctets, subobjectOf, bitsOf, bit}
-use Rattle.subobject.specs.Strays.{strayFlags, structureFlags, reservedOctets, anySet, straysBy, straysAt, noStrays}
+use Rattle.subobject_strays.specs.Strays.{strayFlags, structureFlags, reservedOctets, anySet, straysBy, straysAt, noStrays}
 use Rattle.writer_spare.specs.Held.{Held}
 use Rattle.writer_spare.specs.Spare.{zeros, tidyOf}
 use Rattle.writer_layout.specs.Readable.{together, Marks, Apart, Readable}

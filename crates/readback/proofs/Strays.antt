@@ -14,7 +14,7 @@ use Rattle.forms.specs.declared.Form.{Form}
 use Rattle.forms.specs.Sized.{Sized}
 use Rattle.subobject.specs.Layout.{headAt}
 use Rattle.subobject.specs.Rules.{hasStructure}
-use Rattle.subobject.specs.Strays.{strayFlags, structureReserved, structureFlags, reservedOctets, anySet, straysAt, isStray, strayIn}
+use Rattle.subobject_strays.specs.Strays.{strayFlags, structureReserved, structureFlags, reservedOctets, anySet, straysAt, isStray, strayIn}
 use Rattle.frame.specs.Frames.{placesOf}
 use Rattle.writer_spare.specs.Spare.{zeros}
 use Rattle.writer_layout.specs.Readable.{Readable}

@@ -15,7 +15,7 @@ use Rattle.forms.specs.Forms.{srv6Form, mplsForm, formOf}
 use Rattle.session.specs.declared.Session.{Session}
 use Rattle.subobject.specs.declared.segment.Segment.{Segment}
 use Rattle.subobject.specs.Segments.{noSegment}
-use Rattle.subobject.specs.Strays.{noStrays, straysAt, isStray}
+use Rattle.subobject_strays.specs.Strays.{noStrays, straysAt, isStray}
 use Rattle.frame.specs.Frames.{placesOf}
 use Rattle.route.specs.Routes.{strayCount, judgeOf, segmentOf}
 use Rattle.route.proofs.Answer.{accepted-count}

@@ -19,7 +19,7 @@ use Rattle.subobject.specs.declared.head.Head.{Head}
 use Rattle.subobject.specs.Layout.{sidPlace, expectedLength, kindOf, headOf, headAt}
 use Rattle.subobject.specs.Rules.{rule7, rule8, rule9, malformed, rule10, rule11, hasStructure, sumAt, bitsAt, hasLabel, rule29, rule30, labelAt, timeAt}
 use Rattle.subobject.specs.Segments.{segmentAt}
-use Rattle.subobject.specs.Strays.{strayFlags, structureFlags, reservedOctets, straysAt, strayIn}
+use Rattle.subobject_strays.specs.Strays.{strayFlags, structureFlags, reservedOctets, straysAt, strayIn}
 use Rattle.frame.specs.Checks.{Check, check, firstBroken}
 use Rattle.frame.specs.Frames.{placesOf, frameChecks}
 use Rattle.frame.proofs.Checks.{first-append}

@@ -23,8 +23,8 @@ use Rattle.objects.specs.Objects.{header, unit}
 use Rattle.subobject.specs.Layout.{headOf, headAt, expectedAt}
 use Rattle.subobject.specs.Rules.{rule7, rule8, rule9}
 use Rattle.subobject.specs.Segments.{segmentAt, noSegment}
-use Rattle.subobject.specs.declared.strays.Strays.{Strays}
-use Rattle.subobject.specs.Strays.{straysAt, noStrays}
+use Rattle.subobject_strays.specs.declared.Strays.{Strays}
+use Rattle.subobject_strays.specs.Strays.{straysAt, noStrays}
 use Rattle.subobject_read.specs.declared.answer.Reading.{Reading}
 use Rattle.subobject_read.specs.declared.answer.Reading.the-variants.{Whole, Refused}
 use Rattle.subobject_read.specs.Reader.{readOf}
@@ -37,6 +37,7 @@ use Rattle.frame.proofs.Laws.{Sized, headed-sized, fits-true}
 use Rattle.route.specs.declared.picking.Picked.{Picked}
 use Rattle.route_walk.specs.Walk.{checksAt, subobjectChecks, walkOf}
 use Rattle.route_walk.proofs.Laws.{head-size}
+use Rattle.route_glance.specs.Settled.{Settled}
 use Rattle.route.specs.Parts.{limitedOf, nothingWith}
 use Rattle.route.specs.Routes.{rule13, wholeChecks, lastChecks, checksOf, countOf, strayCount, acceptanceOf, judgeAs, rule15, pickOf, segmentAs}
 
@@ -92,6 +93,17 @@ module _ (form : Form) (s : List ℕ) (ero : Bool) (session : Session) (pst : �
   pub frame-count : f .number ≡ 0 → f .count ≡ countOf s
   unfolding frameOf
   frame-count z = ap (λ (v : Verdict). v .count) (e ∙ none-first (frameChecks s ero (form .kind)) (acceptedWith (countOf s)) (frame-none z))
+
+-- What one pass has settled says so too.
+module _ (form : Form) (s : List ℕ) (ero n : Bool) {count stray : ℕ} (x : Settled form s ero n count stray) where
+  pub settled-none : None (frameChecks s ero (form .kind))
+  unfolding frameOf
+  settled-none = first-none (frameChecks s ero (form .kind)) (acceptedWith (countOf s)) (numbered-frame form ero s) (ap (λ (v : Verdict). v .number) (x .frame))
+
+  pub settled-count : count ≡ countOf s
+  unfolding frameOf
+  settled-count =
+      sym (ap (λ (v : Verdict). v .count) (sym (none-first (frameChecks s ero (form .kind)) (acceptedWith (countOf s)) settled-none) ∙ x .frame))
 
 -- the rest of the answer ---------------------------------------------------------------------------------------
 

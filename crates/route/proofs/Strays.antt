@@ -12,7 +12,7 @@ use Rattle.answers.specs.declared.verdict.Verdict.{Verdict}
 use Rattle.answers.specs.Verdicts.{refusedBy}
 use Rattle.octets.proofs.Said.{cond-most}
 use Rattle.session.specs.declared.Session.{Session}
-use Rattle.subobject.specs.Strays.{straysAt, isStray, strayIn}
+use Rattle.subobject_strays.specs.Strays.{straysAt, isStray, strayIn}
 use Rattle.frame.specs.Checks.{Check, firstBroken}
 use Rattle.frame.specs.Frames.{placesOf}
 use Rattle.route.specs.declared.picking.Picked.{Picked}

@@ -11,9 +11,9 @@ use Rattle.octets.specs.Octets.{octetOf, be16, partOf}
 use Rattle.session.specs.declared.Session.{Session}
 use Rattle.subobject.specs.declared.head.Head.{Head}
 use Rattle.subobject.specs.declared.segment.Segment.{Segment}
-use Rattle.subobject.specs.declared.strays.Strays.{Strays}
+use Rattle.subobject_strays.specs.declared.Strays.{Strays}
 use Rattle.subobject.specs.Segments.{noSegment}
-use Rattle.subobject.specs.Strays.{anySet, noStrays, strayOne}
+use Rattle.subobject_strays.specs.Strays.{anySet, noStrays, strayOne}
 use Rattle.frame.specs.Checks.{Check, check, firstBroken}
 use Rattle.frame.specs.Frames.{placesOf, frameChecks}
 use Rattle.route.specs.declared.picking.Picked.{Picked}

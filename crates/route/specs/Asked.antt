@@ -5,7 +5,7 @@ use mathlib.Core.Bool.{Bool, cond}
 use mathlib.Core.List.{List}
 use Rattle.forms.specs.declared.Form.{Form}
 use Rattle.session.specs.declared.Session.{Session}
-use Rattle.subobject.specs.Strays.{isStray}
+use Rattle.subobject_strays.specs.Strays.{isStray}
 use Rattle.route.specs.Routes.{segmentAs}
 
 abbrev pub strayAsked : Form → List ℕ → Bool → Session → ℕ → ℕ → ℕ → ℕ

@@ -8,7 +8,7 @@ use Rattle.session.specs.declared.Limit.{Limit}
 use Rattle.frame.specs.Checks.{firstBroken}
 use Rattle.frame.specs.Frames.{placesOf}
 use Rattle.subobject.specs.Segments.{noSegment}
-use Rattle.subobject.specs.Strays.{noStrays}
+use Rattle.subobject_strays.specs.Strays.{noStrays}
 use Rattle.route.specs.declared.picking.Picked.{Picked}
 use Rattle.route.specs.Routes.{lastChecks}
 

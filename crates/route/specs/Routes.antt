@@ -15,7 +15,7 @@ use Rattle.session.specs.declared.Limit.the-variants.{Free, Most}
 use Rattle.session.specs.declared.Session.{Session}
 use Rattle.subobject.specs.declared.segment.Segment.{Segment}
 use Rattle.subobject.specs.Segments.{segmentAt, noSegment}
-use Rattle.subobject.specs.Strays.{straysAt, noStrays, strayIn}
+use Rattle.subobject_strays.specs.Strays.{straysAt, noStrays, strayIn}
 use Rattle.frame.specs.Checks.{Check, check, firstBroken}
 use Rattle.frame.specs.Frames.{placesOf, frameChecks}
 use Rattle.route_walk.specs.Walk.{subobjectChecks}

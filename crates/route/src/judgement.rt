@@ -8,10 +8,12 @@ ghost use Rattle.frame.specs.Frames.{apartOf};
 ghost use Rattle.forms.specs.Forms.{formOf};
 ghost use Rattle.forms.specs.Sized.{Sized};
 ghost use Rattle.objects.specs.Objects.{header};
+ghost use Rattle.route_glance.specs.Settled.{Settled};
 ghost use Rattle.route.specs.Parts.{limitedOf};
 ghost use Rattle.route.specs.Routes.{judgeAs, judgeOf, rule13};
 use answers::Verdict;
 use forms::Form;
+use route_glance::Seen;
 use session::Limit;
 use session::Session;
 
@@ -49,8 +51,8 @@ fn limited(s: &[u8], ero: bool, limit: Limit, w: Verdict) -> Verdict
 }
 
 // The verdict on a route of a form, under the form's session and a setup type.
-pub fn judge_as(form: Form, s: &[u8], ero: bool, session: Session, pst: u64) -> Verdict
-    requires { ⌜ (Sized form) × (formOf (form .setup) ≡ form) ⌝ }
+fn judge_as(form: Form, s: &[u8], ero: bool, session: Session, pst: u64) -> Verdict
+    requires { ⌜ Sized form ⌝ }
     ensures judged { λ r. ⌜ r ≡ judgeAs form (now (s .entry)) ero session pst ⌝ }
 {
     let f = frame_rules::framed(s, ero, octets::wide(form.kind));
@@ -65,9 +67,31 @@ pub fn judge_as(form: Form, s: &[u8], ero: bool, session: Session, pst: u64) -> 
     limited(s, ero, limit, w)
 }
 
-// The same, of the form that the setup type names, SRv6's if it names none.
+// What one pass settles of a route in which nothing is wrong.
+fn seen(s: &[u8], ero: bool, n: bool, pst: u64) -> Seen
+    ensures settled { λ r. ⌜ (0 < r .count → Settled (formOf pst) (now (s .entry)) ero n (r .count) (r .stray)) ⌝ }
+{
+    if !frame_rules::is_headed(s, ero) {
+        return route_glance::unsettled();
+    }
+    if pst == objects::MPLS_SETUP {
+        return route_glance::see_mpls(s, ero, n);
+    }
+    route_glance::see_srv6(s, ero, n)
+}
+
+// The same, of the form that the setup type names, SRv6's if it names none. One pass settles a route in which nothing is wrong; else the rules are asked in
+// their order.
 pub fn judge(s: &[u8], ero: bool, session: Session, pst: u64) -> Verdict
     ensures judged { λ r. ⌜ r ≡ judgeOf (now (s .entry)) ero session pst ⌝ }
 {
-    judge_as(forms::named(pst), s, ero, session, pst)
+    let x = seen(s, ero, session.n, pst);
+    if x.count == 0 {
+        return judge_as(forms::named(pst), s, ero, session, pst);
+    }
+    if not_agreed(forms::named(pst), session.agreed, pst) {
+        return answers::refused(answers::NOT_AGREED, 0);
+    }
+    let limit = session.limit;
+    limited(s, ero, limit, answers::carrying(x.count, x.stray))
 }

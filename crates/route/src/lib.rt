@@ -10,7 +10,5 @@ mod judgement;
 mod picking;
 
 pub use judgement::judge;
-pub use judgement::judge_as;
 pub use picking::Picked;
 pub use picking::segment;
-pub use picking::segment_as;

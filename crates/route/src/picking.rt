@@ -4,13 +4,13 @@ ghost use Rattle.forms.specs.Forms.{formOf};
 ghost use Rattle.forms.specs.Sized.{Sized};
 ghost use Rattle.route.specs.Parts.{nothingWith};
 ghost use Rattle.route.specs.Routes.{segmentAs, segmentOf};
-use super::judgement::judge_as;
+use super::judgement::judge;
 use answers::Verdict;
 use forms::Form;
 use session::Session;
 use subobject::Segment;
-use subobject::Strays;
 use subobject_read::Reading;
+use subobject_strays::Strays;
 
 // The verdict, with the segment and its strays if it is an acceptance, else with the segment of zeros and no strays.
 pub struct Picked {
@@ -26,16 +26,16 @@ fn nothing(v: Verdict) -> Picked
     Picked {
         verdict: v,
         segment: subobject_read::no_segment(),
-        strays: subobject::no_strays(),
+        strays: subobject_strays::no_strays(),
     }
 }
 
-// Segment i, from 0, of a route of a form, under the form's session and a setup type.
-pub fn segment_as(form: Form, s: &[u8], ero: bool, session: Session, pst: u64, i: u64) -> Picked
-    requires { ⌜ (Sized form) × (formOf (form .setup) ≡ form) ⌝ }
+// Segment i, from 0, of a route of the form that the setup type names, under the form's session.
+fn segment_as(form: Form, s: &[u8], ero: bool, session: Session, pst: u64, i: u64) -> Picked
+    requires { ⌜ (Sized form) × (form ≡ formOf pst) ⌝ }
     ensures picked { λ r. ⌜ r ≡ segmentAs form (now (s .entry)) ero session pst i ⌝ }
 {
-    let v = judge_as(form, s, ero, session, pst);
+    let v = judge(s, ero, session, pst);
     if v.number != 0 {
         return nothing(v);
     }
@@ -53,7 +53,7 @@ pub fn segment_as(form: Form, s: &[u8], ero: bool, session: Session, pst: u64, i
     }
 }
 
-// The same, of the form that the setup type names, SRv6's if it names none.
+// The same, with the form found by the setup type, SRv6's if it names none.
 pub fn segment(s: &[u8], ero: bool, session: Session, pst: u64, i: u64) -> Picked
     ensures picked { λ r. ⌜ r ≡ segmentOf (now (s .entry)) ero session pst i ⌝ }
 {

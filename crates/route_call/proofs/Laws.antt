@@ -8,7 +8,7 @@ use Rattle.answers.specs.Numbers.{notUsable}
 use Rattle.answers.specs.Verdicts.{refusedBy}
 use Rattle.session.specs.declared.Session.{Session}
 use Rattle.subobject.specs.Segments.{noSegment}
-use Rattle.subobject.specs.Strays.{noStrays}
+use Rattle.subobject_strays.specs.Strays.{noStrays}
 use Rattle.route.specs.declared.picking.Picked.{Picked}
 use Rattle.route.specs.Routes.{judgeOf, segmentOf}
 use Rattle.head_end.specs.Addresses.{usableList}

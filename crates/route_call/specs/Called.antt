@@ -11,7 +11,7 @@ use Rattle.session.specs.declared.Sessions.{Sessions}
 use Rattle.session.specs.declared.Opened.{Opened}
 use Rattle.session.specs.Sessions.{sessionUnder}
 use Rattle.subobject.specs.Segments.{noSegment}
-use Rattle.subobject.specs.Strays.{noStrays}
+use Rattle.subobject_strays.specs.Strays.{noStrays}
 use Rattle.route.specs.declared.picking.Picked.{Picked}
 use Rattle.route.specs.Routes.{judgeOf, segmentOf}
 use Rattle.head_end.specs.Addresses.{usableList}

@@ -6,20 +6,22 @@ use mathlib.Core.Path.{_≡_, refl, sym, ap, _∙_}
 use mathlib.Core.List.{List}
 use mathlib.Core.Bool.{Bool, true, false, cond, not, _&&_, _||_}
 use lib.Dec.{eqb, ltb, leb}
-use lib.ListN.{length}
+use lib.ListN.{length, take, drop}
+use lib.Seq.{getD-take, getD-drop}
+use native.Mathlib.Nat.{add-sub-cancel-left}
 use borrow.Author.Tests.{eq-eqb, ne-eqb, lt-ltb, le-ltb, le-leb, lt-leb, leb-false, ltb-false, eqb-true, not-true, not-false}
 use Rattle.answers.specs.declared.verdict.Verdict.{Verdict}
 use Rattle.answers.specs.Verdicts.{refusedBy, acceptedWith}
 use Rattle.octets.specs.Octets.{octetOf}
-use Rattle.octets.proofs.Said.{either-false}
+use Rattle.octets.proofs.Said.{both-true, either-false}
 use Rattle.objects.specs.Objects.{header, unit}
 use Rattle.forms.specs.declared.Form.{Form}
-use Rattle.forms.specs.Forms.{formOf}
+use Rattle.forms.specs.Forms.{formOf, knows}
 use Rattle.subobject.specs.declared.head.Head.{Head}
 use Rattle.subobject.specs.declared.segment.Segment.{Segment}
-use Rattle.subobject.specs.Layout.{sidPlace, headOf, headAt, expectedLength, expectedAt}
-use Rattle.subobject.specs.Rules.{rule7, rule8, rule9, rule11, rule29, rule30, bitsAt, labelAt, timeAt}
-use Rattle.subobject.specs.Segments.{segmentAt, noSegment}
+use Rattle.subobject.specs.Layout.{sidPlace, sidLength, headOf, headAt, expectedLength, expectedAt}
+use Rattle.subobject.specs.Rules.{hasLabel, rule7, rule8, rule9, rule11, rule29, rule30, bitsAt, labelAt, timeAt}
+use Rattle.subobject.specs.Segments.{segmentBy, segmentAt, noSegment}
 use Rattle.subobject.proofs.Laws.{sound-length}
 use Rattle.frame.specs.Frames.{fitsIn}
 use Rattle.frame.proofs.Laws.{over-room, no-multiple, long-enough, fits-true}
@@ -51,6 +53,14 @@ module _ (s : List ℕ) (at : ℕ) where
 module _ (len room : ℕ) where
   pub unfit-room : room < len → true ≡ not (fitsIn len room)
   unfit-room h = ap not (over-room len room h)
+
+  pub unfit-unit : room < unit → true ≡ not (fitsIn len room)
+  unfolding fitsIn
+  unfit-unit h = go (ltb len unit) refl
+    where
+      go : (b : Bool) → ltb len unit ≡ b → true ≡ not (fitsIn len room)
+      go true e = rw e
+      go false e = ap not (over-room len room (omega (arith, ltb-false len unit e)))
 
   pub unfit-multiple : (len % unit ≡ 0 → ⊥) → true ≡ not (fitsIn len room)
   unfit-multiple n = ap not (no-multiple len room n)
@@ -109,6 +119,32 @@ module _ (form : Form) (s : List ℕ) (at : ℕ) (h : Head) where
         unfolding headVerdict
         unbroken d l t e = e ∙ sym (rw (same-kind, a, b, c, d, l, t))
 
+-- A sound subobject's SID is there,
+pub sid-room : (form : Form) (s : List ℕ) (at : ℕ) (h : Head) → rule7 form h ≡ false → at + h .size ≤ length s → sidPlace form at + sidLength form (h .s) ≤ length s
+unfolding expectedLength
+sid-room form s at h r l = omega (arith, sound-length form h r, l)
+
+-- and so is its label.
+pub label-room : (form : Form) (s : List ℕ) (at : ℕ) (h : Head) → hasLabel h ≡ true → sidPlace form at + sidLength form (h .s) ≤ length s → 4 ≤ form .sid
+    → sidPlace form at + 4 ≤ length s
+unfolding hasLabel
+label-room form s at h e l m = let z = both-true (eqb (h .s) 0) _ e .0 in omega (arith, rw z at l, m)
+
+-- A label stack entry that was cut out says what it said in its place.
+entry-octet : (s : List ℕ) (at k : ℕ) → k < 4 → octetOf (take (at + 4 - at) (drop at s)) k ≡ octetOf s (at + k)
+unfolding octetOf
+entry-octet s at k h = rw (add-sub-cancel-left at 4) (getD-take 4 (drop at s) k 0 h ∙ getD-drop at s k 0)
+
+pub entry-label : (s : List ℕ) (at : ℕ) → labelAt (take (at + 4 - at) (drop at s)) 0 ≡ labelAt s at
+unfolding labelAt
+entry-label s at =
+    let z : at + 0 ≡ at = omega arith in
+    rw (entry-octet s at 0 (omega arith), entry-octet s at 1 (omega arith), entry-octet s at 2 (omega arith), z)
+
+pub entry-time : (s : List ℕ) (at : ℕ) → timeAt (take (at + 4 - at) (drop at s)) 0 ≡ timeAt s at
+unfolding timeAt
+entry-time s at = entry-octet s at 3 (omega arith)
+
 -- ---- the verdict
 module _ (form : Form) (s : List ℕ) (ero : Bool) (at : ℕ) where
   pub stops-15 : {r : Verdict} → outside s at ≡ true → r ≡ refusedBy 15 0 → r ≡ stepVerdict form s ero at
@@ -127,6 +163,10 @@ module _ (form : Form) (s : List ℕ) (ero : Bool) (at : ℕ) where
 
     pub room : not (fitsIn (octetOf s (at + 1)) (length s - at)) ≡ false → at + 4 ≤ length s
     room b = omega (arith, fit (octetOf s (at + 1)) (length s - at) b, inside s at a)
+
+    pub size-room : not (fitsIn (octetOf s (at + 1)) (length s - at)) ≡ false → (h : Head) → h ≡ headAt form s ero at → at + h .size ≤ length s
+    unfolding headAt headOf
+    size-room b h e = omega (arith, fit (octetOf s (at + 1)) (length s - at) b, inside s at a, ap (λ (x : Head). x .size) e)
 
 -- ---- an acceptance: what was asked and found unbroken
 pub record Sound (form : Form) (s : List ℕ) (ero : Bool) (at : ℕ) : Type 0 where
@@ -226,6 +266,28 @@ module _ (form : Form) (s : List ℕ) (ero : Bool) (at : ℕ) (v : Verdict) (e :
       → _≡_ {A = Stepped} (record { verdict = v; segment = g; next = at + size }) (stepAs form s ero at)
   unfolding stepAs
   step-accepted z q p = rw (← e, eq-eqb (v .number) 0 z) (λ k. record { verdict = v; segment = q k; next = at + p k })
+
+  pub head-four : v .number ≡ 0 → at + 4 ≤ length s
+  head-four z = omega (arith, fits-true (octetOf s (at + 1)) (length s - at) (step-sound z .fits), step-short z)
+
+  -- the same by the head found there
+  module _ (h : Head) (q : h ≡ headAt form s ero at) where
+    pub head-lies : v .number ≡ 0 → at + expectedLength form (h .nt) (h .s) (h .t) ≤ length s
+    unfolding expectedAt
+    head-lies z = rw q (step-lies z)
+
+    pub head-known : v .number ≡ 0 → knows form (h .nt) ≡ true
+    unfolding rule8
+    head-known z = rw q (not-false _ (step-sound z .r8))
+
+    pub head-behind : v .number ≡ 0 → at + h .size ≤ length s
+    unfolding headAt headOf
+    head-behind z = omega (arith, step-room z, ap (λ (x : Head). x .size) q)
+
+    pub head-stepped : {g : Segment} → v .number ≡ 0 → g ≡ segmentBy form h s at
+        → _≡_ {A = Stepped} (record { verdict = v; segment = g; next = at + h .size }) (stepAs form s ero at)
+    unfolding segmentAt headAt headOf
+    head-stepped z p = step-accepted z (p ∙ ap (λ (x : Head). segmentBy form x s at) q) (ap (λ (x : Head). x .size) q)
 
 -- ---- the form by the setup type
 pub by-named : (s : List ℕ) (ero : Bool) (pst at : ℕ) {form : Form} {r : Stepped} → form ≡ formOf pst → r ≡ stepAs form s ero at → r ≡ stepOf s ero pst at

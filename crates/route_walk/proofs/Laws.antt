@@ -21,10 +21,10 @@ use Rattle.forms.specs.Forms.{naiLength}
 use Rattle.subobject.specs.declared.head.Head.{Head}
 use Rattle.subobject.specs.Layout.{headOf, headAt, expectedLength}
 use Rattle.subobject.specs.Rules.{sumAt, bitsAt, rule11, subjectBy, subjectAt, Row, rules, ruleCount, brokenBy, placeBy}
-use Rattle.subobject.specs.Strays.{straysBy, straysAt, strayOne, strayIn}
-use Rattle.subobject.specs.Four.{markedAt, endingMarked}
+use Rattle.subobject_strays.specs.Strays.{straysBy, straysAt, strayOne, strayIn}
+use Rattle.subobject_strays.specs.Four.{markedAt, endingMarked}
 use Rattle.subobject.proofs.Laws.{sound-length}
-use Rattle.subobject.proofs.StrayLaws.{unmarked-none}
+use Rattle.subobject_strays.proofs.Laws.{unmarked-none}
 use Rattle.frame.specs.Checks.{Check, check, firstBroken}
 use Rattle.frame.specs.Frames.{Apart, apartOf, placesOf}
 use Rattle.frame.proofs.Laws.{Over, over-starts, over-ends, over-as, sound-starts, sound-room, sound-next, next-by}

@@ -7,7 +7,7 @@ use Rattle.answers.specs.declared.verdict.Verdict.{Verdict}
 use Rattle.answers.specs.Verdicts.{carryingBoth}
 use Rattle.forms.specs.declared.Form.{Form}
 use Rattle.subobject.specs.Rules.{Subject, subjectAt, Row, rules}
-use Rattle.subobject.specs.Strays.{strayIn}
+use Rattle.subobject_strays.specs.Strays.{strayIn}
 use Rattle.frame.specs.Checks.{Check, check, firstBroken}
 use Rattle.frame.specs.Frames.{placesOf}
 

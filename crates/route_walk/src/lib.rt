@@ -2,8 +2,6 @@
 // What is set and ought to be 0 is no broken rule: it is counted.
 // The place in an answer is the octet of the subobject at fault, counted from the object's start; for 29 and 30 it is 0.
 mod numbered;
-mod over_mpls;
-mod over_srv6;
 mod subobjects;
 
 pub use numbered::bad_format;

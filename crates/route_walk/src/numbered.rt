@@ -62,9 +62,9 @@ pub fn bad_label(form: Form, s: &[u8], at: usize, h: Head) -> bool
     requires { ⌜ (at < length (now s)) × Sized form ⌝ }
     ensures broken { λ r. ⌜ r ≡ rule29 h (labelAt (now (s .entry)) (sidPlace form at)) ⌝ }
 {
-    if subobject_rules::labelled(h) {
+    if label_rules::labelled(h) {
         let p = at + octets::wide(form.fixed);
-        return subobject_rules::twenty_nine(h, subobject_rules::label_at(s, p));
+        return label_rules::twenty_nine(h, label_rules::label_at(s, p));
     }
     false
 }
@@ -74,9 +74,9 @@ pub fn bad_format(form: Form, s: &[u8], at: usize, h: Head) -> bool
     requires { ⌜ (at < length (now s)) × Sized form ⌝ }
     ensures broken { λ r. ⌜ r ≡ rule30 h (timeAt (now (s .entry)) (sidPlace form at)) ⌝ }
 {
-    if subobject_rules::labelled(h) {
+    if label_rules::labelled(h) {
         let p = at + octets::wide(form.fixed);
-        return subobject_rules::thirty(h, subobject_rules::time_at(s, p));
+        return label_rules::thirty(h, label_rules::time_at(s, p));
     }
     false
 }

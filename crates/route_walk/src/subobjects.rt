@@ -1,27 +1,40 @@
-// The walk over the subobjects of a route. Each form has a walk of its own, in which the compiler knows its numbers.
+// A nested walk over a route's subobjects and their checks. It stops at the first broken rule, even inside a subobject. What is set and ought to be 0 is no
+// broken rule: the subobjects that are stray are counted.
 ghost use mathlib.Core.Path.{_≡_};
 ghost use mathlib.Core.Bool.{true};
 ghost use Prim.Native.Nat.{_≤_, _<_};
 ghost use lib.ListN.{length};
 ghost use Rattle.objects.specs.Objects.{header};
 ghost use Rattle.frame.specs.Frames.{apartOf};
-ghost use Rattle.forms.specs.Forms.{formOf};
+ghost use Rattle.forms.specs.Sized.{Sized};
 ghost use Rattle.route_walk.specs.Walk.{walkOf};
-use super::over_mpls;
-use super::over_srv6;
+use super::numbered;
 use answers::Verdict;
 use forms::Form;
 
-// what names MPLS
-const MPLS_SETUP: u8 = objects::MPLS_SETUP as u8;
-
 // The first broken rule with the place of its subobject; else an acceptance of `count` segments, with how many of them are stray.
 pub fn walk(form: Form, s: &[u8], ero: bool, n: bool, count: usize) -> Verdict
-    requires { ⌜ (header ≤ length (now s)) × (length (now s) < 65536) × (apartOf (now s) .whole ≡ true) × (formOf (form .setup) ≡ form) ⌝ }
+    requires { ⌜ (header ≤ length (now s)) × (length (now s) < 65536) × (apartOf (now s) .whole ≡ true) × (Sized form) ⌝ }
     ensures walked { λ r. ⌜ r ≡ walkOf form (now (s .entry)) ero n count ⌝ }
 {
-    if form.setup == MPLS_SETUP {
-        return over_mpls::walk_mpls(s, ero, n, count);
+    let end = s.len();
+    let mut at: usize = objects::HEADER;
+    let mut stray: usize = 0;
+    'walk: loop {
+        if at == end {
+            break 'walk answers::carrying(count, stray);
+        }
+        let h = subobject::head_at(form, s, at, ero);
+        let next = at + h.size;
+        let mut k: usize = 0;
+        while k < numbered::RULES {
+            let number = numbered::ORDER[k];
+            if numbered::breaks(form, s, at, h, ero, n, number) {
+                break 'walk answers::refused(number, numbered::place(number, at));
+            }
+            k = k + 1;
+        }
+        stray = stray + subobject_strays::stray_of(form, s, at, h);
+        at = next;
     }
-    over_srv6::walk_srv6(s, ero, n, count)
 }

@@ -13,11 +13,13 @@ use Rattle.writer.specs.Writing.{beginAnswer, beginBuffer, addAnswer, addBuffer
 use Rattle.board_rules.specs.OnRecord.{removeOn, compactOn, nextOn, movedOn}
 use Rattle.report_call.specs.Reported.{reportForOn, reportStoreForOn}
 use Rattle.border_records.specs.declared.verdict.VerdictRecord.{VerdictRecord}
-use Rattle.border_records.specs.declared.opened.OpenedRecord.{OpenedRecord}
-use Rattle.border_records.specs.declared.agreement.SessionRecord.{SessionRecord}
-use Rattle.border_records.specs.declared.setup.SetupRecord.{SetupRecord}
+use Rattle.border_opened.specs.declared.opened.OpenedRecord.{OpenedRecord}
+use Rattle.border_session.specs.declared.SessionRecord.{SessionRecord}
+use Rattle.border_opened.specs.declared.setup.SetupRecord.{SetupRecord}
 use Rattle.border_segment.specs.declared.segment.OutlineRecord.{OutlineRecord}
-use Rattle.border_records.specs.Records.{isYes, openedIn, openedOut, sessionsIn, sessionsOut, setupIn, verdictOut}
+use Rattle.border_records.specs.Records.{isYes, verdictOut}
+use Rattle.border_opened.specs.Opens.{openedIn, openedOut, setupIn}
+use Rattle.border_session.specs.Agreed.{sessionsIn, sessionsOut}
 use Rattle.route_step.specs.Steps.{stepOf}
 use Rattle.border_segment.specs.Segments.{outlineIn, pickedOut, steppedOut}
 use Rattle.border_segment.specs.declared.picking.PickedRecord.{PickedRecord}

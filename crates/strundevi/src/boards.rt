@@ -5,14 +5,15 @@ ghost use Rattle.board_record.specs.Record.{withRows, emptyBoard};
 ghost use Rattle.octets.specs.Octets.{part};
 ghost use Rattle.board_rules.specs.OnRecord.{removeOn, compactOn, bodyOn, bodyFormOn, nextOn, movedOn};
 ghost use Rattle.report_call.specs.Reported.{reportForOn, reportStoreForOn};
-ghost use Rattle.border_records.specs.Records.{sessionsIn, verdictOut};
+ghost use Rattle.border_records.specs.Records.{verdictOut};
+ghost use Rattle.border_session.specs.Agreed.{sessionsIn};
 ghost use Rattle.border_answers.specs.Handing.{changeOut};
 ghost use Rattle.border_looks.specs.Looks.{partOut, freshOut};
 use border_answers::ChangeRecord;
 use border_looks::MarkRecord;
 use border_looks::PartRecord;
-use border_records::SessionRecord;
 use border_records::VerdictRecord;
+use border_session::SessionRecord;
 
 // Makes the record that of the empty board.
 #[no_mangle]

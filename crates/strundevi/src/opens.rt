@@ -2,10 +2,11 @@
 ghost use mathlib.Core.Path.{_≡_};
 ghost use Rattle.session.specs.Sessions.{sessionsOf};
 ghost use Rattle.open.specs.Open.{openOf};
-ghost use Rattle.border_records.specs.Records.{openedIn, openedOut, sessionsOut, setupIn};
-use border_records::OpenedRecord;
-use border_records::SessionRecord;
-use border_records::SetupRecord;
+ghost use Rattle.border_opened.specs.Opens.{openedIn, openedOut, setupIn};
+ghost use Rattle.border_session.specs.Agreed.{sessionsOut};
+use border_opened::OpenedRecord;
+use border_opened::SetupRecord;
+use border_session::SessionRecord;
 
 // What an OPEN object says, or 28, 1, 2 or 3.
 #[no_mangle]

@@ -1,13 +1,14 @@
 // Judging a route, asking for its segments, and stepping through it. `ero` is a flag: an ERO, else an RRO.
 ghost use mathlib.Core.Path.{_≡_};
 ghost use Rattle.route_call.specs.Called.{judgedFor, segmentFor};
-ghost use Rattle.border_records.specs.Records.{isYes, sessionsIn, verdictOut};
+ghost use Rattle.border_records.specs.Records.{isYes, verdictOut};
+ghost use Rattle.border_session.specs.Agreed.{sessionsIn};
 ghost use Rattle.route_step.specs.Steps.{stepOf};
 ghost use Rattle.border_segment.specs.Segments.{pickedOut, steppedOut};
-use border_records::SessionRecord;
 use border_records::VerdictRecord;
 use border_segment::PickedRecord;
 use border_segment::SteppedRecord;
+use border_session::SessionRecord;
 
 // The verdict on a route under the sessions and a setup type.
 #[no_mangle]

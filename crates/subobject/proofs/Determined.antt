@@ -10,9 +10,6 @@ use Rattle.subobject.specs.declared.segment.Segment.{Segment}
 use Rattle.subobject.specs.Layout.{kindOf, headAt, expectedLength}
 use Rattle.subobject.specs.Rules.{hasStructure}
 use Rattle.subobject.specs.Segments.{headOfOutline, outlineOf}
-use Rattle.subobject.specs.declared.strays.Strays.{Strays}
-use Rattle.subobject.specs.Strays.{straysBy, noStrays, strayOne}
-use Rattle.subobject.specs.Four.{markedAt, endingMarked}
 
 pub kind-determined : (x : ℕ) (ero : Bool) (a b : ℕ) → a ≡ kindOf x ero → b ≡ kindOf x ero → a ≡ b
 kind-determined x ero a b e f = e ∙ sym f
@@ -31,12 +28,3 @@ expected-determined form nt s t a b e f = e ∙ sym f
 
 pub outline-of-determined : (g : Segment) (a b : Outline) → a ≡ outlineOf g → b ≡ outlineOf g → a ≡ b
 outline-of-determined g a b e f = e ∙ sym f
-
-pub strays-at-determined : (form : Form) (h : Head) (s : List ℕ) (at : ℕ) (a b : Strays) → a ≡ straysBy form h s at → b ≡ straysBy form h s at → a ≡ b
-strays-at-determined form h s at a b e f = e ∙ sym f
-
-pub no-strays-determined : (a b : Strays) → a ≡ noStrays → b ≡ noStrays → a ≡ b
-no-strays-determined a b e f = e ∙ sym f
-
-pub stray-of-determined : (form : Form) (h : Head) (s : List ℕ) (at : ℕ) (a b : ℕ) → a ≡ strayOne (straysBy form h s at) → b ≡ strayOne (straysBy form h s at) → a ≡ b
-stray-of-determined form h s at a b e f = e ∙ sym f

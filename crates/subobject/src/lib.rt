@@ -3,7 +3,6 @@
 mod head;
 mod parts;
 mod segment;
-mod strays;
 
 pub use head::Head;
 pub use head::head_at;
@@ -26,8 +25,3 @@ pub use parts::expected;
 pub use segment::Outline;
 pub use segment::Segment;
 pub use segment::outline_of;
-pub use strays::Strays;
-pub use strays::no_strays;
-pub use strays::stray_of;
-pub use strays::stray_srv6;
-pub use strays::strays_at;

@@ -17,9 +17,9 @@ use Rattle.forms.specs.Sized.{Sized}
 use Rattle.subobject.specs.Layout.{behaviourPlace, sidSize, sidLength, naiSize, structureSize, bitLengths, structurePlace}
 use Rattle.subobject.specs.Layout.{expectedLength, headAt, expectedAt}
 use Rattle.subobject.specs.Rules.{hasStructure}
-use Rattle.subobject.specs.Segments.{segmentAt}
-use Rattle.subobject.specs.declared.strays.Strays.{Strays}
-use Rattle.subobject.specs.Strays.{straysBy, straysAt}
+use Rattle.subobject.specs.Segments.{segmentBy, segmentAt}
+use Rattle.subobject_strays.specs.declared.Strays.{Strays}
+use Rattle.subobject_strays.specs.Strays.{straysBy, straysAt}
 use Rattle.subobject.proofs.Laws.{there-sid}
 use Rattle.subobject_read.specs.declared.answer.Reading.{Reading}
 use Rattle.subobject_read.specs.declared.answer.Reading.the-variants.{Whole, Refused}
@@ -31,6 +31,12 @@ unfolding hasStructure
 sid-there h e = there-sid (h .s) (h .t) e
 
 -- The parts of a subobject lie inside the octets given.
+pub parts-by : (form : Form) (s : List ℕ) (at : ℕ) (h : Head) → at + expectedLength form (h .nt) (h .s) (h .t) ≤ length s
+    → at + form .fixed + sidLength form (h .s) + naiLength form (h .nt) + cond (hasStructure h) structureSize 0 ≤ length s
+unfolding expectedLength hasStructure
+parts-by form s at h p = omega (arith, p)
+
+-- The same of the head at a place.
 pub parts-room : (form : Form) (ero : Bool) (s : List ℕ) (at : ℕ) (h : Head) → h ≡ headAt form s ero at → at + expectedAt form s ero at ≤ length s
     → at + form .fixed + sidLength form (h .s) + naiLength form (h .nt) + cond (hasStructure h) structureSize 0 ≤ length s
 unfolding expectedAt expectedLength hasStructure
@@ -65,6 +71,44 @@ structure-part form s at h = go (hasStructure h) refl
     go false e = refl
 
 -- The segment made of what was read part by part.
+pub segment-by : (form : Form) (s : List ℕ) (at : ℕ) (h : Head) (there : Bool) (fixed k n b : ℕ) (sid nai bits : List ℕ)
+    → there ≡ hasStructure h → fixed ≡ form .fixed → k ≡ sidLength form (h .s) → n ≡ naiLength form (h .nt) → b ≡ cond (form .behaves) (be16 s (at + behaviourPlace)) 0
+    → sid ≡ partOf s (at + fixed) (sidLength form (h .s)) sidSize → nai ≡ partOf s (at + fixed + k) (naiLength form (h .nt)) naiSize
+    → bits ≡ partOf s (at + fixed + k + n) (cond there bitLengths 0) bitLengths
+    → _≡_ {A = Segment}
+    (record {
+      loose = eqb (h .l) 1;
+      verify = eqb (h .v) 1;
+      nt = h .nt;
+      behaviour = b;
+      hassid = eqb (h .s) 0;
+      sid = sid;
+      nai = nai;
+      structured = there;
+      structure = bits;
+      labelled = eqb (h .m) 1;
+      complete = eqb (h .c) 1;
+    })
+    (segmentBy form h s at)
+segment-by form s at h there fixed k n b sid nai bits et ef ek en eb es ei eq =
+    let q : bits ≡ partOf s (structurePlace form at (h .nt)) (cond (hasStructure h) bitLengths 0) bitLengths = rw (et, ef, ek, en) at eq ∙ structure-part form s at h in
+    let p : sid ≡ partOf s (at + form .fixed) (sidLength form (h .s)) sidSize = rw ef at es in
+    let r : nai ≡ partOf s (at + form .fixed + sidLength form (h .s)) (naiLength form (h .nt)) naiSize = rw (ef, ek) at ei in
+    (λ i. record {
+      loose = eqb (h .l) 1;
+      verify = eqb (h .v) 1;
+      nt = h .nt;
+      behaviour = eb i;
+      hassid = eqb (h .s) 0;
+      sid = p i;
+      nai = r i;
+      structured = et i;
+      structure = q i;
+      labelled = eqb (h .m) 1;
+      complete = eqb (h .c) 1;
+    })
+
+-- The same of the head at a place.
 pub segment-made : (form : Form) (ero : Bool) (s : List ℕ) (at : ℕ) (h : Head) (there : Bool) (fixed k n m b : ℕ) (sid nai bits : List ℕ) → h ≡ headAt form s ero at
     → there ≡ hasStructure h → fixed ≡ form .fixed → k ≡ sidLength form (h .s) → n ≡ naiLength form (h .nt) → m ≡ cond there bitLengths 0
     → b ≡ cond (form .behaves) (be16 s (at + behaviourPlace)) 0 → sid ≡ partOf s (at + fixed) k sidSize → nai ≡ partOf s (at + fixed + k) n naiSize
@@ -86,23 +130,10 @@ pub segment-made : (form : Form) (ero : Bool) (s : List ℕ) (at : ℕ) (h : Hea
     (segmentAt form s ero at)
 unfolding segmentAt
 segment-made form ero s at h there fixed k n m b sid nai bits eh et ef ek en em eb es ei eq =
-    let q : bits ≡ partOf s (structurePlace form at (h .nt)) (cond (hasStructure h) bitLengths 0) bitLengths = rw (em, et, ef, ek, en) at eq ∙ structure-part form s at h in
-    let p : sid ≡ partOf s (at + form .fixed) (sidLength form (h .s)) sidSize = rw (ef, ek) at es in
-    let r : nai ≡ partOf s (at + form .fixed + sidLength form (h .s)) (naiLength form (h .nt)) naiSize = rw (ef, ek, en) at ei in
-    rw (← eh)
-    (λ i. record {
-      loose = eqb (h .l) 1;
-      verify = eqb (h .v) 1;
-      nt = h .nt;
-      behaviour = eb i;
-      hassid = eqb (h .s) 0;
-      sid = p i;
-      nai = r i;
-      structured = et i;
-      structure = q i;
-      labelled = eqb (h .m) 1;
-      complete = eqb (h .c) 1;
-    })
+    let p : sid ≡ partOf s (at + fixed) (sidLength form (h .s)) sidSize = es ∙ ap (λ (x : ℕ). partOf s (at + fixed) x sidSize) ek in
+    let r : nai ≡ partOf s (at + fixed + k) (naiLength form (h .nt)) naiSize = ei ∙ ap (λ (x : ℕ). partOf s (at + fixed + k) x naiSize) en in
+    let q : bits ≡ partOf s (at + fixed + k + n) (cond there bitLengths 0) bitLengths = eq ∙ ap (λ (x : ℕ). partOf s (at + fixed + k + n) x bitLengths) em in
+    segment-by form s at h there fixed k n b sid nai bits et ef ek en eb p r q ∙ ap (λ (x : Head). segmentBy form x s at) eh
 
 -- the reader's answer ------------------------------------------------------------------------------------------
 

@@ -1,2 +1,4 @@
 pub mod Determined
 pub mod Laws
+pub mod Nais
+pub mod Pieces

@@ -8,7 +8,7 @@ use lib.ListN.{length}
 use Rattle.answers.specs.Numbers.{lengthWrong}
 use Rattle.forms.specs.declared.Form.{Form}
 use Rattle.subobject.specs.Layout.{expectedAt}
-use Rattle.subobject.specs.Strays.{straysAt}
+use Rattle.subobject_strays.specs.Strays.{straysAt}
 use Rattle.subobject_read.specs.declared.answer.Reading.{Reading}
 use Rattle.subobject_read.specs.declared.answer.Reading.the-variants.{Whole, Refused}
 

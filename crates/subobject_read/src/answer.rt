@@ -5,7 +5,7 @@ ghost use lib.ListN.{length};
 ghost use Rattle.forms.specs.Sized.{Sized};
 ghost use Rattle.subobject_read.specs.Reader.{readOf};
 use forms::Form;
-use subobject::Strays;
+use subobject_strays::Strays;
 
 // A subobject that is there whole, with what is set in it that ought to be 0, or the number and the place of a refusal.
 // An enum holds no array, so the octets of the segment are read by `segment_at`, once the answer is that they are there.
@@ -27,5 +27,5 @@ pub fn read_at(form: Form, s: &[u8], at: usize, ero: bool) -> Reading
     if room < subobject::expected(form, h.nt, h.s, h.t) {
         return Reading::Refused(answers::LENGTH_WRONG, at);
     }
-    Reading::Whole(subobject::strays_at(form, s, at, h))
+    Reading::Whole(subobject_strays::strays_at(form, s, at, h))
 }

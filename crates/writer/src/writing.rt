@@ -1,10 +1,12 @@
 // Begin, add and finish. An object starts with its class, its type in the high 4 bits of the next octet,
 // and a length of 2 octets that counts the 4 octets of the header.
 ghost use mathlib.Core.Path.{_≡_};
-ghost use Rattle.forms.specs.Forms.{formOf};
+ghost use Prim.Native.Nat.{_≤_};
+ghost use Rattle.forms.specs.Forms.{formOf, naiLength};
 ghost use Rattle.forms.specs.Sized.{Sized};
 ghost use Rattle.subobject.specs.Segments.{segmentWith};
 ghost use Rattle.writer_spare.specs.Held.{Held};
+ghost use Rattle.writer_spare.specs.Steps.{Known};
 ghost use Rattle.writer_layout.specs.Readable.{Readable};
 ghost use Rattle.writer.specs.Writing.{beginAnswer, beginBuffer, addAnswerIn, addBufferIn, addAnswer, addBuffer, finishAnswer, finishBuffer};
 use super::state;
@@ -51,6 +53,20 @@ pub fn begin(buf: &mut [u8], writer: Writer, ero: bool, pst: u64) -> Written
     })
 }
 
+// The octets of the NAI for an NT. Those that both forms have alike, for none and the longest, come before the look into the form.
+fn nai_octets(form: Form, nt: usize) -> usize
+    requires { ⌜ Known form ⌝ }
+    ensures octets { λ r. ⌜ (r ≡ naiLength form nt) × (r ≤ 255) ⌝ }
+{
+    if nt == subobject::NO_NAI {
+        return 0;
+    }
+    if nt == subobject::LINK_LOCAL {
+        return forms::nai_length(forms::srv6(), subobject::LINK_LOCAL);
+    }
+    forms::nai_length(form, nt)
+}
+
 // Writes a segment of a form into the rest of the buffer from the present place on. The segment's octets are lent: to hand them on by
 // value takes longer than to write them.
 fn add_in(
@@ -67,20 +83,36 @@ fn add_in(
     ensures buffer { λ _. ⌜ now (buf .exit) ≡ addBufferIn form (now (buf .entry)) writer (segmentWith o (now (sid .entry)) (now (nai .entry)) (now (bits .entry))) ⌝ }
 {
     let h = subobject::head_of(form, o);
-    let number = writer_rules::adding(form, buf.len(), writer.ero, writer.at, h, o, sid, nai, bits);
+    let n = nai_octets(form, h.nt);
+    let front = writer_rules::front(form, o, sid);
+    let size = front + n + octets::pick(o.structured, subobject::STRUCTURE_LENGTH, 0);
+    let number = writer_rules::adding(
+        form,
+        buf.len(),
+        writer.ero,
+        writer.at,
+        h,
+        front,
+        n,
+        size,
+        o,
+        sid,
+        nai,
+        bits,
+    );
     if number != 0 {
         return state::refuse(number, writer);
     }
     let at = writer.at;
-    writer_layout::write(&mut buf[at..], form, h, o, sid, nai, bits);
+    writer_layout::write(&mut buf[at..], form, h, front, n, size, o, sid, nai, bits);
     state::accept(Writer {
         ero: writer.ero,
-        at: at + h.size,
+        at: at + size,
         form: writer.form,
     })
 }
 
-// The same, of the form that the state names. Each form stands in a branch of its own, so that the compiler knows its numbers there.
+// The same, of the form that the state names.
 pub fn add_parts(
     buf: &mut [u8],
     writer: Writer,
@@ -93,10 +125,15 @@ pub fn add_parts(
     ensures answer { λ r. ⌜ r ≡ addAnswer (now (buf .entry)) writer (segmentWith o (now (sid .entry)) (now (nai .entry)) (now (bits .entry))) ⌝ }
     ensures buffer { λ _. ⌜ now (buf .exit) ≡ addBuffer (now (buf .entry)) writer (segmentWith o (now (sid .entry)) (now (nai .entry)) (now (bits .entry))) ⌝ }
 {
-    if writer.form == MPLS_SETUP {
-        return add_in(buf, forms::mpls(), writer, o, sid, nai, bits);
-    }
-    add_in(buf, forms::srv6(), writer, o, sid, nai, bits)
+    add_in(
+        buf,
+        forms::named(writer.form as u64),
+        writer,
+        o,
+        sid,
+        nai,
+        bits,
+    )
 }
 
 // The same, of a segment by value.

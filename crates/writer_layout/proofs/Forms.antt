@@ -6,7 +6,8 @@ use lib.Dec.{eqb}
 use native.Mathlib.Omega.{arith}
 use Rattle.forms.specs.declared.Form.{Form}
 use Rattle.forms.specs.Forms.{srv6Form, mplsForm, formOf, flagIn, naiLength}
-use Rattle.forms.proofs.Laws.{of-both}
+use Rattle.forms.proofs.Laws.{of-both, srv6-fours, mpls-fours}
+use Rattle.writer_spare.specs.Steps.{Step}
 use Rattle.writer_layout.specs.Readable.{together, Marks, Apart, Readable}
 
 srv6-apart : (v t f s c m : ℕ) → Marks srv6Form v t f s c m → Apart srv6Form v t f s c m
@@ -75,31 +76,18 @@ mpls-strays a b h =
     let e : (a * 256 + b) % 4096 ≡ a % 16 * 256 + b = omega arith in
     rw e (omega arith)
 
-srv6-nai : (nt : ℕ) → naiLength srv6Form nt % 4 ≡ 0
+srv6-steps : (nt : ℕ) → Step (naiLength srv6Form nt)
 unfolding naiLength
-srv6-nai nt = go (eqb nt 1) (eqb nt 2) (eqb nt 3) (eqb nt 4) (eqb nt 5) (eqb nt 6)
+srv6-steps nt = go (eqb nt 1) (eqb nt 2) (eqb nt 3) (eqb nt 4) (eqb nt 5) (eqb nt 6)
   where
-    go : (a b c d e f : Bool) → cond a 0 (cond b 16 (cond c 0 (cond d 32 (cond e 0 (cond f 40 0))))) % 4 ≡ 0
-    go true b c d e f = refl
-    go false true c d e f = refl
-    go false false true d e f = refl
-    go false false false true e f = refl
-    go false false false false true f = refl
-    go false false false false false true = refl
-    go false false false false false false = refl
-
-mpls-nai : (nt : ℕ) → naiLength mplsForm nt % 4 ≡ 0
-unfolding naiLength
-mpls-nai nt = go (eqb nt 1) (eqb nt 2) (eqb nt 3) (eqb nt 4) (eqb nt 5) (eqb nt 6)
-  where
-    go : (a b c d e f : Bool) → cond a 4 (cond b 16 (cond c 8 (cond d 32 (cond e 16 (cond f 40 0))))) % 4 ≡ 0
-    go true b c d e f = refl
-    go false true c d e f = refl
-    go false false true d e f = refl
-    go false false false true e f = refl
-    go false false false false true f = refl
-    go false false false false false true = refl
-    go false false false false false false = refl
+    go : (a b c d e f : Bool) → Step (cond a 0 (cond b 16 (cond c 0 (cond d 32 (cond e 0 (cond f 40 0))))))
+    go true b c d e f = Step.none
+    go false true c d e f = Step.node
+    go false false true d e f = Step.none
+    go false false false true e f = Step.adjacency
+    go false false false false true f = Step.none
+    go false false false false false true = Step.link-local
+    go false false false false false false = Step.none
 
 pub srv6-readable : Readable srv6Form
 unfolding flagIn
@@ -109,13 +97,27 @@ srv6-readable =
       kind = omega arith;
       sid = refl;
       label = omega arith;
-      nai = srv6-nai;
+      nai = srv6-fours;
+      steps = srv6-steps;
       most = omega arith;
       apart = srv6-apart;
       whole = λ a h. srv6-whole a;
       v = omega arith;
       strays = srv6-strays;
     }
+
+mpls-steps : (nt : ℕ) → Step (naiLength mplsForm nt)
+unfolding naiLength
+mpls-steps nt = go (eqb nt 1) (eqb nt 2) (eqb nt 3) (eqb nt 4) (eqb nt 5) (eqb nt 6)
+  where
+    go : (a b c d e f : Bool) → Step (cond a 4 (cond b 16 (cond c 8 (cond d 32 (cond e 16 (cond f 40 0))))))
+    go true b c d e f = Step.four
+    go false true c d e f = Step.node
+    go false false true d e f = Step.eight
+    go false false false true e f = Step.adjacency
+    go false false false false true f = Step.node
+    go false false false false false true = Step.link-local
+    go false false false false false false = Step.none
 
 pub mpls-readable : Readable mplsForm
 unfolding flagIn
@@ -125,7 +127,8 @@ mpls-readable =
       kind = omega arith;
       sid = refl;
       label = omega arith;
-      nai = mpls-nai;
+      nai = mpls-fours;
+      steps = mpls-steps;
       most = omega arith;
       apart = mpls-apart;
       whole = λ a h. mpls-whole a;

@@ -10,7 +10,7 @@ use lib.ListN.{length, getD, take, drop, replicate, length-append, length-replic
 use lib.Seq.{drop-cons, drop-drop, length-take-le, take-all}
 use native.Mathlib.Omega.{arith}
 use Rattle.octets.specs.Octets.{hi, lo, part, over, placed, partOf}
-use Rattle.octets.proofs.Laws.{over-at}
+use Rattle.octets.proofs.Laws.{over-at, length-over}
 use Rattle.octets.proofs.Said.{cond-most}
 use Rattle.forms.specs.declared.Form.{Form}
 use Rattle.forms.specs.Forms.{naiLength, knows}
@@ -22,6 +22,7 @@ use Rattle.subobject.specs.Layout.{sidLength, structureLength, expectedLength, 
 use Rattle.subobject.specs.Rules.{rule8, hasStructure, flagF}
 use Rattle.subobject.specs.Segments.{headOfSegment, flagsOctet, fixedOctets, structureOctets, subobjectOf, bit}
 use Rattle.writer_spare.specs.Held.{Held}
+use Rattle.writer_spare.specs.Steps.{Step}
 use Rattle.writer_layout.specs.Readable.{Readable}
 use Rattle.writer_layout.specs.Small.{Small}
 
@@ -233,10 +234,6 @@ written-subobject {form} sz g h last b w x y z l k n there hg eh el ef ek en et 
     (omega (arith, room sz g h (length b) hg eh hb))
     ∙ rw (q, ek', en', et, eh)
 
--- The length of a SID that is there or not, as the code works it out.
-pub sid-picked : (form : Form) (s w k : ℕ) → w ≡ form .sid → k ≡ cond (eqb s 0) w 0 → k ≡ sidLength form s
-sid-picked form s w k e q = q ∙ rw e
-
 -- A run of no octets.
 pub placed-none : (b : List ℕ) (at : ℕ) → placed b at [] ≡ b
 unfolding placed over
@@ -288,3 +285,60 @@ worth-none n w e = (rw e (omega arith), omega arith)
 
 pub worth-some : (n w r : ℕ) → n ≤ 1 → (n ≡ 0 → ⊥) → (r ≡ w) × (r < 256) → (r ≡ n * w) × (r < 256)
 worth-some n w r h z p = let e : n ≡ 1 = omega arith in (p .0 ∙ rw e (omega arith), p .1)
+
+-- the lengths of an NAI -----------------------------------------------------------------------------------------
+
+pub step-40 : {n : ℕ} → Step n → 32 < n → n ≡ 40
+step-40 Step.none h = omega arith
+step-40 Step.four h = omega arith
+step-40 Step.eight h = omega arith
+step-40 Step.node h = omega arith
+step-40 Step.adjacency h = omega arith
+step-40 Step.link-local h = omega arith
+
+pub step-32 : {n : ℕ} → Step n → n ≤ 32 → 16 < n → n ≡ 32
+step-32 Step.none h l = omega arith
+step-32 Step.four h l = omega arith
+step-32 Step.eight h l = omega arith
+step-32 Step.node h l = omega arith
+step-32 Step.adjacency h l = omega arith
+step-32 Step.link-local h l = omega arith
+
+pub step-16 : {n : ℕ} → Step n → n ≤ 16 → 8 < n → n ≡ 16
+step-16 Step.none h l = omega arith
+step-16 Step.four h l = omega arith
+step-16 Step.eight h l = omega arith
+step-16 Step.node h l = omega arith
+step-16 Step.adjacency h l = omega arith
+step-16 Step.link-local h l = omega arith
+
+pub step-8 : {n : ℕ} → Step n → n ≤ 8 → 4 < n → n ≡ 8
+step-8 Step.none h l = omega arith
+step-8 Step.four h l = omega arith
+step-8 Step.eight h l = omega arith
+step-8 Step.node h l = omega arith
+step-8 Step.adjacency h l = omega arith
+step-8 Step.link-local h l = omega arith
+
+pub step-4 : {n : ℕ} → Step n → n ≤ 4 → (n ≡ 0 → ⊥) → n ≡ 4
+step-4 Step.none h l = absurd (l refl)
+step-4 Step.four h l = refl
+step-4 Step.eight h l = omega arith
+step-4 Step.node h l = omega arith
+step-4 Step.adjacency h l = omega arith
+step-4 Step.link-local h l = omega arith
+
+-- No octets laid, and the room of a SID that is there.
+pub laid-none : (b l : List ℕ) (at n : ℕ) → n ≡ 0 → b ≡ placed b at (take n l)
+laid-none b l at n e = rw e (sym (placed-none b at))
+
+pub own-length : (l a : List ℕ) (m : ℕ) → a ≡ partOf l 0 m m → m ≤ length l → length a ≡ m
+unfolding partOf part
+own-length l a m e h =
+    let q : length (take m l) ≤ length (replicate {A = ℕ} m 0) = omega (arith, length-take-le m l h, length-replicate {A = ℕ} m 0) in
+    ap length e ∙ length-over (take m l) (replicate m 0) q ∙ length-replicate m 0
+
+pub room-sid : (form : Form) (there : Bool) (l : List ℕ) (w k room : ℕ) → there ≡ true → w ≡ form .fixed → k ≡ form .sid → length l ≡ k
+    → form .fixed + cond there (form .sid) 0 ≤ room → w + length l ≤ room
+room-sid form true l w k room t e q y h = omega arith
+room-sid form false l w k room t e q y h = absurd (let z : _≡_ {A = ℕ} 0 1 = cc in omega arith)

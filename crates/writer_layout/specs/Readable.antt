@@ -4,6 +4,7 @@ use Prim.Native.Nat.{ℕ, _+_, _*_, _/_, _%_, _≤_, _<_}
 use mathlib.Core.Path.{_≡_}
 use Rattle.forms.specs.declared.Form.{Form}
 use Rattle.forms.specs.Forms.{formOf, flagIn, naiLength}
+use Rattle.writer_spare.specs.Steps.{Step}
 
 -- Six flags in one octet, each at what it is worth.
 abbrev pub together : Form → ℕ → ℕ → ℕ → ℕ → ℕ → ℕ → ℕ
@@ -35,10 +36,11 @@ pub record Readable (form : Form) : Type 0 where
   -- the number that names the form, and the type of its subobjects
   pub setup : formOf (form .setup) ≡ form
   pub kind : form .kind < 128
-  -- parts are multiples of 4 octets, and a label fits into a SID
+  -- parts are multiples of 4 octets, an NAI has one of six lengths, and a label fits into a SID
   pub sid : form .sid % 4 ≡ 0
   pub label : 4 ≤ form .sid
   pub nai : (nt : ℕ) → naiLength form nt % 4 ≡ 0
+  pub steps : (nt : ℕ) → Step (naiLength form nt)
   -- all flags fit into an octet, and stand apart in it
   pub most : form .v + form .t + form .f + form .s + form .c + form .m < 256
   pub apart : (v t f s c m : ℕ) → Marks form v t f s c m → Apart form v t f s c m

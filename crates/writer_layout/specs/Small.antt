@@ -1,7 +1,10 @@
--- A head whose numbers fit the bits that they are written in. No promise rests on it: an inner function asks for it, and proofs show it.
-use Prim.Native.Nat.{ℕ, _≤_, _<_}
+-- A head whose numbers fit the bits that they are written in, and the parts of its subobject. No promise rests on it: inner functions ask for it, and proofs show it.
+use Prim.Native.Nat.{ℕ, _+_, _≤_, _<_}
+use mathlib.Core.Path.{_≡_}
 use Rattle.forms.specs.declared.Form.{Form}
 use Rattle.subobject.specs.declared.head.Head.{Head}
+use Rattle.forms.specs.Forms.{naiLength}
+use Rattle.subobject.specs.Layout.{sidLength}
 use Rattle.subobject.specs.Segments.{flagsOctet}
 
 pub record Small (form : Form) (h : Head) : Type 0 where
@@ -16,3 +19,9 @@ pub record Small (form : Form) (h : Head) : Type 0 where
   pub c : h .c ≤ 1
   pub m : h .m ≤ 1
   pub flags : flagsOctet form h < 256
+
+-- The octets before the NAI, those of the NAI, and all.
+pub record Parts (form : Form) (h : Head) (x n y : ℕ) : Type 0 where
+  pub front : x ≡ form .fixed + sidLength form (h .s)
+  pub nai : n ≡ naiLength form (h .nt)
+  pub whole : y ≡ h .size

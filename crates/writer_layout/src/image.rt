@@ -8,11 +8,12 @@ ghost use lib.ListN.{length, take};
 ghost use Rattle.octets.specs.Octets.{hi, lo, over, placed};
 ghost use Rattle.forms.specs.Sized.{Sized};
 ghost use Rattle.subobject.specs.Layout.{sidSize, naiSize, structureSize, bitLengths, worthL, worthNT};
-ghost use Rattle.subobject.specs.Rules.{rule8};
+ghost use Rattle.subobject.specs.Rules.{rule8, hasStructure};
 ghost use Rattle.subobject.specs.Segments.{headOfOutline, segmentWith, flagsOctet, fixedOctets, structureOctets, subobjectOf};
 ghost use Rattle.writer_spare.specs.Held.{Held};
+ghost use Rattle.writer_spare.specs.Steps.{Step, Known};
 ghost use Rattle.writer_layout.specs.Readable.{Readable};
-ghost use Rattle.writer_layout.specs.Small.{Small};
+ghost use Rattle.writer_layout.specs.Small.{Small, Parts};
 use forms::Form;
 use subobject::Head;
 use subobject::Outline;
@@ -28,8 +29,8 @@ fn worth(flag: usize, w: u8) -> usize
     octets::wide(w)
 }
 
-// Octet 3.
-fn flags(form: Form, h: Head) -> usize
+// Octet 3 of a form.
+fn flags_in(form: Form, h: Head) -> usize
     requires { ⌜ Small form h ⌝ }
     ensures flags { λ r. ⌜ r ≡ flagsOctet form h ⌝ }
 {
@@ -41,13 +42,37 @@ fn flags(form: Form, h: Head) -> usize
         + worth(h.m, form.m)
 }
 
+// The same. Each form stands in a branch of its own, so that the compiler knows what its flags are worth.
+fn flags(form: Form, h: Head) -> usize
+    requires { ⌜ (Small form h) × Known form ⌝ }
+    ensures flags { λ r. ⌜ r ≡ flagsOctet form h ⌝ }
+{
+    if form.behaves {
+        return flags_in(forms::srv6(), h);
+    }
+    flags_in(forms::mpls(), h)
+}
+
+// The type of its subobjects.
+fn kind(form: Form, h: Head) -> usize
+    requires { ⌜ (Known form) × (h .kind ≡ form .kind) ⌝ }
+    ensures kind { λ r. ⌜ r ≡ h .kind ⌝ }
+{
+    if form.behaves {
+        let f = forms::srv6();
+        return octets::wide(f.kind);
+    }
+    let f = forms::mpls();
+    octets::wide(f.kind)
+}
+
 // The first four octets.
-fn four(out: &mut [u8], form: Form, h: Head)
-    requires { ⌜ (Small form h) × (4 ≤ length (now out)) ⌝ }
+fn four(out: &mut [u8], form: Form, h: Head, size: usize)
+    requires { ⌜ (Small form h) × (Known form) × (h .kind ≡ form .kind) × (size ≡ h .size) × (4 ≤ length (now out)) ⌝ }
     ensures four { λ _. ⌜ now (out .exit) ≡ over ((h .l * worthL + h .kind) ∷ h .size ∷ (h .nt * worthNT) ∷ flagsOctet form h ∷ []) (now (out .entry)) ⌝ }
 {
-    out[0] = (h.l * subobject::WORTH_L + h.kind) as u8;
-    out[1] = h.size as u8;
+    out[0] = (h.l * subobject::WORTH_L + kind(form, h)) as u8;
+    out[1] = size as u8;
     out[2] = (h.nt * subobject::WORTH_NT) as u8;
     out[3] = flags(form, h) as u8;
 }
@@ -64,11 +89,11 @@ fn four_more(out: &mut [u8], behaviour: usize)
 }
 
 // The octets before the SID.
-fn fixed(out: &mut [u8], form: Form, h: Head, behaviour: usize)
-    requires { ⌜ (Small form h) × (form .fixed ≤ length (now out)) × Sized form ⌝ }
+fn fixed(out: &mut [u8], form: Form, h: Head, size: usize, behaviour: usize)
+    requires { ⌜ (Small form h) × (form .fixed ≤ length (now out)) × (Sized form) × (Known form) × (h .kind ≡ form .kind) × (size ≡ h .size) ⌝ }
     ensures fixed { λ _. ⌜ now (out .exit) ≡ over (fixedOctets form h behaviour) (now (out .entry)) ⌝ }
 {
-    four(out, form, h);
+    four(out, form, h, size);
     if form.behaves {
         four_more(out, behaviour);
     }
@@ -84,43 +109,59 @@ fn structure(bits: &[u8]) -> [u8; 8]
 
 // The parts behind the fixed one. A known number of octets goes through an array of its own, so that the compiler copies them in one go.
 
-// The first n octets of a SID from the place `at` on.
-fn lay_sid(out: &mut [u8], at: usize, sid: &[u8], n: usize)
-    requires { ⌜ (length (now sid) ≡ sidSize) × (n ≤ sidSize) × (at + n ≤ length (now out)) ⌝ }
-    ensures laid { λ _. ⌜ now (out .exit) ≡ placed (now (out .entry)) at (take n (now (sid .entry))) ⌝ }
+// A SID behind the fixed part, if it is there.
+fn lay_sid(out: &mut [u8], form: Form, sid: &[u8], there: bool)
+    requires { ⌜ (length (now sid) ≡ sidSize) × (Known form) × (form .fixed + cond there (form .sid) 0 ≤ length (now out)) ⌝ }
+    ensures laid { λ _. ⌜ now (out .exit) ≡ placed (now (out .entry)) (form .fixed) (take (cond there (form .sid) 0) (now (sid .entry))) ⌝ }
 {
-    if n == 16 {
+    if !there {
+        return;
+    }
+    if form.behaves {
+        let f = forms::srv6();
         let whole = octets::part16(sid, 0, subobject::SID_LENGTH);
-        octets::lay(out, at, &whole);
+        octets::lay(out, octets::wide(f.fixed), &whole);
         return;
     }
-    if n == 4 {
-        let whole = octets::part4(sid, 0, 4);
-        octets::lay(out, at, &whole);
-        return;
-    }
-    octets::lay(out, at, &sid[..n]);
+    let f = forms::mpls();
+    let whole = octets::part4(sid, 0, 4);
+    octets::lay(out, octets::wide(f.fixed), &whole);
 }
 
-// The first n octets of an NAI from the place `at` on.
-fn lay_nai(out: &mut [u8], at: usize, nai: &[u8], n: usize)
-    requires { ⌜ (length (now nai) ≡ naiSize) × (n ≤ naiSize) × (at + n ≤ length (now out)) ⌝ }
-    ensures laid { λ _. ⌜ now (out .exit) ≡ placed (now (out .entry)) at (take n (now (nai .entry))) ⌝ }
+// The first m octets of an NAI from the place `at` on; each call of it has a number there.
+fn lay_first(out: &mut [u8], at: usize, nai: &[u8], m: usize)
+    requires { ⌜ (length (now nai) ≡ naiSize) × (m ≤ naiSize) × (at + m ≤ length (now out)) ⌝ }
+    ensures laid { λ _. ⌜ now (out .exit) ≡ placed (now (out .entry)) at (take m (now (nai .entry))) ⌝ }
 {
     let whole = octets::part40(nai, 0, subobject::NAI_LENGTH);
-    if n == 16 {
-        octets::lay(out, at, &whole[..16]);
+    octets::lay(out, at, &whole[..m]);
+}
+
+// An NAI of n octets from the place `at` on.
+fn lay_nai(out: &mut [u8], at: usize, nai: &[u8], n: usize)
+    requires { ⌜ (length (now nai) ≡ naiSize) × (Step n) × (at + n ≤ length (now out)) ⌝ }
+    ensures laid { λ _. ⌜ now (out .exit) ≡ placed (now (out .entry)) at (take n (now (nai .entry))) ⌝ }
+{
+    if n == 0 {
         return;
     }
-    if n == 32 {
-        octets::lay(out, at, &whole[..32]);
+    if n > 32 {
+        lay_first(out, at, nai, 40);
         return;
     }
-    if n == 40 {
-        octets::lay(out, at, &whole[..40]);
+    if n > 16 {
+        lay_first(out, at, nai, 32);
         return;
     }
-    octets::lay(out, at, &whole[..n]);
+    if n > 8 {
+        lay_first(out, at, nai, 16);
+        return;
+    }
+    if n > 4 {
+        lay_first(out, at, nai, 8);
+        return;
+    }
+    lay_first(out, at, nai, 4);
 }
 
 // A SID structure from the place `at` on, if it is there.
@@ -133,18 +174,25 @@ fn lay_structure(out: &mut [u8], at: usize, last: [u8; 8], there: bool)
     }
 }
 
-// One subobject at the start of `out`, by its head.
-pub fn write(out: &mut [u8], form: Form, h: Head, o: Outline, sid: &[u8], nai: &[u8], bits: &[u8])
-    requires { ⌜ (Held (segmentWith o (now sid) (now nai) (now bits))) × (h ≡ headOfOutline form o) × (rule8 form h ≡ false) × (length (subobjectOf form (segmentWith o (now sid) (now nai) (now bits))) ≤ length (now out)) × (Sized form) × (Readable form) ⌝ }
+// One subobject at the start of `out`, by its head, the octets before its NAI, those of its NAI, and all.
+pub fn write(
+    out: &mut [u8],
+    form: Form,
+    h: Head,
+    front: usize,
+    n: usize,
+    size: usize,
+    o: Outline,
+    sid: &[u8],
+    nai: &[u8],
+    bits: &[u8],
+)
+    requires { ⌜ (Held (segmentWith o (now sid) (now nai) (now bits))) × (h ≡ headOfOutline form o) × (rule8 form h ≡ false) × (length (subobjectOf form (segmentWith o (now sid) (now nai) (now bits))) ≤ length (now out)) × (Sized form) × (Readable form) × (Parts form h front n size) × (o .structured ≡ hasStructure h) ⌝ }
     ensures written { λ _. ⌜ now (out .exit) ≡ over (subobjectOf form (segmentWith o (now (sid .entry)) (now (nai .entry)) (now (bits .entry)))) (now (out .entry)) ⌝ }
 {
     let last = structure(bits);
-    let there = subobject::structured(h);
-    let before = octets::wide(form.fixed);
-    let k = octets::pick(h.s == 0, octets::wide(form.sid), 0);
-    let n = forms::nai_length(form, h.nt);
-    fixed(out, form, h, o.behaviour);
-    lay_sid(out, before, sid, k);
-    lay_nai(out, before + k, nai, n);
-    lay_structure(out, before + k + n, last, there);
+    fixed(out, form, h, size, o.behaviour);
+    lay_sid(out, form, sid, h.s == 0);
+    lay_nai(out, front, nai, n);
+    lay_structure(out, front + n, last, o.structured);
 }

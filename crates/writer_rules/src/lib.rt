@@ -4,3 +4,4 @@ mod refusal;
 
 pub use refusal::adding;
 pub use refusal::finishing;
+pub use refusal::front;

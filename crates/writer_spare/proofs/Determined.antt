@@ -1,9 +1,11 @@
 -- Of any two answers that fit the contract, both are the same.
+use Prim.Native.Nat.{ℕ}
 use mathlib.Core.Path.{_≡_, sym, _∙_}
-use mathlib.Core.Bool.{Bool}
-use Rattle.forms.specs.declared.Form.{Form}
-use Rattle.subobject.specs.declared.segment.Segment.{Segment}
-use Rattle.writer_spare.specs.Spare.{tidyOf}
+use mathlib.Core.Bool.{Bool, _&&_, _||_}
+use mathlib.Core.List.{List}
+use lib.ListN.{drop}
+use Rattle.writer_spare.specs.Spare.{zeros}
 
-pub tidy-determined : (form : Form) (g : Segment) (a b : Bool) → a ≡ tidyOf form g → b ≡ tidyOf form g → a ≡ b
-tidy-determined form g a b e f = e ∙ sym f
+pub rest-tidy-determined : (structured : Bool) (n : ℕ) (nai bits : List ℕ) (a b : Bool) → a ≡ ((structured || zeros bits) && zeros (drop n nai))
+    → b ≡ ((structured || zeros bits) && zeros (drop n nai)) → a ≡ b
+rest-tidy-determined structured n nai bits a b e f = e ∙ sym f

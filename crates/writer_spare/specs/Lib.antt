@@ -1,2 +1,3 @@
 pub mod Held
 pub mod Spare
+pub mod Steps

@@ -1,78 +1,105 @@
 // Octets kept for a part that is absent or shorter are 0.
-ghost use mathlib.Core.Bool.{cond, _||_};
+ghost use mathlib.Core.Bool.{_&&_, _||_};
 ghost use mathlib.Core.Path.{_≡_};
-ghost use Prim.Native.Nat.{_≤_};
+ghost use Prim.Native.Nat.{_+_, _≤_};
 ghost use lib.ListN.{length, drop};
-ghost use Rattle.forms.specs.Sized.{Sized};
-ghost use Rattle.subobject.specs.Layout.{naiSize, sidSize};
-ghost use Rattle.subobject.specs.Segments.{segmentWith};
-ghost use Rattle.writer_spare.specs.Held.{Held};
-ghost use Rattle.writer_spare.specs.Spare.{zeros, tidyOf};
+ghost use Rattle.octets.specs.Octets.{part};
+ghost use Rattle.subobject.specs.Layout.{naiSize, sidSize, bitLengths};
+ghost use Rattle.writer_spare.specs.Spare.{zeros};
+ghost use Rattle.writer_spare.specs.Steps.{Step, Known};
 use forms::Form;
-use subobject::Outline;
 
-// Whether all octets are 0. The loop has no way out, so that the compiler takes many octets at a time.
-fn blank(s: &[u8]) -> bool
-    ensures blank { λ r. ⌜ r ≡ zeros (now (s .entry)) ⌝ }
+// Octets are looked at four at a time, as one number; the compiler joins the looks.
+
+// Whether four octets from a place on are 0.
+fn blank4(s: &[u8], at: usize) -> bool
+    requires { ⌜ at + 4 ≤ length (now s) ⌝ }
+    ensures blank { λ r. ⌜ r ≡ zeros (part (now (s .entry)) at 4) ⌝ }
 {
-    let mut clear = true;
-    let mut i: usize = 0;
-    while i < s.len() {
-        clear = octets::both(clear, s[i] == 0);
-        i = i + 1;
-    }
-    clear
+    octets::wide(s[at])
+        + octets::wide(s[at + 1]) * 256
+        + octets::wide(s[at + 2]) * 65536
+        + octets::wide(s[at + 3]) * 16777216
+        == 0
 }
 
-// Whether the octets of a part are 0 where it is not there.
-fn unused(there: bool, s: &[u8]) -> bool
-    ensures unused { λ r. ⌜ r ≡ (there || zeros (now (s .entry))) ⌝ }
+fn blank8(s: &[u8], at: usize) -> bool
+    requires { ⌜ at + 8 ≤ length (now s) ⌝ }
+    ensures blank { λ r. ⌜ r ≡ zeros (part (now (s .entry)) at 8) ⌝ }
+{
+    octets::both(blank4(s, at), blank4(s, at + 4))
+}
+
+fn blank16(s: &[u8], at: usize) -> bool
+    requires { ⌜ at + 16 ≤ length (now s) ⌝ }
+    ensures blank { λ r. ⌜ r ≡ zeros (part (now (s .entry)) at 16) ⌝ }
+{
+    octets::both(blank8(s, at), blank8(s, at + 8))
+}
+
+// Whether the octets of four bit lengths are 0 where these are not there.
+fn unused(there: bool, bits: &[u8]) -> bool
+    requires { ⌜ length (now bits) ≡ bitLengths ⌝ }
+    ensures unused { λ r. ⌜ r ≡ (there || zeros (now (bits .entry))) ⌝ }
 {
     if there {
         return true;
     }
-    blank(s)
+    blank4(bits, 0)
 }
 
-// Whether the octets behind a SID are 0, all of them where it is not there.
-fn sid_tidy(form: Form, sid: &[u8], there: bool) -> bool
-    requires { ⌜ (length (now sid) ≡ sidSize) × Sized form ⌝ }
-    ensures tidy { λ r. ⌜ r ≡ zeros (drop (cond there (form .sid) 0) (now (sid .entry))) ⌝ }
+// Whether all octets kept for a SID are 0.
+pub fn sid_blank(sid: &[u8]) -> bool
+    requires { ⌜ length (now sid) ≡ sidSize ⌝ }
+    ensures blank { λ r. ⌜ r ≡ zeros (now (sid .entry)) ⌝ }
 {
-    if there {
-        let n = octets::wide(form.sid);
-        return blank(&sid[n..subobject::SID_LENGTH]);
-    }
-    blank(&sid[0..subobject::SID_LENGTH])
+    blank16(sid, 0)
 }
 
-// Whether the octets behind an NAI of n octets are 0. SRv6's lengths stand as numbers, so that the compiler knows how many octets are left.
+// Whether the octets behind a SID are 0. One of SRv6 fills what is kept for it.
+pub fn sid_tidy(form: Form, sid: &[u8]) -> bool
+    requires { ⌜ (length (now sid) ≡ sidSize) × Known form ⌝ }
+    ensures tidy { λ r. ⌜ r ≡ zeros (drop (form .sid) (now (sid .entry))) ⌝ }
+{
+    if form.behaves {
+        return true;
+    }
+    octets::both(blank4(sid, 4), blank8(sid, 8))
+}
+
+// Whether the octets behind an NAI of n octets are 0.
 fn nai_tidy(nai: &[u8], n: usize) -> bool
-    requires { ⌜ (length (now nai) ≡ naiSize) × (n ≤ naiSize) ⌝ }
+    requires { ⌜ (length (now nai) ≡ naiSize) × Step n ⌝ }
     ensures tidy { λ r. ⌜ r ≡ zeros (drop n (now (nai .entry))) ⌝ }
 {
-    if n == 0 {
-        return blank(&nai[0..subobject::NAI_LENGTH]);
+    if n == 40 {
+        return true;
     }
-    if n == 16 {
-        return blank(&nai[16..subobject::NAI_LENGTH]);
+    let last = blank8(nai, 32);
+    if n == 0 {
+        return octets::both(blank16(nai, 0), octets::both(blank16(nai, 16), last));
     }
     if n == 32 {
-        return blank(&nai[32..subobject::NAI_LENGTH]);
+        return last;
     }
-    blank(&nai[n..subobject::NAI_LENGTH])
+    let node = octets::both(blank16(nai, 16), last);
+    if n == 16 {
+        return node;
+    }
+    let eight = octets::both(blank8(nai, 8), node);
+    if n == 8 {
+        return eight;
+    }
+    octets::both(blank4(nai, 4), eight)
 }
 
-// Whether the octets that a segment keeps for a part that is absent or shorter are 0.
-pub fn tidy(form: Form, o: Outline, sid: &[u8], nai: &[u8], bits: &[u8]) -> bool
-    requires { ⌜ Held (segmentWith o (now sid) (now nai) (now bits)) × Sized form ⌝ }
-    ensures tidy { λ r. ⌜ r ≡ tidyOf form (segmentWith o (now (sid .entry)) (now (nai .entry)) (now (bits .entry))) ⌝ }
+// Whether the octets kept for an NAI of n octets and for four bit lengths are 0 where these do not stand.
+pub fn rest_tidy(n: usize, structured: bool, nai: &[u8], bits: &[u8]) -> bool
+    requires { ⌜ (length (now nai) ≡ naiSize) × (length (now bits) ≡ bitLengths) × Step n ⌝ }
+    ensures tidy { λ r. ⌜ r ≡ ((structured || zeros (now (bits .entry))) && zeros (drop n (now (nai .entry)))) ⌝ }
 {
-    if !sid_tidy(form, sid, o.hassid) {
+    if !unused(structured, bits) {
         return false;
     }
-    if !unused(o.structured, bits) {
-        return false;
-    }
-    nai_tidy(nai, forms::nai_length(form, octets::wide(o.nt)))
+    nai_tidy(nai, n)
 }

@@ -28,6 +28,7 @@ fn run(tally: &mut Tally, seed: u64, objects: usize, calls: usize) -> Result<(),
     reading::exhaust(tally, &mut r)?;
     reading::opens(tally, &mut r, objects / 4)?;
     reading::routes(tally, &mut r, objects)?;
+    writing::longest()?;
     writing::steps(tally, &mut r, objects / 4)?;
     boards::calls(tally, &mut r, calls)
 }

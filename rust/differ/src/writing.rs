@@ -201,6 +201,28 @@ fn shown(size: usize, mut steps: Vec<(Door, Step)>) -> String {
     format!("a buffer of {size} octets\n{list}{}", run(size, &steps).unwrap_or_default())
 }
 
+/// Each place about 65,532, the most octets of an object, in buffers of about as many: a segment added there, and the route finished.
+pub fn longest() -> Result<(), String> {
+    let [mut srv6, mut mpls] = [Segment { has_sid: true, ..Segment::default() }; 2];
+    srv6.sid[15] = 1;
+    mpls.labelled = true;
+    mpls.sid[..4].copy_from_slice(&(16_001u32 << 12).to_be_bytes());
+    for size in 65_524..=65_540 {
+        for at in (65_500..=65_544).step_by(4) {
+            for (form, segment) in [(1, mpls), (3, srv6)] {
+                for door in DOORS {
+                    let steps = [Step::Resume { ero: true, form, at }, Step::Finish, Step::Add { segment, flag: 1 }, Step::Finish];
+                    let steps = steps.map(|step| (door, step));
+                    if run(size, &steps).is_some() {
+                        return Err(shown(size, steps.to_vec()));
+                    }
+                }
+            }
+        }
+    }
+    Ok(())
+}
+
 /// So many steps, in runs over buffers of all sizes.
 pub fn steps(tally: &mut Tally, r: &mut Random, n: usize) -> Result<(), String> {
     let mut done = 0;

@@ -1,7 +1,7 @@
 use mathlib.Core.Path.{ap, _∙_}
 use Rattle.positions.specs.declared.Setup.{Setup}
 use Rattle.open.specs.Open.{openOf}
-use Rattle.border_records.specs.Records.{openedOut}
+use Rattle.border_opened.specs.Opens.{openedOut}
 use borrow.Author.Needs.{needs}
 use Rattle.border_open.proofs.read_open.Statement.{statement}
 use Rattle.border_open.proofs.read_open.Tie as tie

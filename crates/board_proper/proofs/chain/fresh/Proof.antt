@@ -1,3 +1,4 @@
+-- The invariant: the walk of the key's chain has come to p, and no number from p on has the key (`Walking`). A link and each way out is a law of `Laws`.
 use Prim.Native.Nat.{ℕ, _≤_, _-_, _<_}
 use native.Mathlib.Omega.{arith}
 use borrow.Author.Needs.{needs}

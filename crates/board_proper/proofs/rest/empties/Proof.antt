@@ -1,12 +1,11 @@
 use Prim.Native.Nat.{ℕ, _≤_, _-_}
 use native.Mathlib.Omega.{arith}
 use borrow.Author.Needs.{needs}
-use mathlib.Core.Path.{_≡_, _∙_, ap}
+use mathlib.Core.Path.{_≡_, _∙_}
 use Rattle.board_record.specs.Sizes.{places}
 use Rattle.board_record.specs.Lists.{countBelow}
-use Rattle.board_record.proofs.Lists.{count-most}
 use Rattle.board_proper.specs.Places.{emptyB}
-use Rattle.board_proper.proofs.Loops.{count-none, count-more, count-end, one-most}
+use Rattle.board_proper.proofs.Loops.{count-none, count-more, count-small, count-end}
 use Rattle.board_proper.proofs.rest.empties.Statement.{statement}
 use Rattle.board_proper.proofs.rest.empties.Tie as tie
 
@@ -44,17 +43,8 @@ empty-one-requires : tie.Need-empty-one-requires Inv-loop μ-loop
 empty-one-requires c κs = search needs
 
 add-none : tie.Need-add-none Inv-loop μ-loop
-add-none c =
-    let before6 = c .before .before .before .before .before .before in
-    let args = before6 .before .args in
-    omega (
-      arith,
-      before6 .loop .inv .1,
-      before6 .loop .inv .0,
-      count-most (emptyB (args .keys .now) (args .versions .now) (args .lengths .now) (args .forms .now)) (before6 .loop .i),
-      one-most (args .keys .now) (args .versions .now) (args .lengths .now) (args .forms .now) (before6 .loop .i) _
-          (c .empty-one .ensures),
-    )
+unfolding emptyB
+add-none c = omega (arith, count-small _ _ _ _ (c .before .before .before .before .before .loop-test .taken) (c .before .before .before .before .before .before .loop .inv .1) (c .empty-one .ensures))
 
 add-i : tie.Need-add-i Inv-loop μ-loop
 add-i c = omega arith
@@ -63,15 +53,16 @@ loop-less : tie.Need-loop-less Inv-loop μ-loop
 loop-less c = omega arith
 
 loop-again : tie.Need-loop-again Inv-loop μ-loop
+unfolding emptyB
 loop-again c =
-    let args = c .before .before .before .before .before .before .before .args in (
-      omega (arith, c .before .before .before .before .before .loop-test .taken),
-      count-more (args .keys .now) (args .versions .now) (args .lengths .now) (args .forms .now) _ _ _
-          (c .before .before .before .before .before .before .loop .inv .1) (c .empty-one .ensures),
-    )
+    let b5 = c .before .before .before .before .before in
+    (omega (arith, b5 .loop-test .taken), count-more _ _ _ _ (b5 .before .loop .inv .1) (c .empty-one .ensures))
+
+wide-requires : tie.Need-wide-requires Inv-loop μ-loop
+wide-requires c κs = search needs
 
 returns : tie.Need-returns Inv-loop μ-loop
-returns c = count-end _ _ _ (c .before .loop .inv .0) (c .loop-test .left) (c .before .loop .inv .1)
+returns c = c .wide .ensures .0 ∙ count-end _ _ _ (c .before .before .loop .inv .0) (c .before .loop-test .left) (c .before .before .loop .inv .1)
 
 pub empties-spec : {M : Type 1} → statement M
 empties-spec =
@@ -92,4 +83,5 @@ empties-spec =
     add-i
     loop-less
     loop-again
+    wide-requires
     returns)

@@ -11,14 +11,14 @@ use borrow.Author.Needs.{needs}
 use Rattle.frame_rules.proofs.judged.framed.Statement.{statement}
 use Rattle.frame_rules.proofs.judged.framed.Tie as tie
 
-header-requires : tie.Need-header-requires
-header-requires c κs = search needs
+is-headed-requires : tie.Need-is-headed-requires
+is-headed-requires c κs = search needs
 
 refused-requires : tie.Need-refused-requires
 refused-requires c κs = search needs
 
 returns : tie.Need-returns
-returns c = c .refused .ensures ∙ header-broken _ _ _ _ (c .before .before .header .ensures) (c .before .if1 .taken)
+returns c = c .refused .ensures ∙ header-broken _ _ _ _ (c .before .before .is-headed .ensures) (c .before .if1 .taken)
 
 octet-requires : tie.Need-octet-requires
 octet-requires c κs = search needs
@@ -31,7 +31,7 @@ unfolding be16
 look-requires c κs =
     let before4 = c .before .before .before .before in
     let h = headed-sized (before4 .before .args .ero) (before4 .before .args .s .now)
-    (sym (c .before .before .before .header .ensures) ∙ not-false _ (c .before .before .if1 .left)) in (
+    (sym (c .before .before .before .is-headed .ensures) ∙ not-false _ (c .before .before .if1 .left)) in (
       h .low,
       h .four,
       omega (arith, h .read, before4 .shared-slice-known .given 2, before4 .shared-slice-known .given 3),
@@ -46,7 +46,7 @@ returns-2 c =
     let e : refusedBy frameBroken 0 ≡ byFacts (c .before .before .before .look .result) = rw (c .before .if2 .taken) in
     c .refused2 .ensures
     ∙ e
-    ∙ frame-by _ _ _ _ _ (c .before .before .before .before .before .before .before .header .ensures)
+    ∙ frame-by _ _ _ _ _ (c .before .before .before .before .before .before .before .is-headed .ensures)
     (c .before .before .before .before .before .before .if1 .left) (c .before .before .before .look .ensures)
 
 refused-requires-3 : tie.Need-refused-requires-3
@@ -59,7 +59,7 @@ returns-3 c =
     (c .before .before .before .if2 .left, eq-eqb _ _ (c .before .if3 .taken)) in
     c .refused3 .ensures
     ∙ e
-    ∙ frame-by _ _ _ _ _ (before5 .before .before .before .before .header .ensures)
+    ∙ frame-by _ _ _ _ _ (before5 .before .before .before .before .is-headed .ensures)
     (before5 .before .before .before .if1 .left) (before5 .look .ensures)
 
 both-requires : tie.Need-both-requires
@@ -79,7 +79,7 @@ returns-4 c =
     ) in
     c .refused4 .ensures
     ∙ e
-    ∙ frame-by _ _ _ _ _ (before8 .before .before .before .before .header .ensures)
+    ∙ frame-by _ _ _ _ _ (before8 .before .before .before .before .is-headed .ensures)
     (before8 .before .before .before .if1 .left) (before8 .look .ensures)
 
 refused-requires-5 : tie.Need-refused-requires-5
@@ -97,7 +97,7 @@ returns-5 c =
     ) in
     c .refused5 .ensures
     ∙ e
-    ∙ frame-by _ _ _ _ _ (before8 .before .before .before .before .before .before .header .ensures)
+    ∙ frame-by _ _ _ _ _ (before8 .before .before .before .before .before .before .is-headed .ensures)
     (before8 .before .before .before .before .before .if1 .left) (before8 .before .before .look .ensures)
 
 accepted-requires : tie.Need-accepted-requires
@@ -116,14 +116,14 @@ returns-6 c =
     ) in
     c .accepted .ensures
     ∙ e
-    ∙ frame-by _ _ _ _ _ (before10 .before .before .before .before .header .ensures)
+    ∙ frame-by _ _ _ _ _ (before10 .before .before .before .before .is-headed .ensures)
     (before10 .before .before .before .if1 .left) (before10 .look .ensures)
 
 pub framed-spec : {M : Type 1} → statement M
 framed-spec =
     tie.close
     (tie.spec
-    header-requires
+    is-headed-requires
     refused-requires
     returns
     octet-requires

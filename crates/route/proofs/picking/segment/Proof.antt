@@ -1,4 +1,4 @@
-use Rattle.forms.proofs.Laws.{sized-by, named-again}
+use Rattle.forms.proofs.Laws.{sized-by}
 use Rattle.route.proofs.Setups.{picked-named}
 use borrow.Author.Needs.{needs}
 use Rattle.route.proofs.picking.segment.Statement.{statement}
@@ -8,7 +8,7 @@ named-requires : tie.Need-named-requires
 named-requires c κs = search needs
 
 segment-as-requires : tie.Need-segment-as-requires
-segment-as-requires c κs = let pst = c .before .before .args .pst in (rw (c .named .ensures) (sized-by pst), rw (c .named .ensures) (named-again pst))
+segment-as-requires c κs = (rw (c .named .ensures) (sized-by (c .before .before .args .pst)), c .named .ensures)
 
 returns : tie.Need-returns
 returns c =

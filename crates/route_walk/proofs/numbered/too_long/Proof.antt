@@ -2,7 +2,7 @@ use mathlib.Core.Path.{sym, _∙_}
 use native.Mathlib.Omega.{arith}
 use Rattle.forms.proofs.Laws.{nai-most}
 use Rattle.subobject.specs.Rules.{rule11}
-use Rattle.subobject.proofs.StrayLaws.{fixed-most}
+use Rattle.subobject_strays.proofs.Laws.{fixed-most}
 use Rattle.route_walk.proofs.Laws.{eleven-made}
 use borrow.Author.Needs.{needs}
 use Rattle.route_walk.proofs.numbered.too_long.Statement.{statement}

@@ -1,5 +1,5 @@
 use native.Mathlib.Omega.{arith}
-use Rattle.subobject.proofs.StrayLaws.{fixed-eight}
+use Rattle.subobject_strays.proofs.Laws.{fixed-eight}
 use borrow.Author.Needs.{needs}
 use Rattle.subobject_read.proofs.reading.behaviour_at.Statement.{statement}
 use Rattle.subobject_read.proofs.reading.behaviour_at.Tie as tie

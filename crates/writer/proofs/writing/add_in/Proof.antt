@@ -1,15 +1,17 @@
--- An acceptance says that the place is good and the segment fits (`taken`), so that the rest of the buffer can be lent; `placed-back` puts it back.
+-- An acceptance says that the place is good and the segment fits (`taken`), so that the rest of the buffer can be lent; `placed-back` puts it back. The octets handed
+-- to `adding` and `write` are those of the subobject (`fit`).
 use Prim.Native.Nat.{ℕ, _+_}
 use mathlib.Core.Path.{_≡_, sym, _∙_, ap}
 use lib.ListN.{length, length-drop}
 use native.Mathlib.Omega.{arith}
 use Rattle.octets.proofs.Laws.{placed-back, rest-lent}
+use Rattle.forms.specs.Forms.{naiLength}
 use Rattle.subobject.specs.declared.head.Head.{Head}
 use Rattle.subobject.specs.declared.segment.Segment.{Segment}
 use Rattle.subobject.specs.Rules.{rule8}
 use Rattle.subobject.specs.Segments.{headOfSegment, segmentWith, subobjectOf}
 use Rattle.writer_rules.specs.Refusals.{addNumber}
-use Rattle.writer_rules.proofs.Laws.{Taken, taken, size-subobject}
+use Rattle.writer_rules.proofs.Laws.{Taken, taken, Fits, fits-by, front-most}
 use Rattle.writer.specs.Writing.{addAnswerIn, addBufferIn, acceptedAs}
 use Rattle.writer.specs.declared.state.Writer.{Writer}
 use Rattle.writer.proofs.Laws.{answered-refused, answered-accepted, buffer-refused, buffer-accepted}
@@ -20,68 +22,110 @@ use Rattle.writer.proofs.writing.add_in.Tie as tie
 abbrev seg : tie.Start → Segment
 seg c = segmentWith (c .args .o) (c .args .sid .now) (c .args .nai .now) (c .args .bits .now)
 
+head : (c : tie.After-head-of) → c .head-of .result ≡ headOfSegment (c .before .before .before .before .before .args .form) (seg (c .before .before .before .before .before))
+unfolding headOfSegment
+head c = c .head-of .ensures .0
+
+octets : (c : tie.After-nai-octets)
+    → c .nai-octets .result ≡ naiLength (c .before .before .before .before .before .before .args .form) (c .before .before .before .before .before .before .args .o .nt)
+octets c =
+    let form = c .before .before .before .before .before .before .args .form in
+    c .nai-octets .ensures .0 ∙ ap (λ (h : Head). naiLength form (h .nt)) (c .before .head-of .ensures .0)
+
 abbrev start : tie.Else1 → tie.Start
-start c = c .before .before .before .before .before .before .before
+start c = c .before .before .before .before .before .before .before .before .before .before
 
 free : (c : tie.Else1)
     → addNumber (start c .args .form) (length (start c .args .buf .now)) (start c .args .writer .ero) (start c .args .writer .at) (seg (start c)) ≡ 0
 free c = sym (c .before .adding .ensures) ∙ c .if1 .left
 
-fits : (c : tie.Else1)
+taken-in : (c : tie.Else1)
     → Taken (start c .args .form) (length (start c .args .buf .now)) (start c .args .writer .ero) (start c .args .writer .at) (seg (start c))
-fits c =
+taken-in c =
     let a = start c .args in
     taken (a .form) (length (a .buf .now)) (a .writer .ero) (a .writer .at) (seg (start c)) (free c)
 
-head : (c : tie.After-head-of) → c .head-of .result ≡ headOfSegment (c .before .before .before .before .before .args .form) (seg (c .before .before .before .before .before))
-unfolding headOfSegment
-head c = c .head-of .ensures .0
-
-sized : (c : tie.After-head-of) → c .head-of .result .size ≡ length (subobjectOf (c .before .before .before .before .before .args .form) (seg (c .before .before .before .before .before)))
-sized c =
-    let b5 = c .before .before .before .before .before in
-    ap (λ (h : Head). h .size) (head c) ∙ size-subobject (b5 .pre .1) (seg (b5)) (b5 .pre .0)
+fit : (c : tie.Else1)
+    → Fits (start c .args .form) (seg (start c)) (c .before .before .before .front .result) (c .before .before .before .before .nai-octets .result)
+    (c .before .before .before .front .result + c .before .before .before .before .nai-octets .result + c .before .before .pick .result)
+fit c =
+    let t = start c in
+    let b3 = c .before .before .before in
+    fits-by (t .pre .1) (t .args .writer .ero) (seg t) (b3 .front .result) (b3 .before .nai-octets .result)
+    (b3 .front .result + b3 .before .nai-octets .result + c .before .before .pick .result)
+    (t .pre .0) (b3 .front .ensures) (octets (b3 .before))
+    (ap (λ (x : ℕ). b3 .front .result + b3 .before .nai-octets .result + x) (c .before .before .pick .ensures .0)) (taken-in c .fit)
 
 head-of-requires : tie.Need-head-of-requires
 head-of-requires c κs = search needs
 
+nai-octets-requires : tie.Need-nai-octets-requires
+nai-octets-requires c κs = search needs
+
+front-requires : tie.Need-front-requires
+front-requires c κs = search needs
+
+add-size : tie.Need-add-size
+add-size c =
+    let b7 = c .before .before .before .before .before .before .before in
+    omega (arith, front-most (b7 .pre .1) (b7 .args .o) (b7 .args .sid .now) _ (c .front .ensures), c .before .nai-octets .ensures .1)
+
+pick-requires : tie.Need-pick-requires
+pick-requires c κs = search needs
+
+add-size-2 : tie.Need-add-size-2
+add-size-2 c =
+    let b2 = c .before .before in
+    let b8 = b2 .before .before .before .before .before .before in
+    omega (arith, front-most (b8 .pre .1) (b8 .args .o) (b8 .args .sid .now) _ (c .before .front .ensures), b2 .nai-octets .ensures .1, c .pick .ensures .1)
+
 adding-requires : tie.Need-adding-requires
-adding-requires c κs = search needs
+adding-requires c κs =
+    let b2 = c .before .before in
+    let b3 = b2 .before in
+    let b8 = b3 .before .before .before .before .before in
+    (b8 .pre .0, b3 .head-of .ensures .0, b8 .pre .1, b8 .pre .2, c .before .front .ensures, octets (b2), rw (c .pick .ensures .0))
 
 refuse-requires : tie.Need-refuse-requires
 refuse-requires c κs = search needs
 
 returns : tie.Need-returns
 unfolding addAnswerIn addBufferIn
-returns c = (
-  answered-refused (c .before .before .adding .result) _ _ _ (c .refuse .ensures) (c .before .before .adding .ensures) (c .before .if1 .taken),
-  buffer-refused (c .before .before .adding .result) _ _ _ (c .before .before .adding .ensures) (c .before .if1 .taken),
-)
+returns c =
+    let b2 = c .before .before in (
+      answered-refused (b2 .adding .result) _ _ _ (c .refuse .ensures) (b2 .adding .ensures) (c .before .if1 .taken),
+      buffer-refused (b2 .adding .result) _ _ _ (b2 .adding .ensures) (c .before .if1 .taken),
+    )
 
 sub-write : tie.Need-sub-write
-sub-write c = let p = fits c .place in omega arith
+sub-write c = let p = taken-in c .place in omega arith
 
 part-write-start : tie.Need-part-write-start
-part-write-start c = let p = fits c .place in search needs
+part-write-start c = let p = taken-in c .place in search needs
 
 part-write-end : tie.Need-part-write-end
 part-write-end c = search needs
 
 write-requires : tie.Need-write-requires
 write-requires c κs =
-    let t = fits (c .before) in
-    let s = c .before .before .before .before .before .before .before .before .pre in (
-      s .0,
-      c .before .before .before .head-of .ensures .0,
-      ap (rule8 (c .before .before .before .before .before .before .before .before .args .form)) (head (c .before .before .before)) ∙ t .r8,
+    let b6 = c .before .before .before .before .before .before in
+    let b11 = b6 .before .before .before .before .before in
+    let t = taken-in (c .before) in
+    let f = fit (c .before) in (
+      b11 .pre .0,
+      b6 .head-of .ensures .0,
+      ap (rule8 (b11 .args .form)) (head (b6)) ∙ t .r8,
       simp (rest-lent, length-drop) (omega (arith, t .place .inside, t .end .inside)),
-      s .1,
-      s .2,
+      b11 .pre .1,
+      b11 .pre .2,
+      rw (head (b6)) (f .parts),
+      rw (head (b6)) (f .there),
     )
 
-add-t11 : tie.Need-add-t11
-add-t11 c =
-    let t = fits (c .before .before .before .before .before) in omega (arith, sized (c .before .before .before .before .before .before .before), t .end .most)
+add-t14 : tie.Need-add-t14
+add-t14 c =
+    let b4 = c .before .before .before .before in
+    let t = taken-in (b4) in let f = fit (b4) in omega (arith, f .all, t .end .most)
 
 accept-requires : tie.Need-accept-requires
 accept-requires c κs = search needs
@@ -92,17 +136,20 @@ same-length c = search needs
 returns-2 : tie.Need-returns-2
 unfolding addAnswerIn addBufferIn
 returns-2 c =
-    let b4 = c .before .before .before .before in
-    let b6 = b4 .before .before in
-    let b8 = b6 .before .before in
-    let b13 = b8 .before .before .before .before .before in
-    let a = b13 .args in
+    let b3 = c .before .before .before in
+    let b5 = b3 .before .before in
+    let b7 = b5 .before .before in
+    let b8 = b7 .before in
+    let b9 = b8 .before in
+    let b15 = b9 .before .before .before .before .before .before in
+    let a = b15 .args in
     let w = a .writer in
-    let e : _≡_ {A = Writer} (record { ero = w .ero; at = w .at + b8 .head-of .result .size; form = w .form })
-    (record { ero = w .ero; at = w .at + length (subobjectOf (a .form) (seg (b13))); form = w .form })
-    = rw (sized (b8)) in (
-      answered-accepted _ _ _ (c .accept .ensures ∙ ap acceptedAs e) (free (b6)),
-      buffer-accepted _ _ _ (placed-back _ _ _ _ (b4 .write .ensures)) (free (b6)),
+    let size = b8 .front .result + b9 .nai-octets .result + b7 .pick .result in
+    let e : _≡_ {A = Writer} (record { ero = w .ero; at = w .at + size; form = w .form })
+    (record { ero = w .ero; at = w .at + length (subobjectOf (a .form) (seg (b15))); form = w .form })
+    = ap (λ (x : ℕ). record { ero = w .ero; at = w .at + x; form = w .form }) (fit (b5) .all) in (
+      answered-accepted _ _ _ (c .accept .ensures ∙ ap acceptedAs e) (free (b5)),
+      buffer-accepted _ _ _ (placed-back _ _ _ _ (b3 .write .ensures)) (free (b5)),
     )
 
 pub add-in-spec : {M : Type 1} → statement M
@@ -110,6 +157,11 @@ add-in-spec =
     tie.close
     (tie.spec
     head-of-requires
+    nai-octets-requires
+    front-requires
+    add-size
+    pick-requires
+    add-size-2
     adding-requires
     refuse-requires
     returns
@@ -117,7 +169,7 @@ add-in-spec =
     part-write-start
     part-write-end
     write-requires
-    add-t11
+    add-t14
     accept-requires
     same-length
     returns-2)

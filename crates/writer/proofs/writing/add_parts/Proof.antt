@@ -1,20 +1,23 @@
-use mathlib.Core.Path.{_≡_, _∙_, ap}
+use mathlib.Core.Path.{_∙_, ap}
 use Rattle.forms.specs.declared.Form.{Form}
-use Rattle.forms.specs.Forms.{formOf}
-use Rattle.forms.proofs.Laws.{form-mpls, form-srv6, srv6-sized, mpls-sized}
+use Rattle.forms.proofs.Laws.{sized-by}
 use Rattle.subobject.specs.Segments.{segmentWith}
-use Rattle.writer_layout.proofs.Forms.{srv6-readable, mpls-readable}
+use Rattle.writer_layout.proofs.Forms.{readable-by}
 use Rattle.writer.specs.Writing.{addAnswerIn, addBufferIn}
 use borrow.Author.Needs.{needs}
 use Rattle.writer.proofs.writing.add_parts.Statement.{statement}
 use Rattle.writer.proofs.writing.add_parts.Tie as tie
 
-mpls-requires : tie.Need-mpls-requires
-mpls-requires c κs = search needs
+cast-named : tie.Need-cast-named
+cast-named c = search needs
+
+named-requires : tie.Need-named-requires
+named-requires c κs = search needs
 
 add-in-requires : tie.Need-add-in-requires
 add-in-requires c κs =
-    (c .before .before .before .before .before .before .before .before .pre, rw (c .mpls .ensures) mpls-sized, rw (c .mpls .ensures) mpls-readable)
+    let b7 = c .before .before .before .before .before .before .before in
+    (b7 .pre, rw (c .named .ensures) (sized-by (b7 .args .writer .form)), rw (c .named .ensures) (readable-by (b7 .args .writer .form)))
 
 same-length : tie.Need-same-length
 same-length c = search needs
@@ -23,47 +26,12 @@ returns : tie.Need-returns
 returns c =
     let b2 = c .before .before in
     let b3 = b2 .before in
-    let b5 = b3 .before .before in
-    let b11 = b5 .before .before .before .before .before .before in
-    let a = b11 .args in
-    let g = segmentWith (a .o) (a .sid .now) (a .nai .now) (a .bits .now) in
-    let e : b3 .mpls .result ≡ formOf (a .writer .form) = b3 .mpls .ensures ∙ form-mpls (a .writer .form) (b5 .if1 .taken) in (
-      b2 .add-in .ensures .0 ∙ ap (λ (f : Form). addAnswerIn f (a .buf .now) (a .writer) g) e,
-      b2 .add-in .ensures .1 ∙ ap (λ (f : Form). addBufferIn f (a .buf .now) (a .writer) g) e,
-    )
-
-srv6-requires : tie.Need-srv6-requires
-srv6-requires c κs = search needs
-
-add-in-requires-2 : tie.Need-add-in-requires-2
-add-in-requires-2 c κs =
-    (c .before .before .before .before .before .before .before .before .pre, rw (c .srv6 .ensures) srv6-sized, rw (c .srv6 .ensures) srv6-readable)
-
-same-length-2 : tie.Need-same-length-2
-same-length-2 c = search needs
-
-returns-2 : tie.Need-returns-2
-returns-2 c =
-    let b2 = c .before .before in
-    let b3 = b2 .before in
-    let b5 = b3 .before .before in
-    let b11 = b5 .before .before .before .before .before .before in
-    let a = b11 .args in
-    let g = segmentWith (a .o) (a .sid .now) (a .nai .now) (a .bits .now) in
-    let e : b3 .srv6 .result ≡ formOf (a .writer .form) = b3 .srv6 .ensures ∙ form-srv6 (a .writer .form) (b5 .if1 .left) in (
-      b2 .add-in2 .ensures .0 ∙ ap (λ (f : Form). addAnswerIn f (a .buf .now) (a .writer) g) e,
-      b2 .add-in2 .ensures .1 ∙ ap (λ (f : Form). addBufferIn f (a .buf .now) (a .writer) g) e,
+    let b10 = b3 .before .before .before .before .before .before .before in
+    let a = b10 .args in
+    let g = segmentWith (a .o) (a .sid .now) (a .nai .now) (a .bits .now) in (
+      b2 .add-in .ensures .0 ∙ ap (λ (f : Form). addAnswerIn f (a .buf .now) (a .writer) g) (b3 .named .ensures),
+      b2 .add-in .ensures .1 ∙ ap (λ (f : Form). addBufferIn f (a .buf .now) (a .writer) g) (b3 .named .ensures),
     )
 
 pub add-parts-spec : {M : Type 1} → statement M
-add-parts-spec =
-    tie.close
-    (tie.spec
-    mpls-requires
-    add-in-requires
-    same-length
-    returns
-    srv6-requires
-    add-in-requires-2
-    same-length-2
-    returns-2)
+add-parts-spec = tie.close (tie.spec cast-named named-requires add-in-requires same-length returns)

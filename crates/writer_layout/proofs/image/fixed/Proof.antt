@@ -5,7 +5,9 @@ use Rattle.writer_layout.proofs.image.fixed.Statement.{statement}
 use Rattle.writer_layout.proofs.image.fixed.Tie as tie
 
 four-requires : tie.Need-four-requires
-four-requires c κs = (c .before .before .pre .0, omega (arith, fixed-least (c .before .before .pre .2), c .before .before .pre .1))
+four-requires c κs =
+    let b2 = c .before .before in
+    (b2 .pre .0, b2 .pre .3, b2 .pre .4, b2 .pre .5, omega (arith, fixed-least (b2 .pre .2), b2 .pre .1))
 
 four-more-requires : tie.Need-four-more-requires
 four-more-requires c κs =
@@ -31,8 +33,10 @@ same-length-2 c = search needs
 
 returns-2 : tie.Need-returns-2
 returns-2 c =
-    let a = c .before .before .before .before .before .before .args in
-    fixed-four (a .form) (a .h) (a .behaviour) (a .out .now) _ (c .if1 .left) (c .before .before .before .four .ensures)
+    let b3 = c .before .before .before in
+    let b6 = b3 .before .before .before in
+    let a = b6 .args in
+    fixed-four (a .form) (a .h) (a .behaviour) (a .out .now) _ (c .if1 .left) (b3 .four .ensures)
 
 pub fixed-spec : {M : Type 1} → statement M
 fixed-spec =

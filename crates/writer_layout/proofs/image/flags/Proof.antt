@@ -1,66 +1,40 @@
+use mathlib.Core.Path.{_∙_, ap}
+use Rattle.forms.specs.declared.Form.{Form}
 use Rattle.subobject.specs.Segments.{flagsOctet}
+use Rattle.writer_spare.proofs.Laws.{known-srv6, known-mpls}
 use borrow.Author.Needs.{needs}
 use Rattle.writer_layout.proofs.image.flags.Statement.{statement}
 use Rattle.writer_layout.proofs.image.flags.Tie as tie
 
-worth-requires : tie.Need-worth-requires
-worth-requires c κs = search needs
+srv6-requires : tie.Need-srv6-requires
+srv6-requires c κs = search needs
 
-worth-requires-2 : tie.Need-worth-requires-2
-worth-requires-2 c κs = search needs
-
-add-result : tie.Need-add-result
-add-result c = search needs
-
-worth-requires-3 : tie.Need-worth-requires-3
-worth-requires-3 c κs = search needs
-
-add-result-2 : tie.Need-add-result-2
-add-result-2 c = search needs
-
-worth-requires-4 : tie.Need-worth-requires-4
-worth-requires-4 c κs = search needs
-
-add-result-3 : tie.Need-add-result-3
-add-result-3 c = search needs
-
-worth-requires-5 : tie.Need-worth-requires-5
-worth-requires-5 c κs = search needs
-
-add-result-4 : tie.Need-add-result-4
-add-result-4 c = search needs
-
-worth-requires-6 : tie.Need-worth-requires-6
-worth-requires-6 c κs = search needs
-
-add-result-5 : tie.Need-add-result-5
-add-result-5 c = search needs
+flags-in-requires : tie.Need-flags-in-requires
+flags-in-requires c κs =
+    let b2 = c .before .before in
+    rw (c .srv6 .ensures ∙ known-srv6 (b2 .args .form) (b2 .pre .1) (c .before .if1 .taken)) (b2 .pre .0)
 
 returns : tie.Need-returns
-unfolding flagsOctet
 returns c =
-    rw (
-      c .before .before .before .before .before .worth .ensures .0,
-      c .before .before .before .before .worth2 .ensures .0,
-      c .before .before .before .worth3 .ensures .0,
-      c .before .before .worth4 .ensures .0,
-      c .before .worth5 .ensures .0,
-      c .worth6 .ensures .0,
-    )
+    let b2 = c .before .before in
+    let b3 = b2 .before in
+    c .flags-in .ensures ∙ ap (λ (f : Form). flagsOctet f (b3 .args .h)) (c .before .srv6 .ensures ∙ known-srv6 (b3 .args .form) (b3 .pre .1) (b2 .if1 .taken))
+
+mpls-requires : tie.Need-mpls-requires
+mpls-requires c κs = search needs
+
+flags-in-requires-2 : tie.Need-flags-in-requires-2
+flags-in-requires-2 c κs =
+    let b2 = c .before .before in
+    rw (c .mpls .ensures ∙ known-mpls (b2 .args .form) (b2 .pre .1) (c .before .if1 .left)) (b2 .pre .0)
+
+returns-2 : tie.Need-returns-2
+returns-2 c =
+    let b2 = c .before .before in
+    let b3 = b2 .before in
+    c .flags-in2 .ensures ∙ ap (λ (f : Form). flagsOctet f (b3 .args .h)) (c .before .mpls .ensures ∙ known-mpls (b3 .args .form) (b3 .pre .1) (b2 .if1 .left))
 
 pub flags-spec : {M : Type 1} → statement M
 flags-spec =
     tie.close
-    (tie.spec
-    worth-requires
-    worth-requires-2
-    add-result
-    worth-requires-3
-    add-result-2
-    worth-requires-4
-    add-result-3
-    worth-requires-5
-    add-result-4
-    worth-requires-6
-    add-result-5
-    returns)
+    (tie.spec srv6-requires flags-in-requires returns mpls-requires flags-in-requires-2 returns-2)

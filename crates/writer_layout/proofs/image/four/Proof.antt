@@ -1,6 +1,5 @@
--- Each number fits its octet because the head is `Small`; four stores are the run of four octets (`sets-eq`).
-use Prim.Native.Nat.{_+_, _*_}
 use mathlib.Core.Path.{_∙_}
+use Prim.Native.Nat.{_+_, _*_}
 use mathlib.Core.List.{[], _∷_}
 use lib.ListN.{length-set}
 use lib.Seq.{sets-eq}
@@ -12,6 +11,9 @@ use Rattle.writer_layout.proofs.image.four.Tie as tie
 
 mul-out : tie.Need-mul-out
 mul-out c = search needs
+
+kind-requires : tie.Need-kind-requires
+kind-requires c κs = search needs
 
 add-out : tie.Need-add-out
 add-out c = search needs
@@ -52,15 +54,19 @@ same-length c = search needs
 returns : tie.Need-returns
 unfolding over
 returns c =
-    let a = c .before .before .before .before .before .before .args in
+    let b2 = c .before .before in
+    let b5 = b2 .before .before .before in
+    let a = b5 .args in
     let h = a .h in
-    sets-eq ((h .l * 128 + h .kind) ∷ h .size ∷ (h .nt * 16) ∷ c .flags .result ∷ []) (a .out .now) 0 (c .before .before .before .before .before .before .pre .1) ∙ rw (c .flags .ensures)
+    sets-eq ((h .l * 128 + b2 .kind .result) ∷ a .size ∷ (h .nt * 16) ∷ c .flags .result ∷ []) (a .out .now) 0 (b5 .pre .4)
+    ∙ rw (c .flags .ensures, b2 .kind .ensures, b5 .pre .3)
 
 pub four-spec : {M : Type 1} → statement M
 four-spec =
     tie.close
     (tie.spec
     mul-out
+    kind-requires
     add-out
     cast-out
     slice-write-out

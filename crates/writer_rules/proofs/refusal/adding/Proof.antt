@@ -1,12 +1,19 @@
--- Each return rewrites `addNumber` by the tests made before it; the head is the one that the segment is written with.
+-- Each return rewrites `addNumber` by the tests made before it; the head is the one that the segment is written with. What the tests find is what the rules say
+-- (`eight`, `seven`, `eleven`); the octets handed in are those of the subobject where the segment is not unfit (`fit`).
 use mathlib.Core.Path.{_≡_, sym, _∙_, ap}
-use lib.ListN.{length}
+use mathlib.Core.Bool.{Bool, false, not, _&&_, _||_}
+use lib.Dec.{eqb, ltb}
+use lib.ListN.{drop}
+use native.Mathlib.Omega.{arith}
+use Rattle.octets.proofs.Said.{cond-most}
+use Rattle.forms.proofs.Laws.{nai-most}
 use Rattle.subobject.specs.declared.head.Head.{Head}
 use Rattle.subobject.specs.declared.segment.Segment.{Segment}
-use Rattle.subobject.specs.Segments.{headOfSegment, segmentWith, subobjectOf, bitsOf}
-use Rattle.writer_layout.proofs.Laws.{small-head}
-use Rattle.writer_rules.specs.Refusals.{addNumber, noRoom}
-use Rattle.writer_rules.proofs.Laws.{size-subobject}
+use Rattle.subobject.specs.Rules.{rule8, rule11, mostBits, sumAt}
+use Rattle.subobject.specs.Segments.{headOfSegment, segmentWith, bitsOf}
+use Rattle.writer_spare.specs.Spare.{zeros}
+use Rattle.writer_rules.specs.Refusals.{addNumber, noRoom, unfit}
+use Rattle.writer_rules.proofs.Laws.{unknown-eight, misfit-unfit, Fits, fits-by, overlong-eleven, front-most}
 use borrow.Author.Needs.{needs}
 use Rattle.writer_rules.proofs.refusal.adding.Statement.{statement}
 use Rattle.writer_rules.proofs.refusal.adding.Tie as tie
@@ -18,18 +25,34 @@ head : (c : tie.Start) → c .args .h ≡ headOfSegment (c .args .form) (seg c)
 unfolding headOfSegment
 head c = c .pre .1
 
-sized : (c : tie.Start) → length (subobjectOf (c .args .form) (seg c)) ≡ c .args .h .size
-sized c = sym (ap (λ (h : Head). h .size) (head c) ∙ size-subobject (c .pre .2) (seg c) (c .pre .0))
+eight : (c : tie.Start) (u : Bool) → u ≡ (not (eqb (c .args .h .nt) 0) && eqb (c .args .n) 0) → u ≡ rule8 (c .args .form) (c .args .h)
+eight c u e = unknown-eight (c .args .form) (c .args .h) (c .args .n) u (rw (c .pre .1) (c .pre .5)) e
 
-eight-requires : tie.Need-eight-requires
-eight-requires c κs = search needs
+seven : (c : tie.Start) (m : Bool)
+    → m
+    ≡ (eqb (c .args .front) 0
+    || ((not (c .args .ero) && (c .args .o .loose || c .args .o .verify))
+    || not ((c .args .o .structured || zeros (c .args .bits .now)) && zeros (drop (c .args .n) (c .args .nai .now)))))
+    → m ≡ unfit (c .args .form) (c .args .ero) (seg c)
+seven c m e = misfit-unfit (c .pre .2) (c .args .ero) (seg c) (c .args .front) (c .args .n) m (c .pre .0) (c .pre .4) (c .pre .5) e
+
+fit : (c : tie.Start) → unfit (c .args .form) (c .args .ero) (seg c) ≡ false → Fits (c .args .form) (seg c) (c .args .front) (c .args .n) (c .args .size)
+fit c f = fits-by (c .pre .2) (c .args .ero) (seg c) (c .args .front) (c .args .n) (c .args .size) (c .pre .0) (c .pre .4) (c .pre .5) (c .pre .6) f
+
+eleven : (c : tie.Start) (u : Bool) → unfit (c .args .form) (c .args .ero) (seg c) ≡ false
+    → u ≡ (c .args .o .structured && ltb mostBits (sumAt (c .args .bits .now) 0)) → u ≡ rule11 (c .args .h) (bitsOf (seg c))
+eleven c u f e = overlong-eleven (c .args .form) (seg c) u (fit c f .there) e ∙ rw (head c)
+
+unknown-requires : tie.Need-unknown-requires
+unknown-requires c κs = search needs
 
 returns : tie.Need-returns
 unfolding addNumber
 returns c =
+    let b5 = c .before .before .before .before .before in
     simp (
-      ← head (c .before .before .before .before .before),
-      sym (c .before .eight .ensures) ∙ c .if1 .taken,
+      ← head b5,
+      sym (eight b5 _ (c .before .unknown .ensures)) ∙ c .if1 .taken,
     )
 
 nine-requires : tie.Need-nine-requires
@@ -38,48 +61,64 @@ nine-requires c κs = search needs
 returns-2 : tie.Need-returns-2
 unfolding addNumber
 returns-2 c =
+    let b2 = c .before .before in
+    let b3 = b2 .before in
+    let b7 = b3 .before .before .before .before in
     simp (
-      ← head (c .before .before .before .before .before .before .before),
-      sym (c .before .before .before .eight .ensures) ∙ c .before .before .if1 .left,
+      ← head b7,
+      sym (eight b7 _ (b3 .unknown .ensures)) ∙ b2 .if1 .left,
       sym (c .before .nine .ensures) ∙ c .if2 .taken,
     )
 
 misfit-requires : tie.Need-misfit-requires
-misfit-requires c κs = search needs
+misfit-requires c κs =
+    let b7 = c .before .before .before .before .before .before .before in
+    (b7 .pre .0 .nai, b7 .pre .0 .structure, rw (b7 .pre .5) (b7 .pre .3 .steps (b7 .args .o .nt)))
 
 returns-3 : tie.Need-returns-3
 unfolding addNumber
 returns-3 c =
+    let b2 = c .before .before in
+    let b3 = b2 .before in
+    let b4 = b3 .before in
+    let b5 = b4 .before in
+    let b9 = b5 .before .before .before .before in
     simp (
-      ← head (c .before .before .before .before .before .before .before .before .before),
-      sym (c .before .before .before .before .before .eight .ensures) ∙ c .before .before .before .before .if1 .left,
-      sym (c .before .before .before .nine .ensures) ∙ c .before .before .if2 .left,
-      sym (c .before .misfit .ensures) ∙ c .if3 .taken,
+      ← head b9,
+      sym (eight b9 _ (b5 .unknown .ensures)) ∙ b4 .if1 .left,
+      sym (b3 .nine .ensures) ∙ b2 .if2 .left,
+      sym (seven b9 _ (c .before .misfit .ensures)) ∙ c .if3 .taken,
     )
 
-sum-at-requires : tie.Need-sum-at-requires
-sum-at-requires c κs = search needs
-
-eleven-requires : tie.Need-eleven-requires
-eleven-requires c κs = search needs
+overlong-requires : tie.Need-overlong-requires
+overlong-requires c κs = search needs
 
 returns-4 : tie.Need-returns-4
-unfolding addNumber bitsOf
+unfolding addNumber
 returns-4 c =
+    let b2 = c .before .before in
+    let b3 = b2 .before in
+    let b4 = b3 .before in
+    let b5 = b4 .before in
+    let b6 = b5 .before in
+    let b7 = b6 .before in
+    let b11 = b7 .before .before .before .before in
+    let f = sym (seven b11 _ (b3 .misfit .ensures)) ∙ b2 .if3 .left in
     simp (
-      ← head (c .before .before .before .before .before .before .before .before .before .before .before .before),
-      sym (c .before .before .before .before .before .before .before .before .eight .ensures) ∙ c .before .before .before .before .before .before .before .if1 .left,
-      sym (c .before .before .before .before .before .before .nine .ensures) ∙ c .before .before .before .before .before .if2 .left,
-      sym (c .before .before .before .before .misfit .ensures) ∙ c .before .before .before .if3 .left,
-      ← c .before .before .sum-at .ensures .0,
-      sym (c .before .eleven .ensures) ∙ c .if4 .taken,
+      ← head b11,
+      sym (eight b11 _ (b7 .unknown .ensures)) ∙ b6 .if1 .left,
+      sym (b5 .nine .ensures) ∙ b4 .if2 .left,
+      f,
+      sym (eleven b11 _ f (c .before .overlong .ensures)) ∙ c .if4 .taken,
     )
 
 label-bad-requires : tie.Need-label-bad-requires
-label-bad-requires c κs = search needs
+label-bad-requires c κs =
+    let b11 = c .before .before .before .before .before .before .before .before .before .before .before in
+    ap (λ (h : Head). h .m) (b11 .pre .1)
 
 returns-5 : tie.Need-returns-5
-unfolding addNumber bitsOf
+unfolding addNumber
 returns-5 c =
     let b2 = c .before .before in
     let b3 = b2 .before in
@@ -89,23 +128,24 @@ returns-5 c =
     let b7 = b6 .before in
     let b8 = b7 .before in
     let b9 = b8 .before in
-    let b10 = b9 .before in
-    let b14 = b10 .before .before .before .before in
+    let b13 = b9 .before .before .before .before in
+    let f = sym (seven b13 _ (b5 .misfit .ensures)) ∙ b4 .if3 .left in
     simp (
-      ← head (b14),
-      sym (b10 .eight .ensures) ∙ b9 .if1 .left,
-      sym (b8 .nine .ensures) ∙ b7 .if2 .left,
-      sym (b6 .misfit .ensures) ∙ b5 .if3 .left,
-      ← b4 .sum-at .ensures .0,
-      sym (b3 .eleven .ensures) ∙ b2 .if4 .left,
+      ← head b13,
+      sym (eight b13 _ (b9 .unknown .ensures)) ∙ b8 .if1 .left,
+      sym (b7 .nine .ensures) ∙ b6 .if2 .left,
+      f,
+      sym (eleven b13 _ f (b3 .overlong .ensures)) ∙ b2 .if4 .left,
       sym (c .before .label-bad .ensures) ∙ c .if5 .taken,
     )
 
 time-bad-requires : tie.Need-time-bad-requires
-time-bad-requires c κs = search needs
+time-bad-requires c κs =
+    let b13 = c .before .before .before .before .before .before .before .before .before .before .before .before .before in
+    ap (λ (h : Head). h .m) (b13 .pre .1)
 
 returns-6 : tie.Need-returns-6
-unfolding addNumber bitsOf
+unfolding addNumber
 returns-6 c =
     let b2 = c .before .before in
     let b3 = b2 .before in
@@ -117,29 +157,32 @@ returns-6 c =
     let b9 = b8 .before in
     let b10 = b9 .before in
     let b11 = b10 .before in
-    let b12 = b11 .before in
-    let b16 = b12 .before .before .before .before in
+    let b15 = b11 .before .before .before .before in
+    let f = sym (seven b15 _ (b7 .misfit .ensures)) ∙ b6 .if3 .left in
     simp (
-      ← head (b16),
-      sym (b12 .eight .ensures) ∙ b11 .if1 .left,
-      sym (b10 .nine .ensures) ∙ b9 .if2 .left,
-      sym (b8 .misfit .ensures) ∙ b7 .if3 .left,
-      ← b6 .sum-at .ensures .0,
-      sym (b5 .eleven .ensures) ∙ b4 .if4 .left,
+      ← head b15,
+      sym (eight b15 _ (b11 .unknown .ensures)) ∙ b10 .if1 .left,
+      sym (b9 .nine .ensures) ∙ b8 .if2 .left,
+      f,
+      sym (eleven b15 _ f (b5 .overlong .ensures)) ∙ b4 .if4 .left,
       sym (b3 .label-bad .ensures) ∙ b2 .if5 .left,
       sym (c .before .time-bad .ensures) ∙ c .if6 .taken,
     )
 
 crowded-requires : tie.Need-crowded-requires
 crowded-requires c κs =
-    let b11 = c .before .before .before .before .before .before .before .before .before .before .before in
-    let b12 = b11 .before in
-    let b16 = b12 .before .before .before .before in
-    let t = b16 in
-    small-head (t .pre .2) (t .pre .3) (seg t) (t .args .h) (head t) (sym (b12 .eight .ensures) ∙ b11 .if1 .left) .size
+    let b15 = c .before .before .before .before .before .before .before .before .before .before .before .before .before .before .before in
+    omega (
+      arith,
+      b15 .pre .6,
+      b15 .pre .5,
+      front-most (b15 .pre .2) (b15 .args .o) (b15 .args .sid .now) (b15 .args .front) (b15 .pre .4),
+      nai-most (b15 .pre .2) (b15 .args .o .nt),
+      cond-most (b15 .args .o .structured) 8,
+    )
 
 returns-7 : tie.Need-returns-7
-unfolding addNumber bitsOf noRoom
+unfolding addNumber noRoom
 returns-7 c =
     let b2 = c .before .before in
     let b3 = b2 .before in
@@ -153,23 +196,22 @@ returns-7 c =
     let b11 = b10 .before in
     let b12 = b11 .before in
     let b13 = b12 .before in
-    let b14 = b13 .before in
-    let b18 = b14 .before .before .before .before in
+    let b17 = b13 .before .before .before .before in
+    let f = sym (seven b17 _ (b9 .misfit .ensures)) ∙ b8 .if3 .left in
     simp (
-      sized (b18),
-      ← head (b18),
-      sym (b14 .eight .ensures) ∙ b13 .if1 .left,
-      sym (b12 .nine .ensures) ∙ b11 .if2 .left,
-      sym (b10 .misfit .ensures) ∙ b9 .if3 .left,
-      ← b8 .sum-at .ensures .0,
-      sym (b7 .eleven .ensures) ∙ b6 .if4 .left,
+      sym (fit b17 f .all),
+      ← head b17,
+      sym (eight b17 _ (b13 .unknown .ensures)) ∙ b12 .if1 .left,
+      sym (b11 .nine .ensures) ∙ b10 .if2 .left,
+      f,
+      sym (eleven b17 _ f (b7 .overlong .ensures)) ∙ b6 .if4 .left,
       sym (b5 .label-bad .ensures) ∙ b4 .if5 .left,
       sym (b3 .time-bad .ensures) ∙ b2 .if6 .left,
       sym (c .before .crowded .ensures) ∙ c .if7 .taken,
     )
 
 returns-8 : tie.Need-returns-8
-unfolding addNumber bitsOf noRoom
+unfolding addNumber noRoom
 returns-8 c =
     let b2 = c .before .before in
     let b3 = b2 .before in
@@ -183,16 +225,15 @@ returns-8 c =
     let b11 = b10 .before in
     let b12 = b11 .before in
     let b13 = b12 .before in
-    let b14 = b13 .before in
-    let b18 = b14 .before .before .before .before in
+    let b17 = b13 .before .before .before .before in
+    let f = sym (seven b17 _ (b9 .misfit .ensures)) ∙ b8 .if3 .left in
     simp (
-      sized (b18),
-      ← head (b18),
-      sym (b14 .eight .ensures) ∙ b13 .if1 .left,
-      sym (b12 .nine .ensures) ∙ b11 .if2 .left,
-      sym (b10 .misfit .ensures) ∙ b9 .if3 .left,
-      ← b8 .sum-at .ensures .0,
-      sym (b7 .eleven .ensures) ∙ b6 .if4 .left,
+      sym (fit b17 f .all),
+      ← head b17,
+      sym (eight b17 _ (b13 .unknown .ensures)) ∙ b12 .if1 .left,
+      sym (b11 .nine .ensures) ∙ b10 .if2 .left,
+      f,
+      sym (eleven b17 _ f (b7 .overlong .ensures)) ∙ b6 .if4 .left,
       sym (b5 .label-bad .ensures) ∙ b4 .if5 .left,
       sym (b3 .time-bad .ensures) ∙ b2 .if6 .left,
       sym (c .before .crowded .ensures) ∙ c .if7 .left,
@@ -202,14 +243,13 @@ pub adding-spec : {M : Type 1} → statement M
 adding-spec =
     tie.close
     (tie.spec
-    eight-requires
+    unknown-requires
     returns
     nine-requires
     returns-2
     misfit-requires
     returns-3
-    sum-at-requires
-    eleven-requires
+    overlong-requires
     returns-4
     label-bad-requires
     returns-5

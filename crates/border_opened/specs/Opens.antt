@@ -1,0 +1,55 @@
+-- The record that an OPEN's answer is handed out as, and what it stands for when it comes back; the record of where A and R stand (include/strundevi.h).
+use Prim.Native.Nat.{ℕ}
+use mathlib.Core.Bool.{cond}
+use lib.Dec.{ltb}
+use Rattle.positions.specs.declared.Setup.{Setup}
+use Rattle.session.specs.declared.Opened.{Opened}
+use Rattle.border_records.specs.Records.{isYes, flagOf, limitIn, limitedOf, mostOf, depthFrom, thereOf, valueOf}
+use Rattle.border_opened.specs.declared.opened.OpenedRecord.{OpenedRecord}
+use Rattle.border_opened.specs.declared.setup.SetupRecord.{SetupRecord}
+
+-- Where A and R stand.
+abbrev pub setupIn : SetupRecord → Setup
+setupIn p = record { a = p .a; r = p .r }
+
+-- The form at fault crosses as an octet; one that is none is handed out as 0, no form's.
+abbrev pub formOut : ℕ → ℕ
+formOut form = cond (ltb form 256) form 0
+
+abbrev pub openedIn : OpenedRecord → Opened
+openedIn o =
+    record {
+      number = o .number;
+      srv6 = isYes (o .srv6);
+      n = isYes (o .n);
+      limit = limitIn (o .limited) (o .limit);
+      a = isYes (o .a);
+      r = isYes (o .r);
+      v = depthFrom (o .hasv) (o .v);
+      m = depthFrom (o .hasm) (o .m);
+      form = o .form;
+      mpls = isYes (o .mpls);
+      mplsn = isYes (o .mplsn);
+      mplslimit = limitIn (o .mplslimited) (o .mplslimit);
+    }
+
+abbrev pub openedOut : Opened → OpenedRecord
+openedOut o =
+    record {
+      number = o .number;
+      srv6 = flagOf (o .srv6);
+      n = flagOf (o .n);
+      limited = limitedOf (o .limit);
+      limit = mostOf (o .limit);
+      a = flagOf (o .a);
+      r = flagOf (o .r);
+      hasv = thereOf (o .v);
+      v = valueOf (o .v);
+      hasm = thereOf (o .m);
+      m = valueOf (o .m);
+      mpls = flagOf (o .mpls);
+      mplsn = flagOf (o .mplsn);
+      mplslimited = limitedOf (o .mplslimit);
+      form = formOut (o .form);
+      mplslimit = mostOf (o .mplslimit);
+    }

@@ -1,0 +1,63 @@
+-- The record of the sessions of the two forms: what it stands for when it comes in, and how they are handed out (include/strundevi.h).
+use Prim.Native.Nat.{ℕ}
+use mathlib.Core.Bool.{Bool, false, _||_}
+use Rattle.msd.specs.Msd.{absent}
+use Rattle.session.specs.declared.Session.{Session}
+use Rattle.session.specs.declared.Sessions.{Sessions}
+use Rattle.border_records.specs.Records.{isYes, flagOf, limitIn, limitedOf, shortOf, depthFrom, thereOf, valueOf}
+use Rattle.border_session.specs.declared.SessionRecord.{SessionRecord}
+
+-- The two sessions in one record. MPLS's has no A, R, v and m.
+abbrev pub srv6In : SessionRecord → Session
+srv6In s =
+    record {
+      agreed = isYes (s .agreed);
+      n = isYes (s .n);
+      limit = limitIn (s .limited) (s .limit);
+      a = isYes (s .a);
+      r = isYes (s .r);
+      v = depthFrom (s .hasv) (s .v);
+      m = depthFrom (s .hasm) (s .m);
+    }
+
+abbrev pub mplsIn : SessionRecord → Session
+mplsIn s =
+    record {
+      agreed = isYes (s .mpls);
+      n = isYes (s .mplsn);
+      limit = limitIn (s .mplslimited) (s .mplslimit);
+      a = false;
+      r = false;
+      v = absent;
+      m = absent;
+    }
+
+abbrev pub sessionsIn : SessionRecord → Sessions
+sessionsIn s = record { srv6 = srv6In s; mpls = mplsIn s }
+
+abbrev pub sessionsOut : Sessions → SessionRecord
+sessionsOut s =
+    record {
+      agreed = flagOf (s .srv6 .agreed);
+      n = flagOf (s .srv6 .n);
+      a = flagOf (s .srv6 .a);
+      r = flagOf (s .srv6 .r);
+      hasv = thereOf (s .srv6 .v);
+      v = valueOf (s .srv6 .v);
+      hasm = thereOf (s .srv6 .m);
+      m = valueOf (s .srv6 .m);
+      limited = limitedOf (s .srv6 .limit);
+      mpls = flagOf (s .mpls .agreed);
+      mplsn = flagOf (s .mpls .n);
+      mplslimited = limitedOf (s .mpls .limit);
+      limit = shortOf (s .srv6 .limit);
+      mplslimit = shortOf (s .mpls .limit);
+    }
+
+-- Whether A or R is agreed,
+abbrev pub flaggedOf : Session → Bool
+flaggedOf x = x .a || x .r
+
+-- and a session without them, and without v and m, which only they bring in.
+abbrev pub plainOf : Session → Session
+plainOf x = record { agreed = x .agreed; n = x .n; limit = x .limit; a = false; r = false; v = absent; m = absent }

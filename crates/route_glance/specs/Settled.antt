@@ -1,0 +1,14 @@
+-- What one pass settles. No promise rests on it: contracts of inner functions cite it, and proofs put it together to route/specs/Routes.
+use Prim.Native.Nat.{ℕ}
+use mathlib.Core.Path.{_≡_}
+use mathlib.Core.List.{List}
+use mathlib.Core.Bool.{Bool}
+use Rattle.answers.specs.Verdicts.{acceptedWith, carryingBoth}
+use Rattle.forms.specs.declared.Form.{Form}
+use Rattle.frame.specs.Frames.{frameOf}
+use Rattle.route_walk.specs.Walk.{walkOf}
+
+-- The rules on the frame are kept, with `count` subobjects, and so are those of the subobjects, of which `stray` are stray.
+pub record Settled (form : Form) (s : List ℕ) (ero n : Bool) (count stray : ℕ) : Type 0 where
+  pub frame : frameOf s ero (form .kind) ≡ acceptedWith count
+  pub walk : walkOf form s ero n count ≡ carryingBoth count stray

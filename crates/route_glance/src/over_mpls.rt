@@ -1,0 +1,48 @@
+// The pass over MPLS's subobjects, in which the compiler knows the form's numbers.
+ghost use mathlib.Core.Path.{_≡_};
+ghost use mathlib.Core.Bool.{true};
+ghost use Prim.Native.Nat.{_<_};
+ghost use lib.ListN.{length};
+ghost use Rattle.forms.specs.Forms.{mplsForm};
+ghost use Rattle.frame.specs.Frames.{headed};
+ghost use Rattle.route_glance.specs.Settled.{Settled};
+use super::seen;
+use super::seen::Seen;
+use super::sound;
+
+pub fn see_mpls(s: &[u8], ero: bool, n: bool) -> Seen
+    requires { ⌜ (headed (now s) ero ≡ true) × (length (now s) < 65536) ⌝ }
+    ensures settled { λ r. ⌜ (0 < r .count → Settled mplsForm (now (s .entry)) ero n (r .count) (r .stray)) ⌝ }
+{
+    let form = forms::mpls();
+    let kind = octets::wide(form.kind);
+    let end = s.len();
+    let mut at: usize = objects::HEADER;
+    let mut count: usize = 0;
+    let mut stray: usize = 0;
+    while at != end {
+        let h = subobject::head_at(form, s, at, ero);
+        if h.kind != kind {
+            return seen::unsettled();
+        }
+        if !sound::head_sound(form, h, ero, n) {
+            return seen::unsettled();
+        }
+        if end - at < h.size {
+            return seen::unsettled();
+        }
+        if !sound::structure_sound(form, s, at, h) {
+            return seen::unsettled();
+        }
+        if !sound::label_sound(form, s, at, h) {
+            return seen::unsettled();
+        }
+        stray = stray + subobject_strays::stray_of(form, s, at, h);
+        count = count + 1;
+        at = at + h.size;
+    }
+    Seen {
+        count: count,
+        stray: stray,
+    }
+}

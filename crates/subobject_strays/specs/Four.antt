@@ -1,0 +1,36 @@
+-- What a walk over many subobjects looks at to tell that nothing is stray. No promise rests on it: contracts of inner functions cite it, and
+-- proofs turn it into Strays.
+use Prim.Native.Nat.{ℕ, _+_, _-_, _*_}
+use mathlib.Core.Bool.{Bool, false, cond, not, _&&_, _||_}
+use mathlib.Core.List.{List}
+use lib.Dec.{eqb}
+use Rattle.octets.specs.Octets.{octetOf, be16}
+use Rattle.forms.specs.declared.Form.{Form}
+use Rattle.subobject.specs.declared.head.Head.{Head}
+use Rattle.subobject_strays.specs.declared.Strays.{Strays}
+use Rattle.subobject.specs.Rules.{hasStructure}
+use Rattle.subobject_strays.specs.Strays.{reservedPlace, strayFlags}
+
+-- The unassigned flags, and the two reserved octets where the form has them.
+unfoldable pub markedAt : Form → List ℕ → ℕ → Bool
+markedAt form s at = not (eqb (strayFlags form s at) 0) || (form .behaves && not (eqb (be16 s (at + reservedPlace)) 0))
+
+-- The strays with a structure whose last four octets stand at p: three reserved ones and its flags.
+unfoldable pub straysWith : List ℕ → ℕ → ℕ → ℕ → Strays
+straysWith s p flags fixed =
+    record {
+      flags = flags;
+      structure = octetOf s (p + 3);
+      reserved = not (eqb fixed 0) || not (eqb (octetOf s p + octetOf s (p + 1) + octetOf s (p + 2)) 0);
+    }
+
+-- Four octets as one number, the first the lowest.
+abbrev pub fourOf : ℕ → ℕ → ℕ → ℕ → ℕ
+fourOf a b c d = a + b * 256 + c * 65536 + d * 16777216
+
+unfoldable pub fourAt : List ℕ → ℕ → ℕ
+fourAt s at = fourOf (octetOf s at) (octetOf s (at + 1)) (octetOf s (at + 2)) (octetOf s (at + 3))
+
+-- The last four octets of a structure, which end a subobject of the expected length.
+unfoldable pub endingMarked : Head → List ℕ → ℕ → Bool
+endingMarked h s at = cond (hasStructure h) (not (eqb (fourAt s (at + h .size - 4)) 0)) false
