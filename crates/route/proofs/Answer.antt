@@ -38,7 +38,8 @@ use Rattle.route.specs.declared.picking.Picked.{Picked}
 use Rattle.route_walk.specs.Walk.{checksAt, subobjectChecks, walkOf}
 use Rattle.route_walk.proofs.Laws.{head-size}
 use Rattle.route_glance.specs.Settled.{Settled}
-use Rattle.route.specs.Parts.{limitedOf, nothingWith}
+use Rattle.route_rules.specs.Parts.{limitedOf}
+use Rattle.route.specs.Parts.{nothingWith}
 use Rattle.route.specs.Routes.{rule13, wholeChecks, lastChecks, checksOf, countOf, strayCount, acceptanceOf, judgeAs, rule15, pickOf, segmentAs}
 
 -- every check has a number -------------------------------------------------------------------------------------
@@ -170,11 +171,6 @@ module _ (form : Form) (s : List ℕ) (ero : Bool) (session : Session) (pst : �
       go : (b : Bool) → eqb (w .number) 0 ≡ b → cond b (firstBroken (lastChecks (placesOf s) ero (session .limit) (w .count)) w) w ≡ judgeAs form s ero session pst
       go true z = limit-ends w count e q (eqb-true (w .number) 0 z) c
       go false z = walk-stops w count e q (eqb-false (w .number) 0 z)
-
--- 12 where there is no limit.
-pub never-past : (ero : Bool) → (ero && false) ≡ false
-never-past true = refl
-never-past false = refl
 
 -- an acceptance ------------------------------------------------------------------------------------------------
 
