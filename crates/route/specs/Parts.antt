@@ -1,4 +1,10 @@
 -- Parts of the judgement. No promise rests on them: contracts of inner functions cite them, and proofs put them together to Routes.
+use Prim.Native.Nat.{ℕ}
+use mathlib.Core.Bool.{Bool, false, cond}
+use Rattle.msd.specs.Msd.{absent}
+use Rattle.session.specs.declared.Limit.{Limit}
+use Rattle.session.specs.declared.Limit.the-variants.{Free, Most}
+use Rattle.session.specs.declared.Session.{Session}
 use Rattle.answers.specs.declared.verdict.Verdict.{Verdict}
 use Rattle.subobject.specs.Segments.{noSegment}
 use Rattle.subobject_strays.specs.Strays.{noStrays}
@@ -7,3 +13,8 @@ use Rattle.route.specs.declared.picking.Picked.{Picked}
 -- What comes with a refusal.
 abbrev pub nothingWith : Verdict → Picked
 nothingWith v = record { verdict = v; segment = noSegment; strays = noStrays }
+
+-- A session of what judging looks at: agreed or not, N, and a limit of `most` segments where it has one.
+abbrev pub sessionBy : Bool → Bool → Bool → ℕ → Session
+sessionBy agreed n has most =
+    record { agreed = agreed; n = n; limit = cond has (Most most) Free; a = false; r = false; v = absent; m = absent }

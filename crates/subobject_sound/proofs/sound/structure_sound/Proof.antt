@@ -1,9 +1,9 @@
 use mathlib.Core.Path.{refl}
 use native.Mathlib.Omega.{arith}
 use borrow.Author.Needs.{needs}
-use Rattle.route_glance.proofs.Laws.{structure-last, eleven-kept, eleven-none}
-use Rattle.route_glance.proofs.sound.structure_sound.Statement.{statement}
-use Rattle.route_glance.proofs.sound.structure_sound.Tie as tie
+use Rattle.subobject_sound.proofs.Laws.{structure-last, eleven-kept, eleven-none}
+use Rattle.subobject_sound.proofs.sound.structure_sound.Statement.{statement}
+use Rattle.subobject_sound.proofs.sound.structure_sound.Tie as tie
 
 structured-requires : tie.Need-structured-requires
 structured-requires c κs = search needs

@@ -2,9 +2,9 @@ use mathlib.Core.Path.{_≡_, sym, _∙_}
 use mathlib.Core.Bool.{false≢true}
 use borrow.Author.Needs.{needs}
 use borrow.Author.Tests.{not-true}
-use Rattle.route_glance.proofs.Laws.{nt-known, seven-kept}
-use Rattle.route_glance.proofs.sound.head_sound.Statement.{statement}
-use Rattle.route_glance.proofs.sound.head_sound.Tie as tie
+use Rattle.subobject_sound.proofs.Laws.{nt-known, seven-kept}
+use Rattle.subobject_sound.proofs.sound.head_sound.Statement.{statement}
+use Rattle.subobject_sound.proofs.sound.head_sound.Tie as tie
 
 nai-length-requires : tie.Need-nai-length-requires
 nai-length-requires c κs = search needs

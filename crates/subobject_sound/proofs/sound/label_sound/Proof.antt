@@ -1,9 +1,9 @@
 use mathlib.Core.Bool.{false≢true}
 use native.Mathlib.Omega.{arith}
 use borrow.Author.Needs.{needs}
-use Rattle.route_glance.proofs.Laws.{label-room, label-kept, time-kept, label-none}
-use Rattle.route_glance.proofs.sound.label_sound.Statement.{statement}
-use Rattle.route_glance.proofs.sound.label_sound.Tie as tie
+use Rattle.subobject_sound.proofs.Laws.{label-room, label-kept, time-kept, label-none}
+use Rattle.subobject_sound.proofs.sound.label_sound.Statement.{statement}
+use Rattle.subobject_sound.proofs.sound.label_sound.Tie as tie
 
 labelled-requires : tie.Need-labelled-requires
 labelled-requires c κs = search needs

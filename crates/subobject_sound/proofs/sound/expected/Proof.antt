@@ -1,7 +1,7 @@
 use borrow.Author.Needs.{needs}
-use Rattle.route_glance.proofs.Laws.{length-made}
-use Rattle.route_glance.proofs.sound.expected.Statement.{statement}
-use Rattle.route_glance.proofs.sound.expected.Tie as tie
+use Rattle.subobject_sound.proofs.Laws.{length-made}
+use Rattle.subobject_sound.proofs.sound.expected.Statement.{statement}
+use Rattle.subobject_sound.proofs.sound.expected.Tie as tie
 
 wide-requires : tie.Need-wide-requires
 wide-requires c κs = search needs
