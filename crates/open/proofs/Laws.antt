@@ -1,30 +1,25 @@
 -- The answer to an OPEN object by the walk over its TLVs is the one that its rules give.
-use Prim.Native.Nat.{ℕ, _-_, _%_, _≤_, _<_}
+use Prim.Native.Nat.{ℕ, _-_}
 use mathlib.Core.Path.{_≡_, refl}
 use mathlib.Core.List.{List, [], _∷_}
 use mathlib.Core.Bool.{Bool, true, false, cond, not, _&&_}
 use mathlib.Core.Option.{Option, none, some}
 use lib.ListN.{length, drop}
-use lib.Dec.{eqb, leb}
-use borrow.Author.Tests.{lt-leb, le-leb, leb-true}
 use Rattle.octets.specs.Octets.{part}
 use Rattle.octets.proofs.Laws.{rest-lent}
-use Rattle.octets.proofs.Said.{both-true, and-holding}
-use Rattle.objects.specs.Objects.{unit, mplsSetup, srv6Setup, objectLength}
+use Rattle.objects.specs.Objects.{mplsSetup, srv6Setup}
 use Rattle.answers.specs.Numbers.{openMalformed, capabilityMissing, wrongMsd, notUsable}
 use Rattle.positions.specs.declared.Setup.{Setup}
 use Rattle.positions.specs.Positions.{usableSetup}
 use Rattle.session.specs.declared.Opened.{Opened}
-use Rattle.session.specs.Sessions.{openRefused, withoutSrv6, withMpls}
+use Rattle.session.specs.Sessions.{openRefused, withoutSrv6}
 use Rattle.tlvs.specs.Tlvs.{tlvsWhole, firstTlv, absent}
-use Rattle.capability.specs.SetupTypes.{pathSetup, holdsList, subsOf, listsType}
-use Rattle.capability.specs.Mpls.{mplsCapability, mplsAnnouncedOf}
+use Rattle.setup_types.specs.SetupTypes.{pathSetup, holdsList, subsOf, listsType}
+use Rattle.capability_mpls.specs.Mpls.{mplsCapability, mplsAnnouncedOf}
 use Rattle.capability.specs.Srv6.{srv6Capability, announcedOf}
 use Rattle.open_walk.specs.Walk.{Sight, torn, seen, openWalk}
 use Rattle.open.specs.Open.{
   tlvsAt,
-  openHeaded,
-  measured,
   framed,
   openTlvs,
   setupOf,
@@ -57,26 +52,9 @@ use Rattle.open.specs.Open.{
   noForm,
   openOf,
 }
-use Rattle.open.specs.Carried.{announcedBy, srv6By, mplsAnnouncedBy, mplsBy, goesFirst, joinedOf}
+use Rattle.open_carried.specs.Carried.{announcedBy, srv6By, mplsAnnouncedBy, mplsBy, joinedOf}
 
 -- the answer ---------------------------------------------------------------------------------------------------
-
-and-false : (a : Bool) → (a && false) ≡ false
-and-false true = refl
-and-false false = refl
-
-pub framed-short : (s : List ℕ) → length s < tlvsAt → framed s ≡ false
-unfolding framed
-framed-short s h = rw (lt-leb tlvsAt (length s) h, and-false (eqb (objectLength s) (length s) && eqb (length s % unit) 0), and-false (openHeaded s))
-
-pub framed-long : (s : List ℕ) → tlvsAt ≤ length s → framed s ≡ (openHeaded s && (eqb (objectLength s) (length s) && eqb (length s % unit) 0))
-unfolding framed
-framed-long s h = rw (le-leb tlvsAt (length s) h, and-holding (eqb (objectLength s) (length s) && eqb (length s % unit) 0))
-
-pub long-framed : (s : List ℕ) → framed s ≡ true → tlvsAt ≤ length s
-unfolding framed
-long-framed s e =
-    leb-true tlvsAt (length s) (both-true (eqb (objectLength s) (length s) && eqb (length s % unit) 0) (leb tlvsAt (length s)) (both-true (openHeaded s) (measured s) e .1) .1)
 
 pub part-rest : (s : List ℕ) (a : ℕ) → part s a (length s - a) ≡ drop a s
 unfolding part
@@ -119,17 +97,6 @@ mpls-half (some v) sub = go (listsType mplsSetup v) sub
     go true (some w) = refl
 
 -- both halves --------------------------------------------------------------------------------------------------
-
--- The ways out of the code that joins them.
-module _ (m o : Opened) where
-  pub joined-first : goesFirst m o ≡ true → m ≡ joinedOf m o
-  joined-first e = rw e
-
-  pub joined-both : goesFirst m o ≡ false → (m .mpls && eqb (o .number) 0) ≡ true → withMpls o (m .mplsn) (m .mplslimit) ≡ joinedOf m o
-  joined-both e f = rw (e, f)
-
-  pub joined-last : goesFirst m o ≡ false → (m .mpls && eqb (o .number) 0) ≡ false → o ≡ joinedOf m o
-  joined-last e f = rw (e, f)
 
 -- The rules of both forms by their numbers, MPLS's first of each.
 abbrev six : Bool → Bool → Bool → Bool → Bool → Bool → List Rule

@@ -19,7 +19,7 @@ use Rattle.session.specs.declared.Opened.{Opened}
 use Rattle.session.specs.Sessions.{openRefused, withoutSrv6}
 use Rattle.msd.specs.Msd.{maxSegmentsLeft, maxHEncaps, smallestOf, numberOf, depthIn}
 use Rattle.msd_limit.specs.Limits.{limitBy, limitIn, present, onlyEnds}
-use Rattle.capability.specs.Mpls.{mplsNOf, mplsLimitOf}
+use Rattle.capability_mpls.specs.Mpls.{mplsNOf, mplsLimitOf}
 use Rattle.capability.specs.Srv6.{pairsAt, xOf, pairsOf, hEncapsOf, segmentsLeftOf, limitOf, carriesBy}
 use Rattle.capability.proofs.Laws.{no-limit-exactly, ends-limit-nothing}
 use Rattle.open.proofs.Small.{Value, small-drop, srv6-small, depth-back, small-smallest}

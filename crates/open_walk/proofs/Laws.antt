@@ -17,7 +17,7 @@ use Rattle.tlvs.specs.Places.{itemAt, orElse}
 use Rattle.tlvs.specs.declared.Item.the-variants.{One, Broken}
 use Rattle.tlvs.proofs.Laws.{drop-part, items-end, items-turn}
 use Rattle.answers.proofs.Determined.{determined}
-use Rattle.capability.specs.SetupTypes.{pathSetup, listSize, holdsList, subsOf}
+use Rattle.setup_types.specs.SetupTypes.{pathSetup, listSize, holdsList, subsOf}
 use Rattle.open_walk.specs.Walk.{Sight, torn, seen, insideOf, openOnward, openWalk}
 
 -- A part of a slice, as it is lent.

@@ -8,7 +8,7 @@ use lib.ListN.{getD, drop}
 use Rattle.positions.specs.declared.Setup.{Setup}
 use Rattle.session.specs.declared.Opened.{Opened}
 use Rattle.session.specs.Sessions.{openRefused, withoutSrv6, sessionsOf}
-use Rattle.capability.specs.Mpls.{mplsBeside}
+use Rattle.capability_mpls.specs.Mpls.{mplsBeside}
 use Rattle.open.specs.Open.{mplsOf, srv6Of, mplsListed, listed, breaks28, saidBy, carriesSrv6, besideBy, carriesOf, Rule, openRules, firstBroken, openOf}
 use Rattle.open.proofs.Rules.{limit-of-depths}
 use Rattle.route_call.specs.Called.{judgedFor, flaggedOpen, withA, withR}

@@ -17,7 +17,8 @@ use Rattle.subobject_strays.specs.declared.Strays.{Strays}
 use Rattle.subobject.specs.Layout.{structureSize, bitLengths, expectedLength}
 use Rattle.subobject.specs.Rules.{hasStructure}
 use Rattle.subobject_strays.specs.Strays.{reservedPlace, strayFlags, structureReserved, structureFlags, reservedOctets, anySet, straysBy, isStray, strayOne}
-use Rattle.subobject_strays.specs.Four.{straysWith, fourOf, fourAt, markedAt, endingMarked}
+use Rattle.octet_sums.specs.Sums.{fourOf, fourAt}
+use Rattle.subobject_strays.specs.Four.{straysWith, markedAt, endingMarked}
 use Rattle.subobject.proofs.Laws.{there-sid}
 
 -- where things lie ---------------------------------------------------------------------------------------------

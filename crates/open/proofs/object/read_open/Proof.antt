@@ -1,7 +1,8 @@
-use Rattle.open.proofs.Laws.{long-framed, part-rest, unusable, unframed, answered}
+use Rattle.open_frame.proofs.Laws.{long-framed}
+use Rattle.open.proofs.Laws.{part-rest, unusable, unframed, answered}
 use Rattle.open.specs.Open.{tlvsAt, framed}
 use Rattle.open_walk.specs.Walk.{sightOf, openWalk}
-use Rattle.capability.specs.Mpls.{mplsCapability}
+use Rattle.capability_mpls.specs.Mpls.{mplsCapability}
 use Rattle.capability.specs.Srv6.{srv6Capability}
 use Rattle.positions.specs.Positions.{usableSetup}
 use lib.ListN.{drop}
