@@ -100,7 +100,7 @@ if [ "$examples" -lt 18 ]; then
 fi
 
 # Every command of the console has a row and an example.
-for command in pcc pce ero rro ero-segment rro-segment begin add finish lent report remove compact body next mark board chain moved; do
+for command in pcc pce ero rro ero-segment rro-segment begin add finish lent report remove compact body next mark board chain moved positions addresses; do
     grep -qE "^\| \`${command}[\` ]" docs/CONSOLE.md || fault "docs/CONSOLE.md has no row for $command"
     cat "$out"/CONSOLE/*.in | grep -qE "^$command( |\$)" || fault "docs/CONSOLE.md has no example of $command"
 done

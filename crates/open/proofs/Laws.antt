@@ -13,7 +13,7 @@ use Rattle.positions.specs.declared.Setup.{Setup}
 use Rattle.positions.specs.Positions.{usableSetup}
 use Rattle.session.specs.declared.Opened.{Opened}
 use Rattle.session.specs.Sessions.{openRefused, withoutSrv6}
-use Rattle.tlvs.specs.Tlvs.{tlvsWhole, firstTlv, absent}
+use Rattle.tlvs.specs.Tlvs.{tlvsWhole, firstTlv, notThere}
 use Rattle.setup_types.specs.SetupTypes.{pathSetup, holdsList, subsOf, listsType}
 use Rattle.capability_mpls.specs.Mpls.{mplsCapability, mplsAnnouncedOf}
 use Rattle.capability.specs.Srv6.{srv6Capability, announcedOf}
@@ -48,7 +48,7 @@ use Rattle.open.specs.Open.{
   carriesOf,
   Rule,
   rule,
-  firstBroken,
+  firstRule,
   noForm,
   openOf,
 }
@@ -69,14 +69,14 @@ three a b c form = rule a openMalformed form ∷ rule b capabilityMissing form �
 -- A half is the first broken one of its three rules, or what it carries.
 srv6-half : (p : Setup) (v sub : Option (List ℕ))
     → srv6By p v sub
-    ≡ (let l = listedIn srv6Setup v in firstBroken (three (l && not (sizedIn sub)) (l && absent sub) (l && wrongSub sub) srv6Setup) (cond l (saidBy p sub) withoutSrv6))
+    ≡ (let l = listedIn srv6Setup v in firstRule (three (l && not (sizedIn sub)) (l && notThere sub) (l && wrongSub sub) srv6Setup) (cond l (saidBy p sub) withoutSrv6))
 unfolding announcedOf
 srv6-half p none sub = refl
 srv6-half p (some v) sub = go (listsType srv6Setup v) sub
   where
     go : (l : Bool) (o : Option (List ℕ))
         → cond l (announcedBy p o) withoutSrv6
-        ≡ firstBroken (three (l && not (sizedIn o)) (l && absent o) (l && wrongSub o) srv6Setup) (cond l (saidBy p o) withoutSrv6)
+        ≡ firstRule (three (l && not (sizedIn o)) (l && notThere o) (l && wrongSub o) srv6Setup) (cond l (saidBy p o) withoutSrv6)
     go false o = refl
     go true none = refl
     go true (some w) = refl
@@ -84,14 +84,14 @@ srv6-half p (some v) sub = go (listsType srv6Setup v) sub
 mpls-half : (v sub : Option (List ℕ))
     → mplsBy v sub
     ≡ (let l = listedIn mplsSetup v in
-    firstBroken (three (l && not (mplsSizedIn sub)) (l && absent sub) (l && depthlessSub sub) mplsSetup) (besideBy l sub withoutSrv6))
+    firstRule (three (l && not (mplsSizedIn sub)) (l && notThere sub) (l && depthlessSub sub) mplsSetup) (besideBy l sub withoutSrv6))
 unfolding mplsAnnouncedOf
 mpls-half none sub = refl
 mpls-half (some v) sub = go (listsType mplsSetup v) sub
   where
     go : (l : Bool) (o : Option (List ℕ))
         → cond l (mplsAnnouncedBy o) withoutSrv6
-        ≡ firstBroken (three (l && not (mplsSizedIn o)) (l && absent o) (l && depthlessSub o) mplsSetup) (besideBy l o withoutSrv6)
+        ≡ firstRule (three (l && not (mplsSizedIn o)) (l && notThere o) (l && depthlessSub o) mplsSetup) (besideBy l o withoutSrv6)
     go false o = refl
     go true none = refl
     go true (some w) = refl
@@ -112,8 +112,8 @@ six a a′ b b′ c c′ =
 -- The halves joined are the first broken one of the six rules, or what both carry.
 module _ (sub : Option (List ℕ)) (o : Opened) (accepted : o .number ≡ 0) where
   joined-halves : (a a′ b b′ c c′ l : Bool)
-      → joinedOf (firstBroken (three a b c mplsSetup) (besideBy l sub withoutSrv6)) (firstBroken (three a′ b′ c′ srv6Setup) o)
-      ≡ firstBroken (six a a′ b b′ c c′) (besideBy l sub o)
+      → joinedOf (firstRule (three a b c mplsSetup) (besideBy l sub withoutSrv6)) (firstRule (three a′ b′ c′ srv6Setup) o)
+      ≡ firstRule (six a a′ b b′ c c′) (besideBy l sub o)
   joined-halves true true b b′ c c′ l = refl
   joined-halves true false b true c c′ l = refl
   joined-halves true false b false c true l = refl
@@ -160,14 +160,14 @@ pub halves : (p : Setup) (v mpls srv6 : Option (List ℕ))
     → joinedOf (mplsBy v mpls) (srv6By p v srv6)
     ≡ (let m = listedIn mplsSetup v in
     let l = listedIn srv6Setup v in
-    firstBroken (six (m && not (mplsSizedIn mpls)) (l && not (sizedIn srv6)) (m && absent mpls) (l && absent srv6) (m && depthlessSub mpls) (l && wrongSub srv6))
+    firstRule (six (m && not (mplsSizedIn mpls)) (l && not (sizedIn srv6)) (m && notThere mpls) (l && notThere srv6) (m && depthlessSub mpls) (l && wrongSub srv6))
     (besideBy m mpls (cond l (saidBy p srv6) withoutSrv6)))
 halves p v mpls srv6 =
     let m = listedIn mplsSetup v in
     let l = listedIn srv6Setup v in
     rw (mpls-half v mpls, srv6-half p v srv6) (
     joined-halves mpls (cond l (saidBy p srv6) withoutSrv6) (said-zero p l srv6)
-    (m && not (mplsSizedIn mpls)) (l && not (sizedIn srv6)) (m && absent mpls) (l && absent srv6) (m && depthlessSub mpls) (l && wrongSub srv6) m
+    (m && not (mplsSizedIn mpls)) (l && not (sizedIn srv6)) (m && notThere mpls) (l && notThere srv6) (m && depthlessSub mpls) (l && wrongSub srv6) m
     )
 
 -- What the walks over the TLVs of a framed object, for 26 and for 27, come to.

@@ -10,7 +10,7 @@ use Rattle.positions.specs.declared.Setup.{Setup}
 use Rattle.positions.specs.Positions.{usableSetup}
 use Rattle.session.specs.declared.Opened.{Opened}
 use Rattle.session.specs.Sessions.{openRefused, withoutSrv6}
-use Rattle.tlvs.specs.Tlvs.{Tlvs, tlvsOf, tlvsWhole, firstTlv, absent}
+use Rattle.tlvs.specs.Tlvs.{Tlvs, tlvsOf, tlvsWhole, firstTlv, notThere}
 use Rattle.setup_types.specs.SetupTypes.{pathSetup, holdsList, subsOf, listsType}
 use Rattle.capability_mpls.specs.Mpls.{mplsCapability, mplsSizedOf, depthless, mplsBeside}
 use Rattle.capability.specs.Srv6.{srv6Capability, sizedOf, wrongOf, carriesBy}
@@ -93,11 +93,11 @@ breaks1Srv6 s = listed s && not (sizedIn (srv6Of s))
 
 -- ".. be there (2), .. else it is ignored."
 unfoldable pub breaks2Mpls : List ℕ → Bool
-breaks2Mpls s = mplsListed s && absent (mplsOf s)
+breaks2Mpls s = mplsListed s && notThere (mplsOf s)
 
 -- "Type 3 listed and no sub-TLV 27: 2. Sub-TLV 27 without type 3 is ignored."
 unfoldable pub breaks2Srv6 : List ℕ → Bool
-breaks2Srv6 s = listed s && absent (srv6Of s)
+breaks2Srv6 s = listed s && notThere (srv6Of s)
 
 -- rule 3 -------------------------------------------------------------------------------------------------------
 
@@ -146,9 +146,9 @@ abbrev pub rule : Bool → ℕ → ℕ → Rule
 rule broken number form = record { broken = broken; number = number; form = form }
 
 -- The first broken one refuses.
-abbrev pub firstBroken : List Rule → Opened → Opened
-firstBroken [] o = o
-firstBroken (r ∷ rs) o = cond (r .broken) (openRefused (r .number) (r .form)) (firstBroken rs o)
+abbrev pub firstRule : List Rule → Opened → Opened
+firstRule [] o = o
+firstRule (r ∷ rs) o = cond (r .broken) (openRefused (r .number) (r .form)) (firstRule rs o)
 
 -- No sub-TLV is at fault.
 abbrev pub noForm : ℕ
@@ -169,4 +169,4 @@ openRules p s =
 
 -- "Otherwise accepted."
 unfoldable pub openOf : Setup → List ℕ → Opened
-openOf p s = firstBroken (openRules p s) (carriesOf p s)
+openOf p s = firstRule (openRules p s) (carriesOf p s)

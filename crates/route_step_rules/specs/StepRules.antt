@@ -6,7 +6,7 @@ use mathlib.Core.Bool.{Bool, not}
 use lib.Dec.{eqb}
 use lib.ListN.{length}
 use Rattle.answers.specs.declared.verdict.Verdict.{Verdict}
-use Rattle.answers.specs.Numbers.{frameBroken, lengthWrong, naiUnknown, nothingThere, structureTooLong, noSrv6, noSuchSegment, labelValue, labelFormat}
+use Rattle.answers.specs.Numbers.{frameBroken, lengthWrong, naiUnknown, nothingThere, structureTooLong, noneOfForm, noSuchSegment, labelValue, labelFormat}
 use Rattle.answers.specs.Verdicts.{acceptedWith}
 use Rattle.octets.specs.Octets.{octetOf}
 use Rattle.forms.specs.declared.Form.{Form}
@@ -20,7 +20,7 @@ use Rattle.route_step_tests.specs.Places.{outside}
 -- 14, then 8, 9, 7, 11, 29, 30, of the subobject at a place by the head found there. As in judging, 29 and 30 name no place.
 abbrev pub headChecks : Form → List ℕ → ℕ → Head → List Check
 headChecks form s at h =
-    check noSrv6 0 (not (eqb (h .kind) (form .kind)))
+    check noneOfForm 0 (not (eqb (h .kind) (form .kind)))
     ∷ check naiUnknown at (rule8 form h)
     ∷ check nothingThere at (rule9 h)
     ∷ check lengthWrong at (rule7 form h)
