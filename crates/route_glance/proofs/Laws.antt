@@ -5,9 +5,11 @@ use mathlib.Core.List.{List}
 use mathlib.Core.Bool.{Bool, true, false, cond}
 use lib.Dec.{eqb}
 use native.Mathlib.Omega.{arith}
+use Rattle.octets.specs.Octets.{octetOf}
 use Rattle.forms.specs.declared.Form.{Form}
 use Rattle.forms.specs.Forms.{mplsForm, naiLength}
-use Rattle.subobject.specs.Layout.{structureThere, expectedLength, headAt}
+use Rattle.forms.proofs.Laws.{flag-most}
+use Rattle.subobject.specs.Layout.{structureThere, expectedLength, headAt, headOf}
 use Rattle.subobject.specs.declared.head.Head.{Head}
 use Rattle.subobject.specs.Rules.{rule7, rule8, rule9, rule10}
 
@@ -36,3 +38,8 @@ pub rules-of : {form : Form} → form ≡ mplsForm → (h : Head) (ero n : Bool)
     → (rule8 mplsForm h ≡ false) × (rule9 h ≡ false) × (rule7 mplsForm h ≡ false) × (rule10 h ero n ≡ false)
     → (rule8 form h ≡ false) × (rule9 h ≡ false) × (rule7 form h ≡ false) × (rule10 h ero n ≡ false)
 rules-of e h ero n k = rw e k
+
+-- S is a bit.
+pub s-bit : (form : Form) (h : Head) (s : List ℕ) (ero : Bool) (at : ℕ) → h ≡ headAt form s ero at → h .s ≤ 1
+unfolding headAt headOf
+s-bit form h s ero at e = rw (ap (λ (x : Head). x .s) e) (flag-most (octetOf s (at + 3)) (form .s))

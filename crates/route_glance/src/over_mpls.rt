@@ -33,7 +33,7 @@ pub fn see_mpls(s: &[u8], ero: bool, n: bool) -> Seen
         if !subobject_sound::structure_sound(form, s, at, h) {
             return seen::unsettled();
         }
-        if !subobject_sound::label_sound(form, s, at, h) {
+        if !subobject_sound::mpls_label_sound(s, at, h) {
             return seen::unsettled();
         }
         stray = stray + subobject_strays::stray_of(form, s, at, h);

@@ -6,4 +6,5 @@ mod sound;
 pub use shape::mpls_head_sound;
 pub use sound::head_sound;
 pub use sound::label_sound;
+pub use sound::mpls_label_sound;
 pub use sound::structure_sound;

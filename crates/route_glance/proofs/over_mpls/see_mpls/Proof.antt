@@ -14,7 +14,7 @@ use Rattle.subobject_strays.specs.Strays.{strayOne, straysBy}
 use Rattle.subobject.proofs.Laws.{sound-length}
 use Rattle.frame.proofs.Laws.{headed-sized}
 use Rattle.route_glance.specs.Settled.{Settled}
-use Rattle.route_glance.proofs.Laws.{fours-of, rules-of, head-of}
+use Rattle.route_glance.proofs.Laws.{fours-of, rules-of, head-of, s-bit}
 use Rattle.route_glance.proofs.Pass.{Gone, gone-starts, gone-on, good-made, fits-made, settled, unsettled-settles}
 use Rattle.route_glance.proofs.over_mpls.see_mpls.Statement.{statement}
 use Rattle.route_glance.proofs.over_mpls.see_mpls.Tie as tie
@@ -88,16 +88,17 @@ unsettled-requires-4 c κs = search needs
 returns-4 : tie.Need-returns-4 Inv-loop μ-loop
 returns-4 c = unsettled-settles (c .unsettled4 .ensures)
 
-label-sound-requires : tie.Need-label-sound-requires Inv-loop μ-loop
-label-sound-requires c κs =
+mpls-label-sound-requires : tie.Need-mpls-label-sound-requires Inv-loop μ-loop
+mpls-label-sound-requires c κs =
     let room = c .before .before in
     let head = room .before .before .before in
-    let known = head .before .before .before .before .before .before .before .mpls .ensures in
-    let rules = rules-of known _ _ _ (head .mpls-head-sound .ensures (not-false _ (room .before .before .if2 .left))) in
-    let start = head .before .before .before .before .before in (
+    let rules = head .mpls-head-sound .ensures (not-false _ (room .before .before .if2 .left)) in
+    let start = head .before .before .before .before .before in
+    let read = head .before .before .before .head-at in (
       sound-length _ _ (rules .2),
       omega (arith, room .if3 .left, start .loop .inv .1),
-      rw known (omega arith),
+      rules .2,
+      s-bit _ _ _ _ _ (read .ensures .0),
     )
 
 unsettled-requires-5 : tie.Need-unsettled-requires-5 Inv-loop μ-loop
@@ -160,9 +161,9 @@ loop-again c =
     let h = read .result in
     let fours = fours-of mplsForm known (h .nt) (h .s) (h .t) refl (omega arith) refl (mpls-fours (h .nt)) in
     let size = sound-length _ _ (rules .2) in
-    let labels = c .before .before .before .label-sound .ensures (not-false _ (c .before .before .if5 .left)) in
+    let labels = c .before .before .before .mpls-label-sound .ensures (not-false _ (c .before .before .if5 .left)) in
     let good = good-made _ _ _ _ _ _ (read .ensures .0) (head .before .if1 .left ∙ start .before .wide .ensures .0) (rules .0) (rules .1) (rules .2) (rules .3)
-    (c .before .before .before .before .before .structure-sound .ensures (not-false _ (c .before .before .before .before .if4 .left))) (labels .0) (labels .1) in
+    (c .before .before .before .before .before .structure-sound .ensures (not-false _ (c .before .before .before .before .if4 .left))) (rw known (labels .0)) (rw known (labels .1)) in
     let room-left = length (start .before .before .before .before .args .s .now) - start .loop .at in
     let fits = fits-made (h .size) room-left (omega (arith, size, fours .1)) (omega (arith, size, fours .0)) (omega (arith, room .if3 .left, inv .1)) in (
       omega (arith, inv .0),
@@ -201,7 +202,7 @@ see-mpls-spec =
     structure-sound-requires
     unsettled-requires-4
     returns-4
-    label-sound-requires
+    mpls-label-sound-requires
     unsettled-requires-5
     returns-5
     stray-of-requires
