@@ -1,36 +1,18 @@
-// The judgement of a route: the frame, 13, the walk, 12.
+// The judgement of a route: what one pass settles of the frame and the walk, then 13 and 12; else all rules in their order.
 ghost use mathlib.Core.Path.{_≡_};
 ghost use Prim.Native.Nat.{_<_};
 ghost use Rattle.forms.specs.Forms.{formOf};
-ghost use Rattle.forms.specs.Sized.{Sized};
 ghost use Rattle.route_glance.specs.Settled.{Settled};
 ghost use Rattle.route.specs.Parts.{sessionBy};
-ghost use Rattle.route.specs.Routes.{judgeAs, judgeOf};
+ghost use Rattle.route.specs.Routes.{judgeOf};
 use answers::Verdict;
-use forms::Form;
 use msd::ABSENT;
 use route_glance::Seen;
+use route_ordered::judge_as;
 use route_rules::limited;
 use route_rules::not_agreed;
 use session::Limit;
 use session::Session;
-
-// The verdict on a route of a form, under the form's session and a setup type.
-fn judge_as(form: Form, s: &[u8], ero: bool, session: Session, pst: u64) -> Verdict
-    requires { ⌜ Sized form ⌝ }
-    ensures judged { λ r. ⌜ r ≡ judgeAs form (now (s .entry)) ero session pst ⌝ }
-{
-    let f = frame_rules::framed(s, ero, octets::wide(form.kind));
-    if f.number != 0 {
-        return f;
-    }
-    if not_agreed(form, session.agreed, pst) {
-        return answers::refused(answers::NOT_AGREED, 0);
-    }
-    let w = route_walk::walk(form, s, ero, session.n, f.count);
-    let limit = session.limit;
-    limited(s, ero, limit, w)
-}
 
 // What one pass settles of a route in which nothing is wrong.
 fn seen(s: &[u8], ero: bool, n: bool, pst: u64) -> Seen

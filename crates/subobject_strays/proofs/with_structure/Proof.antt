@@ -1,6 +1,5 @@
 use Rattle.octets.specs.Octets.{octetOf}
-use Rattle.octet_sums.specs.Sums.{sumThree}
-use Rattle.subobject_strays.specs.Four.{straysWith}
+use Rattle.subobject_strays.proofs.Laws.{with-made}
 use borrow.Author.Needs.{needs}
 use Rattle.subobject_strays.proofs.with_structure.Statement.{statement}
 use Rattle.subobject_strays.proofs.with_structure.Tie as tie
@@ -21,8 +20,8 @@ either-requires : tie.Need-either-requires
 either-requires c κs = search needs
 
 returns : tie.Need-returns
-unfolding straysWith sumThree octetOf
-returns c = cc
+unfolding octetOf
+returns c = with-made _ _ _ _ _ _ (c .before .before .sum-three .ensures) (c .either .ensures)
 
 pub with-structure-spec : {M : Type 1} → statement M
 with-structure-spec = tie.close (tie.spec sum-three-requires cast-t6 add-t7 shared-slice-read-t9 either-requires returns)

@@ -1,9 +1,9 @@
 use mathlib.Core.Path.{_≡_, sym, _∙_}
 use native.Mathlib.Omega.{arith}
-use Rattle.route.proofs.Answer.{frame-stops, frame-none, frame-count, frame-bounds, agreed-stops, walk-then-limit}
+use Rattle.route_ordered.proofs.Ordered.{frame-stops, frame-none, frame-count, frame-bounds, agreed-stops, walk-then-limit}
 use borrow.Author.Needs.{needs}
-use Rattle.route.proofs.judgement.judge_as.Statement.{statement}
-use Rattle.route.proofs.judgement.judge_as.Tie as tie
+use Rattle.route_ordered.proofs.order.judge_as.Statement.{statement}
+use Rattle.route_ordered.proofs.order.judge_as.Tie as tie
 
 wide-requires : tie.Need-wide-requires
 wide-requires c κs = search needs
