@@ -2,58 +2,18 @@
 // higher, what was dropped is off the order, and the largest version of its group may be lower. A mark has neither length nor
 // form, so these stay.
 ghost use mathlib.Core.Path.{_≡_};
-ghost use mathlib.Core.Bool.{false, not, _&&_};
-ghost use lib.ListN.{length};
-ghost use lib.Dec.{eqb, leb};
-ghost use Rattle.board_record.specs.Sizes.{places};
 ghost use Rattle.board_record.specs.Table.{tableOf};
 ghost use Rattle.board_record.specs.Record.{withRows};
 ghost use Rattle.board_rules.specs.OnRecord.{resultOf, compactOn};
-ghost use Rattle.board_remove.specs.Sweep.{keysKept, versionsKept};
 use answers::NOT_A_BOARD;
 use answers::Verdict;
 use answers::refused;
 use board_order::drop_empty;
-use board_record::PLACES;
 use board_record::larger;
 use board_rules::compact_rules;
 use board_rules::is_board;
+use board_sweep::sweep;
 use board_tops::work_out;
-
-// Whether a place holds a mark with version at most c.
-fn is_dropped(k: u32, v: u64, l: u16, c: u64) -> bool
-    ensures dropped { λ r. ⌜ r ≡ (eqb l 0 && not (eqb k 0) && leb v c) ⌝ }
-{
-    if l != 0 {
-        return false;
-    }
-    if k == 0 {
-        return false;
-    }
-    v <= c
-}
-
-// Empties the places whose mark has version at most c, and says whether there was one.
-fn sweep(keys: &mut [u32], versions: &mut [u64], lengths: &[u16; 128], c: u64) -> bool
-    requires { ⌜ (length (now keys) ≡ places) × (length (now versions) ≡ places) ⌝ }
-    ensures keys { λ _. ⌜ now (keys .exit) ≡ keysKept (now (keys .entry)) (now (versions .entry)) (now (lengths .entry)) c places ⌝ }
-    ensures versions { λ _. ⌜ now (versions .exit) ≡ versionsKept (now (keys .entry)) (now (versions .entry)) (now (lengths .entry)) c places ⌝ }
-    ensures stays { λ r. ⌜ (r ≡ false → (now (keys .exit) ≡ now (keys .entry)) × (now (versions .exit) ≡ now (versions .entry))) ⌝ }
-{
-    let mut dropped = false;
-    let mut i: usize = 0;
-    while i < PLACES {
-        if !is_dropped(keys[i], versions[i], lengths[i], c) {
-            i += 1;
-            continue;
-        }
-        keys[i] = 0;
-        versions[i] = 0;
-        dropped = true;
-        i += 1;
-    }
-    dropped
-}
 
 pub fn compact<'a>(
     keys: &mut [u32; 128],

@@ -1,7 +1,7 @@
-use Rattle.board_by_value.proofs.Laws.{report-back}
+use Rattle.board_report_by_value.proofs.Laws.{report-back}
 use borrow.Author.Needs.{needs}
-use Rattle.board_by_value.proofs.report.Statement.{statement}
-use Rattle.board_by_value.proofs.report.Tie as tie
+use Rattle.board_report_by_value.proofs.report.Statement.{statement}
+use Rattle.board_report_by_value.proofs.report.Tie as tie
 
 report-requires : tie.Need-report-requires
 report-requires c κs = search needs

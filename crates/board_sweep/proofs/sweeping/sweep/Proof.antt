@@ -6,9 +6,9 @@ use Prim.Native.Nat.{_≤_, _-_}
 use mathlib.Core.Path.{_≡_, refl, sym}
 use mathlib.Core.Bool.{false}
 use Rattle.board_record.proofs.Logic.{true≢false}
-use Rattle.board_remove.proofs.Sweeps.{Sweeping, sweep-none, sweep-take, sweep-skip, sweep-keys, sweep-versions}
-use Rattle.board_remove.proofs.compacting.sweep.Statement.{statement}
-use Rattle.board_remove.proofs.compacting.sweep.Tie as tie
+use Rattle.board_sweep.proofs.Sweeps.{Sweeping, sweep-none, sweep-take, sweep-skip, sweep-keys, sweep-versions}
+use Rattle.board_sweep.proofs.sweeping.sweep.Statement.{statement}
+use Rattle.board_sweep.proofs.sweeping.sweep.Tie as tie
 
 abbrev Inv-loop : tie.InvT-loop
 Inv-loop keys₀ versions₀ lengths c dropped₀ i₀ keys versions dropped i =

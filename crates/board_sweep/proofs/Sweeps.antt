@@ -15,7 +15,7 @@ use Rattle.board_record.specs.Table.{Table, tableOf, keyAt, versionAt, removalB
 use Rattle.board_record.specs.Lists.{row}
 use Rattle.board_record.proofs.Lists.{length-row}
 use Rattle.board_rules.specs.Compact.{dropped, compacted}
-use Rattle.board_remove.specs.Sweep.{keysKept, versionsKept}
+use Rattle.board_sweep.specs.Sweep.{keysKept, versionsKept}
 
 -- the first i places are swept, the others as they were
 unfoldable pub swept : (ℕ → ℕ) → List ℕ → ℕ → List ℕ

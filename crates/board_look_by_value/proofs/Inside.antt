@@ -17,7 +17,7 @@ use Rattle.board_rules.specs.Body.{bodyOf}
 use Rattle.board_rules.specs.Next.{nextAnswer}
 use Rattle.board_rules.specs.OnRecord as lent
 use Rattle.board_rules.proofs.Inside as tables
-use Rattle.board_by_value.specs.ByValue.{bodyOn, nextOn}
+use Rattle.board_look_by_value.specs.ByValue.{bodyOn, nextOn}
 
 pub body-inside : (b : Board) (store : List ℕ) (k : ℕ) → length (bodyOn b store k) ≤ length store
 unfolding lent.bodyOn

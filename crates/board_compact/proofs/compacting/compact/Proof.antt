@@ -4,11 +4,11 @@ use Rattle.board_record.specs.Table.{Table, tableOf}
 use Rattle.board_record.specs.Record.{withRows}
 use Rattle.board_rules.proofs.Told.{board-proper}
 use Rattle.board_rules.proofs.OnRecord.{record-is, tidy-order, tidy-tops, result-not, result-refused, result-accepted}
-use Rattle.board_remove.proofs.Answers.{compact-not-board, compact-verdict, compact-refused, compact-accepted, compact-loose-at, compact-still}
-use Rattle.board_remove.proofs.Sweeps.{compacted-is}
+use Rattle.board_compact.proofs.Answers.{compact-not-board, compact-verdict, compact-refused, compact-accepted, compact-loose-at, compact-still}
+use Rattle.board_sweep.proofs.Sweeps.{compacted-is}
 use borrow.Author.Needs.{needs}
-use Rattle.board_remove.proofs.compacting.compact.Statement.{statement}
-use Rattle.board_remove.proofs.compacting.compact.Tie as tie
+use Rattle.board_compact.proofs.compacting.compact.Statement.{statement}
+use Rattle.board_compact.proofs.compacting.compact.Tie as tie
 
 is-board-requires : tie.Need-is-board-requires
 is-board-requires c κs = search needs
