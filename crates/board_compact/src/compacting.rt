@@ -8,12 +8,12 @@ ghost use Rattle.board_rules.specs.OnRecord.{resultOf, compactOn};
 use answers::NOT_A_BOARD;
 use answers::Verdict;
 use answers::refused;
-use board_order::drop_empty;
+use board_order_drops::drop_empty;
 use board_record::larger;
-use board_rules::compact_rules;
-use board_rules::is_board;
+use board_refusals::compact_rules;
 use board_sweep::sweep;
 use board_tops::work_out;
+use board_whole::is_board;
 
 pub fn compact<'a>(
     keys: &mut [u32; 128],

@@ -1,6 +1,6 @@
 // The board's calls that only look at it, with the record by value (document 01, "The board"): body hands back a part of the lent store,
 // and its form by a call of its own; next hands out a change, moved says if a key of a range changed. Each lends the record's arrays
-// to the call of board_look.
+// to the call of board_body or board_look.
 ghost use mathlib.Core.Path.{_≡_};
 ghost use Rattle.board_look_by_value.specs.ByValue.{bodyNumberOn, bodyOn, bodyFormOn, nextOn, movedOn, freshMarkOn};
 use answers::Verdict;
@@ -12,7 +12,7 @@ use board_rules::Mark;
 pub fn body_number(b: Board, store: &[u8], key: u64) -> Verdict
     ensures number { λ r. ⌜ r ≡ bodyNumberOn b (now (store .entry)) key ⌝ }
 {
-    board_look::body_number(
+    board_body::body_number(
         &b.keys,
         &b.versions,
         &b.lengths,
@@ -30,7 +30,7 @@ pub fn body_number(b: Board, store: &[u8], key: u64) -> Verdict
 pub fn body<'a>(b: Board, store: &'a [u8], key: u64) -> &'a [u8]
     ensures body { λ r. ⌜ now r ≡ bodyOn b (now (store .entry)) key ⌝ }
 {
-    board_look::body(
+    board_body::body(
         &b.keys,
         &b.versions,
         &b.lengths,
@@ -48,7 +48,7 @@ pub fn body<'a>(b: Board, store: &'a [u8], key: u64) -> &'a [u8]
 pub fn body_form(b: Board, store: &[u8], key: u64) -> usize
     ensures form { λ r. ⌜ r ≡ bodyFormOn b (now (store .entry)) key ⌝ }
 {
-    board_look::body_form(
+    board_body::body_form(
         &b.keys,
         &b.versions,
         &b.lengths,
