@@ -22,7 +22,7 @@ use Rattle.writer.specs.declared.state.Written.{Written}
 use Rattle.route.specs.declared.picking.Picked.{Picked}
 use Rattle.board_rules.specs.declared.answer.Handed.{Handed}
 use Rattle.board_rules.specs.declared.answer.Handed.the-variants.{Refused, Path, Removed, Level}
-use Rattle.board_by_value.specs.ByValue.{bodyNumberOn, bodyOn, bodyFormOn, nextOn, movedOn, freshMarkOn}
+use Rattle.board_look_by_value.specs.ByValue.{bodyNumberOn, bodyOn, bodyFormOn, nextOn, movedOn, freshMarkOn}
 use Rattle.printing.specs.Text.{spell, decimalOf, glyphOf, hexOf, octetsText, furtherText, listText}
 use Rattle.words.specs.Words.{newline, space, comma, ascii}
 use Rattle.console_lines.specs.Lines.{lineOf, acceptance, refusalLine, openRefusalLine, badLine, doneLine, oneLine, twoLine, octetsLine, formLine, listLine}

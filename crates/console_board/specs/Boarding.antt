@@ -10,7 +10,9 @@ use Rattle.board_record.specs.Sizes.{room}
 use Rattle.board_record.specs.Order.{named}
 use Rattle.board_rules.specs.declared.answer.Handed.{Handed}
 use Rattle.board_rules.specs.declared.answer.Handed.the-variants.{Refused, Path, Removed, Level}
-use Rattle.board_by_value.specs.ByValue.{reportOn, reportStoreOn, removeOn, compactOn, bodyNumberOn, bodyOn, bodyFormOn, nextOn, movedOn, freshMarkOn}
+use Rattle.board_by_value.specs.ByValue.{removeOn, compactOn}
+use Rattle.board_report_by_value.specs.ByValue.{reportOn, reportStoreOn}
+use Rattle.board_look_by_value.specs.ByValue.{bodyNumberOn, bodyOn, bodyFormOn, nextOn, movedOn, freshMarkOn}
 use Rattle.command.specs.declared.Command.{Command}
 use Rattle.console_lines.specs.Lines.{refusalLine, oneLine, formLine, listLine, pathLine, removedLine, levelLine, twoLine}
 use Rattle.console_state.specs.Answers.{answerLine, countLine, plainLine}

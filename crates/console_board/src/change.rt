@@ -36,7 +36,7 @@ pub fn reported(
 {
     let n = octets_at(line, 3, room);
     let list = listed(memory, given);
-    let a = board_by_value::report(b, store, c.one, &room[..n], both, c.two, list);
+    let a = board_report_by_value::report(b, store, c.one, &room[..n], both, c.two, list);
     let v = a.verdict;
     let after = a.board;
     Boarded {

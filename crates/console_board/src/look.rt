@@ -15,12 +15,12 @@ pub fn body(b: Board, c: Command, store: &[u8], out: &mut [u8]) -> usize
     requires { ⌜ 2 * length (now store) + 128 ≤ length (now out) ⌝ }
     ensures told { λ r. ⌜ Behind (now (out .entry)) (now (out .exit)) 0 r (bodyLine b (now (store .entry)) c) ⌝ }
 {
-    let v = board_by_value::body_number(b, store, c.one);
+    let v = board_look_by_value::body_number(b, store, c.one);
     if v.number != 0 {
         return console_lines::refusal(out, v.number, v.place);
     }
-    let form = board_by_value::body_form(b, store, c.one);
-    let path = board_by_value::body(b, store, c.one);
+    let form = board_look_by_value::body_form(b, store, c.one);
+    let path = board_look_by_value::body(b, store, c.one);
     console_lines::formed(out, form as u64, path)
 }
 
@@ -29,7 +29,7 @@ pub fn next(b: Board, c: Command, store: &[u8], out: &mut [u8]) -> usize
     requires { ⌜ 2 * length (now store) + 128 ≤ length (now out) ⌝ }
     ensures told { λ r. ⌜ Behind (now (out .entry)) (now (out .exit)) 0 r (nextLine b (now (store .entry)) c) ⌝ }
 {
-    match board_by_value::next(b, store, c.one, c.two) {
+    match board_look_by_value::next(b, store, c.one, c.two) {
         Handed::Refused(v) => console_lines::refusal(out, v.number, v.place),
         Handed::Path(change, path) => console_lines::path(
             out,
@@ -48,7 +48,7 @@ pub fn moved(b: Board, c: Command, store: &[u8], out: &mut [u8]) -> usize
     requires { ⌜ 128 ≤ length (now out) ⌝ }
     ensures told { λ r. ⌜ Behind (now (out .entry)) (now (out .exit)) 0 r (movedLine b (now (store .entry)) c) ⌝ }
 {
-    let v = board_by_value::moved(b, store, c.one, c.two, c.three);
+    let v = board_look_by_value::moved(b, store, c.one, c.two, c.three);
     if v.number != 0 {
         return console_lines::refusal(out, v.number, v.place);
     }
@@ -70,7 +70,7 @@ pub fn mark(b: Board, out: &mut [u8]) -> usize
     requires { ⌜ 128 ≤ length (now out) ⌝ }
     ensures told { λ r. ⌜ Behind (now (out .entry)) (now (out .exit)) 0 r (markLine b) ⌝ }
 {
-    let m = board_by_value::fresh_mark(b);
+    let m = board_look_by_value::fresh_mark(b);
     console_lines::two(out, m.s, m.w)
 }
 
