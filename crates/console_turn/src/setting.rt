@@ -41,11 +41,11 @@ pub fn set(
         }
         Setting::Positions => ended(
             with_positions(state, c.one, c.two),
-            console_lines::done(out),
+            console_accepted::done(out),
         ),
         Setting::Addresses => {
             let given = console_routes::addressed(line, memory);
-            ended(with_given(state, given), console_lines::done(out))
+            ended(with_given(state, given), console_accepted::done(out))
         }
     }
 }

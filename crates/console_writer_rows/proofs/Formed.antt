@@ -17,7 +17,7 @@ use Rattle.command_forms.specs.Forms.{mostSize, verbOf, Kind, fits, kindsOf, fo
 use Rattle.command_forms.specs.Forms.Kind.{number, bit, octet, twoOctets, size, side, sid, nai, structure}
 use Rattle.command.specs.declared.Command.{Command}
 use Rattle.command.specs.Commands.{skipped, longest, bareCommand, commanded, commandOf}
-use Rattle.console_writer.specs.Composing.{AddForm}
+use Rattle.console_add.specs.Added.{AddForm}
 
 -- ## Words
 
