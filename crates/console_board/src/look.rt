@@ -1,11 +1,11 @@
 // body, next, moved, mark, board, chain: the line.
 ghost use Prim.Native.Nat.{_+_, _*_, _≤_};
 ghost use mathlib.Core.Path.{_≡_};
-ghost use lib.ListN.{length, take};
+ghost use lib.ListN.{length};
 ghost use Rattle.octets.specs.Octets.{part};
 ghost use Rattle.board_record.specs.Sizes.{places};
 ghost use Rattle.printing.specs.Text.{Behind};
-ghost use Rattle.console_board.specs.Boarding.{bodyLine, nextLine, movedLine, markLine, boardLine, chainOf, chainLine};
+ghost use Rattle.console_board.specs.Boarding.{bodyLine, nextLine, movedLine, markLine, boardLine, chainLine};
 use board_record::Board;
 use board_rules::Handed;
 use command::Command;
@@ -21,7 +21,7 @@ pub fn body(b: Board, c: Command, store: &[u8], out: &mut [u8]) -> usize
     }
     let form = board_look_by_value::body_form(b, store, c.one);
     let path = board_look_by_value::body(b, store, c.one);
-    console_lines::formed(out, form as u64, path)
+    console_accepted::formed(out, form as u64, path)
 }
 
 // `next S W`
@@ -31,15 +31,15 @@ pub fn next(b: Board, c: Command, store: &[u8], out: &mut [u8]) -> usize
 {
     match board_look_by_value::next(b, store, c.one, c.two) {
         Handed::Refused(v) => console_lines::refusal(out, v.number, v.place),
-        Handed::Path(change, path) => console_lines::path(
+        Handed::Path(change, path) => console_accepted::path(
             out,
             change.key,
             change.version,
             path.form as u64,
             named(store, path.place, path.length),
         ),
-        Handed::Removed(change) => console_lines::removed(out, change.key, change.version),
-        Handed::Level(version) => console_lines::level(out, version),
+        Handed::Removed(change) => console_accepted::removed(out, change.key, change.version),
+        Handed::Level(version) => console_accepted::level(out, version),
     }
 }
 
@@ -52,7 +52,7 @@ pub fn moved(b: Board, c: Command, store: &[u8], out: &mut [u8]) -> usize
     if v.number != 0 {
         return console_lines::refusal(out, v.number, v.place);
     }
-    console_lines::one(out, v.count as u64)
+    console_accepted::one(out, v.count as u64)
 }
 
 // The octets that a place and a length name.
@@ -71,7 +71,7 @@ pub fn mark(b: Board, out: &mut [u8]) -> usize
     ensures told { λ r. ⌜ Behind (now (out .entry)) (now (out .exit)) 0 r (markLine b) ⌝ }
 {
     let m = board_look_by_value::fresh_mark(b);
-    console_lines::two(out, m.s, m.w)
+    console_accepted::two(out, m.s, m.w)
 }
 
 // `board`: version and floor.
@@ -79,25 +79,7 @@ pub fn numbers(b: Board, out: &mut [u8]) -> usize
     requires { ⌜ 128 ≤ length (now out) ⌝ }
     ensures told { λ r. ⌜ Behind (now (out .entry)) (now (out .exit)) 0 r (boardLine b) ⌝ }
 {
-    console_lines::two(out, b.version, b.floor)
-}
-
-// The places that the numbers of an order name go to the front of `row`; how many they are.
-fn along(order: &[u8], row: &mut [u8]) -> usize
-    requires { ⌜ (length (now order) ≡ places) × (length (now row) ≡ places) ⌝ }
-    ensures named { λ r. ⌜ take r (now (row .exit)) ≡ chainOf (now (order .entry)) ⌝ }
-    ensures within { λ r. ⌜ r ≤ places ⌝ }
-{
-    let mut i: usize = 0;
-    while i < board_record::PLACES {
-        let n = order[i];
-        if n == 0 {
-            return i;
-        }
-        row[i] = n - 1;
-        i += 1;
-    }
-    i
+    console_accepted::two(out, b.version, b.floor)
 }
 
 // `chain`: the used places from the oldest change to the newest.
@@ -107,6 +89,6 @@ pub fn chain(b: Board, out: &mut [u8]) -> usize
 {
     let order = b.order;
     let mut row = [0u8; 128];
-    let n = along(&order, &mut row);
-    console_lines::list(out, &row[..n])
+    let n = console_chain::along(&order, &mut row);
+    console_accepted::list(out, &row[..n])
 }
