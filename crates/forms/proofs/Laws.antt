@@ -102,6 +102,9 @@ nai-shifted form (suc (suc (suc (suc (suc (suc (suc k))))))) n h = absurd (omega
 srv6-past : (nt : ℕ) → 6 < nt → srv6Nai nt ≡ 0
 srv6-past nt h = rw (ne-eqb nt 2 (omega arith), ne-eqb nt 4 (omega arith), ne-eqb nt 6 (omega arith))
 
+beyond : (nt : ℕ) → 6 < nt → naiLength srv6Form nt ≡ srv6Nai nt
+beyond nt h = sym (nai-past srv6Form nt h) ∙ sym (srv6-past nt h)
+
 pub srv6-nais : (nt : ℕ) → naiLength srv6Form nt ≡ srv6Nai nt
 unfolding naiLength
 srv6-nais zero = refl
@@ -111,7 +114,7 @@ srv6-nais (suc (suc (suc zero))) = refl
 srv6-nais (suc (suc (suc (suc zero)))) = refl
 srv6-nais (suc (suc (suc (suc (suc zero))))) = refl
 srv6-nais (suc (suc (suc (suc (suc (suc zero)))))) = refl
-srv6-nais (suc (suc (suc (suc (suc (suc (suc k))))))) = sym (nai-past srv6Form (suc (suc (suc (suc (suc (suc (suc k))))))) (omega arith)) ∙ sym (srv6-past (suc (suc (suc (suc (suc (suc (suc k))))))) (omega arith))
+srv6-nais (suc (suc (suc (suc (suc (suc (suc k))))))) = beyond (suc (suc (suc (suc (suc (suc (suc k))))))) (omega arith)
 
 pub mpls-nais : (nt : ℕ) → naiLength mplsForm nt ≡ mplsNai nt
 unfolding naiLength
