@@ -3,8 +3,9 @@ ghost use Prim.Native.Nat.{_+_, _*_, _≤_};
 ghost use mathlib.Core.Path.{_≡_};
 ghost use lib.ListN.{length};
 ghost use Rattle.octets.specs.Octets.{part};
-ghost use Rattle.board_record.specs.Sizes.{places};
+ghost use Rattle.board_record.specs.Sizes.{places, room};
 ghost use Rattle.printing.specs.Text.{Behind};
+ghost use Rattle.console_lines.specs.Lines.{short};
 ghost use Rattle.console_board.specs.Boarding.{bodyLine, nextLine, movedLine, markLine, boardLine, chainLine};
 use board_record::Board;
 use board_rules::Handed;
@@ -12,7 +13,7 @@ use command::Command;
 
 // `body KEY`
 pub fn body(b: Board, c: Command, store: &[u8], out: &mut [u8]) -> usize
-    requires { ⌜ 2 * length (now store) + 128 ≤ length (now out) ⌝ }
+    requires { ⌜ 2 * length (now store) + short ≤ length (now out) ⌝ }
     ensures told { λ r. ⌜ Behind (now (out .entry)) (now (out .exit)) 0 r (bodyLine b (now (store .entry)) c) ⌝ }
 {
     let v = board_look_by_value::body_number(b, store, c.one);
@@ -26,7 +27,7 @@ pub fn body(b: Board, c: Command, store: &[u8], out: &mut [u8]) -> usize
 
 // `next S W`
 pub fn next(b: Board, c: Command, store: &[u8], out: &mut [u8]) -> usize
-    requires { ⌜ 2 * length (now store) + 128 ≤ length (now out) ⌝ }
+    requires { ⌜ 2 * length (now store) + short ≤ length (now out) ⌝ }
     ensures told { λ r. ⌜ Behind (now (out .entry)) (now (out .exit)) 0 r (nextLine b (now (store .entry)) c) ⌝ }
 {
     match board_look_by_value::next(b, store, c.one, c.two) {
@@ -45,7 +46,7 @@ pub fn next(b: Board, c: Command, store: &[u8], out: &mut [u8]) -> usize
 
 // `moved A B V`
 pub fn moved(b: Board, c: Command, store: &[u8], out: &mut [u8]) -> usize
-    requires { ⌜ 128 ≤ length (now out) ⌝ }
+    requires { ⌜ short ≤ length (now out) ⌝ }
     ensures told { λ r. ⌜ Behind (now (out .entry)) (now (out .exit)) 0 r (movedLine b (now (store .entry)) c) ⌝ }
 {
     let v = board_look_by_value::moved(b, store, c.one, c.two, c.three);
@@ -57,8 +58,8 @@ pub fn moved(b: Board, c: Command, store: &[u8], out: &mut [u8]) -> usize
 
 // The octets that a place and a length name.
 fn named(store: &[u8], place: usize, n: usize) -> &[u8]
-    requires { ⌜ 384 * place + n ≤ length (now store) ⌝ }
-    ensures named { λ r. ⌜ now r ≡ part (now (store .entry)) (384 * place) n ⌝ }
+    requires { ⌜ room * place + n ≤ length (now store) ⌝ }
+    ensures named { λ r. ⌜ now r ≡ part (now (store .entry)) (room * place) n ⌝ }
 {
     let from = board_record::ROOM * place;
     let to = from + n;
@@ -67,7 +68,7 @@ fn named(store: &[u8], place: usize, n: usize) -> &[u8]
 
 // `mark`: a fresh one.
 pub fn mark(b: Board, out: &mut [u8]) -> usize
-    requires { ⌜ 128 ≤ length (now out) ⌝ }
+    requires { ⌜ short ≤ length (now out) ⌝ }
     ensures told { λ r. ⌜ Behind (now (out .entry)) (now (out .exit)) 0 r (markLine b) ⌝ }
 {
     let m = board_look_by_value::fresh_mark(b);
@@ -76,7 +77,7 @@ pub fn mark(b: Board, out: &mut [u8]) -> usize
 
 // `board`: version and floor.
 pub fn numbers(b: Board, out: &mut [u8]) -> usize
-    requires { ⌜ 128 ≤ length (now out) ⌝ }
+    requires { ⌜ short ≤ length (now out) ⌝ }
     ensures told { λ r. ⌜ Behind (now (out .entry)) (now (out .exit)) 0 r (boardLine b) ⌝ }
 {
     console_accepted::two(out, b.version, b.floor)
@@ -84,7 +85,7 @@ pub fn numbers(b: Board, out: &mut [u8]) -> usize
 
 // `chain`: the used places from the oldest change to the newest.
 pub fn chain(b: Board, out: &mut [u8]) -> usize
-    requires { ⌜ 21 * places + 128 ≤ length (now out) ⌝ }
+    requires { ⌜ 21 * places + short ≤ length (now out) ⌝ }
     ensures told { λ r. ⌜ Behind (now (out .entry)) (now (out .exit)) 0 r (chainLine b) ⌝ }
 {
     let order = b.order;

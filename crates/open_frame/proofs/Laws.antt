@@ -6,13 +6,9 @@ use mathlib.Core.Bool.{Bool, true, false, _&&_}
 use lib.ListN.{length}
 use lib.Dec.{eqb, leb}
 use borrow.Author.Tests.{lt-leb, le-leb, leb-true}
-use Rattle.octets.proofs.Said.{both-true, and-holding}
+use Rattle.octets.proofs.Said.{both-true, and-holding, and-false}
 use Rattle.objects.specs.Objects.{unit, objectLength}
 use Rattle.open_frame.specs.Framed.{tlvsAt, openHeaded, measured, framed}
-
-and-false : (a : Bool) → (a && false) ≡ false
-and-false true = refl
-and-false false = refl
 
 pub framed-short : (s : List ℕ) → length s < tlvsAt → framed s ≡ false
 unfolding framed

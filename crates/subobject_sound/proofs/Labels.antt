@@ -8,16 +8,15 @@ use lib.ListN.{getD}
 use native.Mathlib.Omega.{arith}
 use borrow.Author.Tests.{eq-eqb, ne-eqb, eqb-true, eqb-false, le-ltb, not-true}
 use Rattle.octets.specs.Octets.{octetOf, be16}
-use Rattle.octets.proofs.Said.{either-false}
+use Rattle.octets.proofs.Said.{either-false, and-false}
 use Rattle.forms.specs.Forms.{mplsForm}
 use Rattle.subobject.specs.declared.head.Head.{Head}
 use Rattle.subobject.specs.Layout.{expectedLength}
 use Rattle.subobject.specs.Rules.{rule7, rule29, rule30, flagF, malformed, hasLabel, labelAt, timeAt, firstFree, goodLabel}
 use Rattle.subobject_sound.proofs.Laws.{label-room}
 
-and-false : (b c : Bool) → c ≡ false → (b && c) ≡ false
-and-false true c e = e
-and-false false c e = refl
+and-no : (b c : Bool) → c ≡ false → (b && c) ≡ false
+and-no b c e = rw e (and-false b)
 
 -- A label is above those below 16 if one of its first 16 bits is set;
 pub label-above : (s : List ℕ) (at x : ℕ) → x ≡ be16 s at → (x ≡ 0 → ⊥) → (ltb (labelAt s at) firstFree && not (eqb (labelAt s at) goodLabel)) ≡ false
@@ -31,11 +30,11 @@ unfolding labelAt be16 octetOf
 label-seven s at x y e z ey g =
     let seven : y / 16 ≡ 7 = eqb-true (y / 16) goodLabel g in
     let label : labelAt s at ≡ 7 = omega (arith, e, z, ey, seven) in
-    and-false (ltb (labelAt s at) firstFree) (not (eqb (labelAt s at) goodLabel)) (rw (eq-eqb (labelAt s at) goodLabel label))
+    and-no (ltb (labelAt s at) firstFree) (not (eqb (labelAt s at) goodLabel)) (rw (eq-eqb (labelAt s at) goodLabel label))
 
 pub no-label : (h : Head) → (h .m ≡ 1 → ⊥) → hasLabel h ≡ false
 unfolding hasLabel
-no-label h n = and-false (eqb (h .s) 0) (eqb (h .m) 1) (ne-eqb (h .m) 1 n)
+no-label h n = and-no (eqb (h .s) 0) (eqb (h .m) 1) (ne-eqb (h .m) 1 n)
 
 -- Where M is 1 there is a SID, and so are its four octets.
 pub sid-there : (h : Head) → rule7 mplsForm h ≡ false → h .m ≡ 1 → h .s ≤ 1 → h .s ≡ 0
@@ -62,14 +61,14 @@ entry-room h r e l q = label-room mplsForm h (eqb (h .s) 0 && eqb (h .m) 1) refl
 -- 29 and 30.
 pub good-29 : (h : Head) (label : ℕ) → (ltb label firstFree && not (eqb label goodLabel)) ≡ false → rule29 h label ≡ false
 unfolding rule29
-good-29 h label e = and-false (hasLabel h) _ e
+good-29 h label e = and-no (hasLabel h) _ e
 
 pub plain-30 : (h : Head) (time : ℕ) → (h .c ≡ 1 → ⊥) → rule30 h time ≡ false
 unfolding rule30
-plain-30 h time n = and-false (hasLabel h) _ (rw (ne-eqb (h .c) 1 n))
+plain-30 h time n = and-no (hasLabel h) _ (rw (ne-eqb (h .c) 1 n))
 
 pub timed-30 : (h : Head) (s : List ℕ) (at x : ℕ) → x ≡ getD s (at + 7) 0 → not (eqb x 0) ≡ true → rule30 h (timeAt s (at + 4)) ≡ false
 unfolding rule30 timeAt octetOf
 timed-30 h s at x e n =
     let place : at + 4 + 3 ≡ at + 7 = omega arith in
-    and-false (hasLabel h) _ (and-false (eqb (h .c) 1) (eqb (getD s (at + 4 + 3) 0) 0) (rw (place, ← e) (not-true (eqb x 0) n)))
+    and-no (hasLabel h) _ (and-no (eqb (h .c) 1) (eqb (getD s (at + 4 + 3) 0) 0) (rw (place, ← e) (not-true (eqb x 0) n)))
