@@ -24,7 +24,7 @@ pub fn see_mpls(s: &[u8], ero: bool, n: bool) -> Seen
         if h.kind != kind {
             return seen::unsettled();
         }
-        if !subobject_sound::mpls_head_sound(s, at, h, ero, n) {
+        if !subobject_shape::mpls_head_sound(s, at, h, ero, n) {
             return seen::unsettled();
         }
         if end - at < h.size {

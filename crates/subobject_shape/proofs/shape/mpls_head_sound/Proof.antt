@@ -1,7 +1,7 @@
 use borrow.Author.Needs.{needs}
-use Rattle.subobject_sound.proofs.Shapes.{kept-at}
-use Rattle.subobject_sound.proofs.shape.mpls_head_sound.Statement.{statement}
-use Rattle.subobject_sound.proofs.shape.mpls_head_sound.Tie as tie
+use Rattle.subobject_shape.proofs.Shapes.{kept-at}
+use Rattle.subobject_shape.proofs.shape.mpls_head_sound.Statement.{statement}
+use Rattle.subobject_shape.proofs.shape.mpls_head_sound.Tie as tie
 
 add-wide : tie.Need-add-wide
 add-wide c = search needs

@@ -2,9 +2,9 @@ use native.Mathlib.Omega.{arith}
 use mathlib.Core.Bool.{false≢true}
 use borrow.Author.Needs.{needs}
 use borrow.Author.Tests.{eqb-true}
-use Rattle.subobject_sound.proofs.Shapes.{within, fitting, together-by}
-use Rattle.subobject_sound.proofs.shape.fits.Statement.{statement}
-use Rattle.subobject_sound.proofs.shape.fits.Tie as tie
+use Rattle.subobject_shape.proofs.Shapes.{within, fitting, together-by}
+use Rattle.subobject_shape.proofs.shape.fits.Statement.{statement}
+use Rattle.subobject_shape.proofs.shape.fits.Tie as tie
 
 allowed-requires : tie.Need-allowed-requires
 allowed-requires c κs = search needs

@@ -16,7 +16,7 @@ ghost use lib.ListN.{length};
 ghost use Rattle.forms.specs.Forms.{mplsForm};
 ghost use Rattle.subobject.specs.Layout.{headOf, headAt};
 ghost use Rattle.subobject.specs.Rules.{rule7, rule8, rule9, rule10};
-ghost use Rattle.subobject_sound.specs.Fitting.{Fitting, allowedBy};
+ghost use Rattle.subobject_shape.specs.Fitting.{Fitting, allowedBy};
 use subobject::Head;
 
 // Two bits for each of the 16 ways in which F, S, C and M are set: 1 where they go with NT 0, 2 where with NT 1 to 6, 0 where with none.

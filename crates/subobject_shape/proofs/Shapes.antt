@@ -14,7 +14,7 @@ use Rattle.forms.specs.Forms.{mplsForm, flagIn, naiLength, knows}
 use Rattle.subobject.specs.declared.head.Head.{Head}
 use Rattle.subobject.specs.Layout.{expectedLength, headOf, headAt}
 use Rattle.subobject.specs.Rules.{rule7, rule8, rule9, rule10, flagF, malformed}
-use Rattle.subobject_sound.specs.Fitting.{Fitting, allowedBy}
+use Rattle.subobject_shape.specs.Fitting.{Fitting, allowedBy}
 
 -- A test passes at each number below n.
 abbrev below : ℕ → (ℕ → Bool) → Bool
