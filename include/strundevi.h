@@ -11,7 +11,7 @@
  * Nothing is allocated and nothing is kept between calls. A refusal is a number and a place, and leaves all lent octets and records as
  * they were. Flags are octets: 0 is no, every other number is yes, and an answer has 0 or 1.
  *
- * Stack: no call recurses, and none needs more than 2,048 octets of stack, the caller's own records apart.
+ * Stack: none needs more than 2,048 octets, the caller's own records apart. Reading an OPEN calls itself once, for the list inside TLV 34; nothing goes deeper.
  *
  * Threads: strundevi_body, _next, _moved and _fresh_mark only read, so any number of readers may ask one board at once. While
  * strundevi_empty, _report, _remove or _compact runs, nobody else may use that board or its store. Different boards have nothing in common.

@@ -50,6 +50,14 @@ for page in docs/*.md README.md; do
             fault "$page names $cited, and no crate has it"
         fi
     done
+    # crate::function, or a constant or a type
+    for cited in $(grep -oE '`[a-z0-9_]+::[A-Za-z0-9_]+`' "$page" | tr -d '`' | sort -u); do
+        crate=${cited%%::*}
+        if [ -d "crates/$crate/src" ]; then
+            named=$((named + 1))
+            grep -rqE "(fn|const|struct|enum) ${cited#*::}\\b|^pub use [a-z_:]+::${cited#*::};" "crates/$crate/src" || fault "$page names $cited, and $crate has none"
+        fi
+    done
     # CRATE/EDIT
     for cited in $(grep -oE '`[a-z0-9_]+/[a-z0-9_]+`' "$page" | tr -d '`' | sort -u); do
         crate=${cited%%/*}
@@ -100,7 +108,7 @@ if [ "$examples" -lt 18 ]; then
 fi
 
 # Every command of the console has a row and an example.
-for command in pcc pce ero rro ero-segment rro-segment begin add finish lent report remove compact body next mark board chain moved; do
+for command in pcc pce ero rro ero-segment rro-segment begin add finish lent report remove compact body next mark board chain moved positions addresses; do
     grep -qE "^\| \`${command}[\` ]" docs/CONSOLE.md || fault "docs/CONSOLE.md has no row for $command"
     cat "$out"/CONSOLE/*.in | grep -qE "^$command( |\$)" || fault "docs/CONSOLE.md has no example of $command"
 done

@@ -868,7 +868,10 @@ def trial_checker():
 
 def main():
     here = os.path.join(os.path.dirname(os.path.abspath(__file__)), "..", "crates")
-    for name, made in (("console", console()), ("trial_open", trial_open()), ("trial_route", trial_route()), ("trial_writer", trial_writer()), ("trial_board", trial_board()), ("trial_checker", trial_checker())):
+    # one run for three: the board and the writer as at the start, the halves of the session refused again in between
+    anew = ["# both OPENs refused, as at the start", "pcc -", "pce -"]
+    calls = trial_board() + anew + trial_writer() + anew + trial_open()
+    for name, made in (("console", console()), ("trial_route", trial_route()), ("trial_calls", calls), ("trial_checker", trial_checker())):
         text = made if isinstance(made, str) else "\n".join(made) + "\n"
         os.makedirs(os.path.join(here, name), exist_ok=True)
         with open(os.path.join(here, name, "stdin"), "wb") as f:

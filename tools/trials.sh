@@ -6,7 +6,7 @@ cd "$(dirname "$0")/.."
 (cd rust && cargo build -q --offline --release -p reference)
 bin=rust/target/release
 python3 tools/trials.py
-for t in console trial_open trial_route trial_writer trial_board; do
+for t in console trial_route trial_calls; do
     $bin/reference-console < crates/$t/stdin > crates/$t/stdout
 done
 while IFS= read -r line; do

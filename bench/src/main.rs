@@ -166,7 +166,7 @@ impl Bench {
         self.time(
             duty,
             |_| {
-                black_box(raw::judge(black_box(route), ERO, black_box(FREE), pst, &[]));
+                black_box(raw::judge(black_box(route), ERO, *black_box(&FREE), pst, &[]));
             },
             |_| {
                 black_box(reference::judge(black_box(route), reference::Kind::Ero, black_box(&theirs), pst, &[])).ok();
@@ -181,7 +181,7 @@ impl Bench {
         self.time(
             duty,
             |_| {
-                black_box(raw::segment(black_box(route), ERO, black_box(FREE), pst, &[], black_box(i)));
+                black_box(raw::segment(black_box(route), ERO, *black_box(&FREE), pst, &[], black_box(i)));
             },
             |_| {
                 black_box(reference::segment(black_box(route), reference::Kind::Ero, black_box(&theirs), pst, &[], black_box(i))).ok();
@@ -193,7 +193,7 @@ impl Bench {
     fn steps(&mut self, duty: &str, route: &[u8], pst: u64) {
         let theirs = free();
         let library = |route: &[u8]| {
-            let count = raw::judge(route, ERO, black_box(FREE), pst, &[]).count;
+            let count = raw::judge(route, ERO, *black_box(&FREE), pst, &[]).count;
             let mut at = strundevi::FIRST_PLACE;
             for _ in 0..count {
                 let stepped = raw::step(route, ERO, pst, at);

@@ -29,7 +29,7 @@ kindsMixed = 6
 abbrev pub lengthWrong : ℕ
 lengthWrong = 7
 
--- NT not 0, 2, 4, 6
+-- an NT that the form does not know: not 0, 2, 4, 6
 abbrev pub naiUnknown : ℕ
 naiUnknown = 8
 
@@ -49,13 +49,13 @@ structureTooLong = 11
 abbrev pub tooManySegments : ℕ
 tooManySegments = 12
 
--- SRv6 not agreed
+-- the setup type is not the form's, or the form is not agreed
 abbrev pub notAgreed : ℕ
 notAgreed = 13
 
--- no SRv6 subobject
-abbrev pub noSrv6 : ℕ
-noSrv6 = 14
+-- no subobject of the form that the setup type names
+abbrev pub noneOfForm : ℕ
+noneOfForm = 14
 
 -- no such segment
 abbrev pub noSuchSegment : ℕ

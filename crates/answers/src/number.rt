@@ -21,7 +21,7 @@ pub const KINDS_MIXED: usize = 6;
 // F isn't 1 exactly for NT 0, or Length isn't as expected
 pub const LENGTH_WRONG: usize = 7;
 
-// NT not 0, 2, 4, 6
+// an NT that the form does not know: not 0, 2, 4, 6
 pub const NAI_UNKNOWN: usize = 8;
 
 // S and F both 1
@@ -36,11 +36,11 @@ pub const STRUCTURE_TOO_LONG: usize = 11;
 // more segments than the limit
 pub const TOO_MANY_SEGMENTS: usize = 12;
 
-// SRv6 not agreed
+// the setup type is not the form's, or the form is not agreed
 pub const NOT_AGREED: usize = 13;
 
-// no SRv6 subobject
-pub const NO_SRV6: usize = 14;
+// no subobject of the form that the setup type names
+pub const NONE_OF_FORM: usize = 14;
 
 // no such segment
 pub const NO_SUCH_SEGMENT: usize = 15;

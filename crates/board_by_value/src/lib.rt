@@ -1,69 +1,11 @@
-// The board's calls with the record by value (document 01, "The board"): report, remove and compact hand it back, changed
-// or after a refusal as it was; body hands back a part of the lent store, and its form by a call of its own; next hands out a change, moved says if a key of a range changed. Each lends the record's
-// arrays to the call of report_call, board_remove or board_look.
+// The board's calls that take a path or marks away, with the record by value (document 01, "The board"): remove and compact hand it
+// back, changed or after a refusal as it was. Each lends the record's arrays to the call of board_remove or board_compact.
 mod answer;
 
 ghost use mathlib.Core.Path.{_≡_};
-ghost use Rattle.board_by_value.specs.ByValue.{reportOn, reportStoreOn, removeOn, compactOn, bodyNumberOn, bodyOn, bodyFormOn, nextOn, movedOn, freshMarkOn};
+ghost use Rattle.board_by_value.specs.ByValue.{removeOn, compactOn};
 pub use answer::Answer;
-use answers::Verdict;
 use board_record::Board;
-use board_rules::Handed;
-use board_rules::Mark;
-use session::Sessions;
-
-// Report (key, ERO, the two sessions, PST, addresses).
-pub fn report(
-    b: Board,
-    store: &mut [u8],
-    key: u64,
-    ero: &[u8],
-    both: Sessions,
-    pst: u64,
-    addresses: &[u8],
-) -> Answer
-    ensures answer { λ r. ⌜ r ≡ reportOn b (now (store .entry)) key (now (ero .entry)) both pst (now (addresses .entry)) ⌝ }
-    ensures octets { λ r. ⌜ now (store .exit) ≡ reportStoreOn b (now (store .entry)) key (now (ero .entry)) both pst (now (addresses .entry)) ⌝ }
-{
-    let mut keys = b.keys;
-    let mut versions = b.versions;
-    let mut lengths = b.lengths;
-    let mut version = b.version;
-    let mut floor = b.floor;
-    let mut order = b.order;
-    let mut tops = b.tops;
-    let mut forms = b.forms;
-    let verdict = report_call::report(
-        &mut keys,
-        &mut versions,
-        &mut lengths,
-        &mut version,
-        &mut floor,
-        &mut order,
-        &mut tops,
-        &mut forms,
-        store,
-        key,
-        ero,
-        both,
-        pst,
-        addresses,
-    );
-    let stored = Board {
-        keys: keys,
-        versions: versions,
-        lengths: lengths,
-        version: version,
-        floor: floor,
-        order: order,
-        tops: tops,
-        forms: forms,
-    };
-    Answer {
-        verdict: verdict,
-        board: stored,
-    }
-}
 
 // Remove (key).
 pub fn remove(b: Board, store: &[u8], key: u64) -> Answer
@@ -115,7 +57,7 @@ pub fn compact(b: Board, store: &[u8], c: u64) -> Answer
     let mut order = b.order;
     let mut tops = b.tops;
     let forms = b.forms;
-    let verdict = board_remove::compact(
+    let verdict = board_compact::compact(
         &mut keys,
         &mut versions,
         &lengths,
@@ -141,105 +83,4 @@ pub fn compact(b: Board, store: &[u8], c: u64) -> Answer
         verdict: verdict,
         board: swept,
     }
-}
-
-// The number of Body (key).
-pub fn body_number(b: Board, store: &[u8], key: u64) -> Verdict
-    ensures number { λ r. ⌜ r ≡ bodyNumberOn b (now (store .entry)) key ⌝ }
-{
-    board_look::body_number(
-        &b.keys,
-        &b.versions,
-        &b.lengths,
-        b.version,
-        b.floor,
-        &b.order,
-        &b.tops,
-        &b.forms,
-        store,
-        key,
-    )
-}
-
-// Body (key): the path's octets, a part of the store; empty on refusal.
-pub fn body<'a>(b: Board, store: &'a [u8], key: u64) -> &'a [u8]
-    ensures body { λ r. ⌜ now r ≡ bodyOn b (now (store .entry)) key ⌝ }
-{
-    board_look::body(
-        &b.keys,
-        &b.versions,
-        &b.lengths,
-        b.version,
-        b.floor,
-        &b.order,
-        &b.tops,
-        &b.forms,
-        store,
-        key,
-    )
-}
-
-// The form of the path of Body (key), by its setup type; 0 on refusal.
-pub fn body_form(b: Board, store: &[u8], key: u64) -> usize
-    ensures form { λ r. ⌜ r ≡ bodyFormOn b (now (store .entry)) key ⌝ }
-{
-    board_look::body_form(
-        &b.keys,
-        &b.versions,
-        &b.lengths,
-        b.version,
-        b.floor,
-        &b.order,
-        &b.tops,
-        &b.forms,
-        store,
-        key,
-    )
-}
-
-// Next (mark s, w).
-pub fn next(b: Board, store: &[u8], s: u64, w: u64) -> Handed
-    ensures next { λ r. ⌜ r ≡ nextOn b (now (store .entry)) s w ⌝ }
-{
-    board_look::next(
-        &b.keys,
-        &b.versions,
-        &b.lengths,
-        b.version,
-        b.floor,
-        &b.order,
-        &b.tops,
-        &b.forms,
-        store,
-        s,
-        w,
-    )
-}
-
-// Moved (keys from `from` to `to`, version v).
-pub fn moved(b: Board, store: &[u8], from: u64, to: u64, v: u64) -> Verdict
-    ensures moved { λ r. ⌜ r ≡ movedOn b (now (store .entry)) from to v ⌝ }
-{
-    board_look::moved(
-        &b.keys,
-        &b.versions,
-        &b.lengths,
-        b.version,
-        b.floor,
-        &b.order,
-        &b.tops,
-        &b.forms,
-        store,
-        from,
-        to,
-        v,
-    )
-}
-
-// A fresh mark is the board's version for s and 0 for w, with the follower empty. It has no number: it reads the version
-// only, and next answers 17 to a mark of a record that is no board.
-pub fn fresh_mark(b: Board) -> Mark
-    ensures fresh { λ r. ⌜ r ≡ freshMarkOn b ⌝ }
-{
-    Mark { s: b.version, w: 0 }
 }

@@ -5,16 +5,7 @@ use mathlib.Core.List.{List}
 use Rattle.answers.specs.declared.verdict.Verdict.{Verdict}
 use Rattle.board_record.specs.declared.record.Board.{Board}
 use Rattle.board_rules.specs.declared.answer.Handed.{Handed}
-use Rattle.board_rules.specs.OnRecord.{bodyNumberOn, bodyOn, bodyFormOn, nextOn, movedOn}
-
-pub number-determined : (b : Board) (store : List ℕ) (k : ℕ) (v w : Verdict) → v ≡ bodyNumberOn b store k → w ≡ bodyNumberOn b store k → v ≡ w
-number-determined b store k v w p q = p ∙ sym q
-
-pub body-determined : (b : Board) (store : List ℕ) (k : ℕ) (x y : List ℕ) → x ≡ bodyOn b store k → y ≡ bodyOn b store k → x ≡ y
-body-determined b store k x y p q = p ∙ sym q
-
-pub form-determined : (b : Board) (store : List ℕ) (k x y : ℕ) → x ≡ bodyFormOn b store k → y ≡ bodyFormOn b store k → x ≡ y
-form-determined b store k x y p q = p ∙ sym q
+use Rattle.board_rules.specs.OnRecord.{nextOn, movedOn}
 
 pub next-determined : (b : Board) (store : List ℕ) (s w : ℕ) (x y : Handed) → x ≡ nextOn b store s w → y ≡ nextOn b store s w → x ≡ y
 next-determined b store s w x y p q = p ∙ sym q

@@ -1,7 +1,5 @@
-pub mod Bodies
-pub mod Laws
 pub mod Rows
+pub mod Keys
 pub mod Passing
 pub mod Tops
-pub mod Loops
 pub mod Determined

@@ -24,11 +24,12 @@ use Rattle.board_record.proofs.Search.{used-is, is-used}
 use Rattle.board_record.proofs.Proper.{Sound, body-is, is-body, proper-sound, sound-proper, proper-is, is-proper}
 use Rattle.board_order.proofs.Names.{named-none}
 use Rattle.board_order.proofs.Chains.{proper-apart, once, chain-apart, chained-in, in-chained, chained-count, count-chained}
-use Rattle.board_proper.specs.Chain.{along}
-use Rattle.board_proper.specs.Places.{bodyB, emptyB}
-use Rattle.board_proper.proofs.Laws.{along-at}
-use Rattle.board_proper.proofs.Loops.{cut-count}
-use Rattle.board_proper.proofs.Rows.{Risen, risen-none, risen-more, risen-once}
+use Rattle.board_along.specs.Chain.{along}
+use Rattle.board_along.specs.Numbers.{lateB}
+use Rattle.board_places.specs.Places.{bodyB, emptyB}
+use Rattle.board_along.proofs.Laws.{along-at}
+use Rattle.board_places.proofs.Loops.{cut-count}
+use Rattle.board_proper.proofs.Rows.{Risen, risen-none, risen-more, risen-once, Bounded, not-late}
 
 -- ---- a used place by itself
 pub record Fit (e : Entry) (floor : ℕ) : Type 0 where
@@ -146,27 +147,30 @@ module _ (b : Table) (order : List ℕ) where
   stop-low r f n =
       refuted (λ p c. true≢false (sym (all-of (λ i. leb (keyAt b i) keyMost) 128 (λ j k. le-leb (keyAt b j) keyMost (proper-sound b p j k .key))) ∙ sym f ∙ not-true r n))
 
-  pub stop-rising : (i last x v : ℕ) → i < places → Along i last → x ≡ placeOn order i → x < places → v ≡ versionAt b x → v ≤ last → false ≡ (properB b && inOrder b order)
+  stop-rising : (i last x v : ℕ) → i < places → Along i last → x ≡ placeOn order i → x < places → v ≡ versionAt b x → v ≤ last → false ≡ (properB b && inOrder b order)
   stop-rising zero last x v l a e h f g =
       refuted (λ p c. omega (arith, a .risen .first refl, p .version-least (placeOn order 0) (omega arith) (c .used 0 l (omega arith)), ap (versionAt b) e))
   stop-rising (suc j) last x v l a e h f g =
       refuted (λ p c. omega (arith, a .risen .is j refl, c .rises j (suc j) (omega arith) l (omega arith) .1, ap (versionAt b) e))
 
-  pub stop-mark : (i x : ℕ) → i < places → x ≡ placeOn order i → x < places → versionAt b x ≤ b .floor → lengthAt b x ≡ 0 → false ≡ (properB b && inOrder b order)
+  stop-mark : (i x : ℕ) → i < places → x ≡ placeOn order i → x < places → versionAt b x ≤ b .floor → lengthAt b x ≡ 0 → false ≡ (properB b && inOrder b order)
   stop-mark i x l e h f z =
       refuted (λ p c. omega (arith, p .removal-above x h (record { used = subst (Used b) (sym e) (c .used i l (omega arith)); bare = z })))
 
-  pub stop-empty : (i x : ℕ) → i < places → x ≡ placeOn order i → x < places → keyAt b x ≡ 0 → false ≡ (properB b && inOrder b order)
+  stop-empty : (i x : ℕ) → i < places → x ≡ placeOn order i → x < places → keyAt b x ≡ 0 → false ≡ (properB b && inOrder b order)
   stop-empty i x l e h z = refuted (λ p c. c .used i l (omega arith) (ap (keyAt b) (sym e) ∙ z))
+
+  pub stop-late : (i last bound x v : ℕ) (r : Bool) → i < places → Along i last → Bounded (b .floor) last bound → x ≡ placeOn order i → x < places → v ≡ versionAt b x
+      → r ≡ lateB last bound v (lengthAt b x) → not r ≡ true → false ≡ (properB b && inOrder b order)
+  stop-late i last bound x v r l a k e h f q n =
+      ⊎-elim (λ w. stop-rising i last x v l a e h f w) (λ w. stop-mark i x l e h (omega (arith, f, w .0)) (w .1))
+      (not-late (b .floor) last bound v (lengthAt b x) k (sym q ∙ not-true r n))
 
   -- the key of a number of the order
   pub key-along : (i x : ℕ) → i < places → x ≡ placeOn order i → keyAt b x ≡ getD (along (b .keys) order) i 0
   key-along i x l e = ap (keyAt b) e ∙ sym (along-at (b .keys) order i l)
 
-  pub used-along : (i x : ℕ) → i < places → x ≡ placeOn order i → (keyAt b x ≡ 0 → ⊥) → getD (along (b .keys) order) i 0 ≡ 0 → ⊥
-  used-along i x l e u z = u (key-along i x l e ∙ z)
-
-  pub stop-key : (i last x : ℕ) (r : Bool) → i < places → Along i last → x ≡ placeOn order i → x < places → r ≡ freshB (along (b .keys) order) i (keyAt b x) → not r ≡ true
+  stop-key : (i last x : ℕ) (r : Bool) → i < places → Along i last → x ≡ placeOn order i → x < places → r ≡ freshB (along (b .keys) order) i (keyAt b x) → not r ≡ true
       → false ≡ (properB b && inOrder b order)
   unfolding freshB
   stop-key i last x r l a e h f n =
@@ -182,6 +186,17 @@ module _ (b : Table) (order : List ℕ) where
                 let y = p .keys-distinct (placeOn order j) x g h (a .fits j k .used) z in
                 omega (arith, once b order c j i (omega arith) l g (y ∙ e))),
           ))
+
+  -- the place has no key, or one of those before it
+  pub stop-new : (i last x : ℕ) (r : Bool) → i < places → Along i last → x ≡ placeOn order i → x < places
+      → r ≡ (not (eqb (keyAt b x) 0) && freshB (along (b .keys) order) i (keyAt b x)) → not r ≡ true → false ≡ (properB b && inOrder b order)
+  stop-new i last x r l a e h f n =
+      ⊎-elim (λ z. stop-empty i x l e h z)
+      (λ d. let t : not (eqb (keyAt b x) 0) ≡ true = rw (ne-eqb (keyAt b x) 0 d) in
+      stop-key i last x r l a e h (f ∙ rw t) n) (same? (keyAt b x) 0)
+
+  pub is-new : (x : ℕ) (f r : Bool) → r ≡ (not (eqb (keyAt b x) 0) && f) → r ≡ true → Used b x
+  is-new x f r e t z = true≢false (sym t ∙ e ∙ rw (eq-eqb (keyAt b x) 0 z))
 
   pub stop-top : (i last : ℕ) → i ≤ places → Along i last → b .version < last → false ≡ (properB b && inOrder b order)
   stop-top zero last m a l = absurd (omega (arith, a .risen .first refl))
@@ -218,7 +233,7 @@ module _ (b : Table) (order : List ℕ) where
             ⊎-elim (λ e. e) (λ d. absurd (omega (arith, count-chained b order c (i - 1) (omega arith) (a .risen .low (i - 1) (omega (arith, d))), d)))
             (same? (countBelow (usedB b) places) i)
 
-    pub stop-count : places ≤ placeOn order i → i < places → (n : ℕ) → n ≡ countBelow none? places → (n ≡ places - i → ⊥) → false ≡ (properB b && inOrder b order)
+    stop-count : places ≤ placeOn order i → i < places → (n : ℕ) → n ≡ countBelow none? places → (n ≡ places - i → ⊥) → false ≡ (properB b && inOrder b order)
     unfolding emptyB usedB
     stop-count g m n e d =
         refuted (λ p c. d (omega (arith, e, count-same (λ q. not (usedB b q)) none? 128 (same p), count-not (usedB b) 128, named-used c (c .rest i m g) m)))
@@ -232,7 +247,7 @@ module _ (b : Table) (order : List ℕ) where
     some : (j : ℕ) → j < i → getD order j 0 ≡ 0 → ⊥
     some j k z = omega (arith, a .risen .low j k, named-none (getD order j 0) z)
 
-    pub stop-zeros : places ≤ placeOn order i → i < places → (n : ℕ) → n ≡ countBelow (λ j. eqb (getD order j 0) 0) places → (n ≡ places - i → ⊥) → false ≡ (properB b && inOrder b order)
+    stop-zeros : places ≤ placeOn order i → i < places → (n : ℕ) → n ≡ countBelow (λ j. eqb (getD order j 0) 0) places → (n ≡ places - i → ⊥) → false ≡ (properB b && inOrder b order)
     stop-zeros g m n e d = refuted (λ p c. d (e ∙ counted c))
       where
         zero-at : Chained b order → (j : ℕ) → i ≤ j → j < places → getD order j 0 ≡ 0
@@ -243,6 +258,24 @@ module _ (b : Table) (order : List ℕ) where
         counted : Chained b order → countBelow (λ j. eqb (getD order j 0) 0) 128 ≡ 128 - i
         counted c =
             cut-count (λ j. eqb (getD order j 0) 0) i 128 l (λ j k. ne-eqb (getD order j 0) 0 (some j k)) (λ j y k. eq-eqb (getD order j 0) 0 (zero-at c j y k))
+
+    -- both at once
+    abbrev closed? : Bool
+    closed? = eqb (countBelow none? places) (places - i) && eqb (countBelow (λ j. eqb (getD order j 0) 0) places) (places - i)
+
+    pub stop-closed : places ≤ placeOn order i → i < places → (r : Bool) → r ≡ closed? → not r ≡ true → false ≡ (properB b && inOrder b order)
+    stop-closed g m r f n =
+        ⊎-elim (λ y. ⊎-elim (λ z. absurd (true≢false (sym (both y z) ∙ sym f ∙ not-true r n))) (λ d. stop-zeros g m _ refl d)
+        (same? (countBelow (λ j. eqb (getD order j 0) 0) places) (places - i))) (λ d. stop-count g m _ refl d) (same? (countBelow none? places) (places - i))
+      where
+        both : countBelow none? places ≡ places - i → countBelow (λ j. eqb (getD order j 0) 0) places ≡ places - i → closed? ≡ true
+        both y z =
+            rw (eq-eqb (countBelow none? places) (places - i) y, eq-eqb (countBelow (λ j. eqb (getD order j 0) 0) places) (places - i) z)
+
+    pub is-closed : (r : Bool) → r ≡ closed? → not r ≡ false → (countBelow none? places ≡ places - i) × (countBelow (λ j. eqb (getD order j 0) 0) places ≡ places - i)
+    is-closed r f n =
+        let t = both-true (eqb (countBelow none? places) (places - i)) (eqb (countBelow (λ j. eqb (getD order j 0) 0) places) (places - i)) (said-yes r _ f n) in
+        (eqb-true _ _ (t .0), eqb-true _ _ (t .1))
 
     pub clear-at : (n : ℕ) → n ≡ countBelow (λ j. eqb (getD order j 0) 0) places → n ≡ places - i → (j : ℕ) → i ≤ j → j < places → getD order j 0 ≡ 0
     clear-at n e f j h k =

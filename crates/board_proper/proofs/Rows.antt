@@ -1,15 +1,17 @@
 -- The numbers of a row so far name places whose versions rise from above 0. Assumes nothing.
-use Prim.Native.Nat.{ℕ, zero, suc, _+_, _<_, _≤_, _%_, max}
+use Prim.Native.Nat.{ℕ, zero, suc, _+_, _<_, _≤_, max}
 use native.Mathlib.Omega.{arith}
 use mathlib.Core.Path.{_≡_, refl, sym, ap, _∙_}
+use mathlib.Core.Bool.{Bool, true, false, not, _&&_, _||_}
 use mathlib.Core.List.{List}
 use mathlib.Core.Logic.{_⊎_, inl, inr, ⊎-elim}
 use lib.ListN.{getD}
+use lib.Dec.{eqb, ltb}
+use borrow.Author.Tests.{eqb-true, eqb-false, ltb-true, ltb-false}
 use Rattle.board_record.specs.Sizes.{places}
-use Rattle.board_record.specs.Order.{named, placeOn}
-use Rattle.board_record.proofs.Logic.{same?, from?}
-use Rattle.board_order.proofs.Names.{named-none, named-some, named-place}
-use Rattle.board_proper.specs.Places.{Numbered}
+use Rattle.board_record.specs.Order.{placeOn}
+use Rattle.board_record.proofs.Logic.{true≢false, same?, from?}
+use Rattle.board_along.specs.Numbers.{lateB}
 
 -- the first i numbers of a row are places, their versions rise, and the last of these is `last`
 pub record Risen (vs order : List ℕ) (i last : ℕ) : Type 0 where
@@ -51,14 +53,6 @@ risen-once vs order n last r i j l m e =
     ⊎-elim (λ k. ⊎-elim (λ y. y) (λ d. absurd (omega (arith, r .up i j (omega (arith, d)) m, ap (λ (p : ℕ). getD vs p 0) e))) (same? i j))
     (λ k. absurd (omega (arith, r .up j i k l, ap (λ (p : ℕ). getD vs p 0) e))) (from? i j)
 
--- 1 less than a number, below 0 from the top again, is the place that it names
-pub less-one : (n r x : ℕ) → (r + 1) % 256 ≡ n → x < 256 → x ≡ r → Numbered n x
-less-one n r x e l q =
-    record {
-      is = λ h. let z : n ≡ x + 1 = omega arith in sym (ap named z ∙ named-place x);
-      none = λ h. ⊎-elim (λ z. omega (arith, named-none n z)) (λ d. omega (arith, named-some n d, d)) (same? n 0);
-    }
-
 -- the larger of the last version and the floor: a version above it is above both, and one that is not, but is above the last, is at most the floor
 pub record Bounded (floor last bound : ℕ) : Type 0 where
   pub last-in : last ≤ bound
@@ -75,9 +69,26 @@ bounded-more floor last bound v r k l e = record { last-in = omega arith; floor-
     older h (inl z) = absurd (omega arith)
     older h (inr z) = inr (omega arith)
 
-pub below-floor : (floor last bound v : ℕ) → Bounded floor last bound → v ≤ bound → last < v → v ≤ floor
-below-floor floor last bound v k h l = ⊎-elim (λ z. absurd (omega arith)) (λ z. omega arith) (k .is)
+-- a version that may not come behind the last one, and one that may
+pub not-late : (floor last bound v n : ℕ) → Bounded floor last bound → lateB last bound v n ≡ false → (v ≤ last) ⊎ ((v ≤ floor) × (n ≡ 0))
+unfolding lateB
+not-late floor last bound v n k t = go (ltb last v) refl (eqb n 0) refl (ltb bound v) refl t
+  where
+    go : (x : Bool) → ltb last v ≡ x → (y : Bool) → eqb n 0 ≡ y → (z : Bool) → ltb bound v ≡ z → (x && (not y || z)) ≡ false → (v ≤ last) ⊎ ((v ≤ floor) × (n ≡ 0))
+    go false e y f z g h = inl (omega (arith, ltb-false last v e))
+    go true e true f false g h =
+        let l = ltb-true last v e in
+        let m = ltb-false bound v g in
+        inr (⊎-elim (λ w. absurd (omega (arith, w, l, m))) (λ w. omega (arith, w, m)) (k .is), eqb-true n 0 f)
+    go true e true f true g h = absurd (true≢false h)
+    go true e false f z g h = absurd (true≢false h)
 
-pub above-both : (floor last bound v n : ℕ) → Bounded floor last bound → ((last < v) × (n ≡ 0 → ⊥)) ⊎ (bound < v) → (last < v) × (n ≡ 0 → floor < v)
-above-both floor last bound v n k (inl w) = (w .0, λ z. absurd (w .1 z))
-above-both floor last bound v n k (inr w) = (omega (arith, k .last-in), λ z. omega (arith, k .floor-in))
+pub is-late : (floor last bound v n : ℕ) → Bounded floor last bound → lateB last bound v n ≡ true → (last < v) × (n ≡ 0 → floor < v)
+unfolding lateB
+is-late floor last bound v n k t = go (ltb last v) refl (eqb n 0) refl (ltb bound v) refl t
+  where
+    go : (x : Bool) → ltb last v ≡ x → (y : Bool) → eqb n 0 ≡ y → (z : Bool) → ltb bound v ≡ z → (x && (not y || z)) ≡ true → (last < v) × (n ≡ 0 → floor < v)
+    go false e y f z g h = absurd (true≢false (sym h))
+    go true e true f false g h = absurd (true≢false (sym h))
+    go true e true f true g h = (ltb-true last v e, λ q. omega (arith, ltb-true bound v g, k .floor-in))
+    go true e false f z g h = (ltb-true last v e, λ q. absurd (eqb-false n 0 f q))

@@ -2,9 +2,6 @@
 // how large keys are is looked at for all places at once; then comes one pass along the order, which looks at each place that it
 // names, and a count of the places that are empty. Versions that rise along the order are distinct, and the last of a group is
 // its largest; that keys are distinct is seen by chains of a hash: each key is compared with those before it that have its hash.
-mod chain;
 mod pass;
-mod place;
-mod rest;
 
 pub use pass::is_proper;

@@ -1,34 +1,22 @@
-// The pass along the order. `heads[h]` is 1 more than the last number of the order whose key has the hash h, and `nexts` its
-// chain; `last` is the version of the place before, `bound` the larger of that and the floor: a version above it is above both,
-// which is one test. As versions rise, the last one met in a group is its largest: `seen`.
+// The pass along the order. `heads` and `nexts` are the chains of the keys so far, `last` is the version of the place before, `bound`
+// the larger of that and the floor. As versions rise, the last one met in a group is its largest: `seen`.
 ghost use mathlib.Core.Path.{_≡_};
 ghost use mathlib.Core.Bool.{_&&_};
 ghost use Rattle.board_record.specs.Table.{tableOf};
 ghost use Rattle.board_record.specs.Proper.{properB};
 ghost use Rattle.board_record.specs.Order.{inOrder};
 ghost use Rattle.board_record.specs.Tops.{inTops};
-ghost use Rattle.board_proper.specs.Places.{Numbered};
-use super::chain::fresh;
-use super::chain::slot;
-use super::place::bodies;
-use super::place::low;
-use super::rest::empties;
-use super::rest::zeros;
+use board_along::chained;
+use board_along::late;
+use board_along::numbered;
+use board_places::bodies;
+use board_places::closed;
+use board_places::low;
 use board_record::GROUP;
 use board_record::PLACES;
 use board_record::VERSION_MOST;
 use board_record::larger;
-use board_record::wide32;
 use board_tops::same;
-use octets::wide;
-use std::num::wrapping_sub_u8;
-
-// The place that a number of the order names; 128 or more where it names none.
-fn numbered(n: u8) -> usize
-    ensures place { λ r. ⌜ Numbered n r ⌝ }
-{
-    wide(wrapping_sub_u8(n, 1))
-}
 
 pub fn is_proper<'a>(
     keys: &'a [u32; 128],
@@ -68,34 +56,18 @@ pub fn is_proper<'a>(
             if top < last {
                 return false;
             }
-            if empties(keys, versions, lengths, forms) != PLACES - i {
-                return false;
-            }
-            if zeros(order) != PLACES - i {
+            if !closed(keys, versions, lengths, order, forms, i) {
                 return false;
             }
             return same(&seen, tops);
         }
         let v = versions[x];
-        if v <= bound {
-            if v <= last {
-                return false;
-            }
-            if lengths[x] == 0 {
-                return false;
-            }
-        }
-        let k = keys[x];
-        if k == 0 {
+        if !late(lengths, x, v, last, bound) {
             return false;
         }
-        let h = slot(wide32(k));
-        let p = heads[h];
-        if !fresh(keys, order, &nexts, i, k, wide(p)) {
+        if !chained(keys, order, &mut heads, &mut nexts, i, keys[x]) {
             return false;
         }
-        nexts[i] = p;
-        heads[h] = (i + 1) as u8;
         seen[x / GROUP] = v;
         last = v;
         bound = larger(bound, v);

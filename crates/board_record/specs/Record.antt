@@ -5,6 +5,7 @@ use mathlib.Core.List.{List}
 use Prim.Native.Nat.{ℕ}
 use lib.ListN.{replicate}
 use Rattle.board_record.specs.declared.record.Board.{Board}
+use Rattle.board_record.specs.Sizes.{places, groups}
 use Rattle.board_record.specs.Table.{Table, tableOf, emptyTable}
 use Rattle.board_record.specs.Order.{orderOf, inOrder}
 use Rattle.board_record.specs.Tops.{topsOf, inTops}
@@ -27,4 +28,4 @@ tidy b = inOrder (tableIn b) (b .order) && inTops (b .versions) (b .tops)
 
 -- the record at the start: every number of it is 0
 abbrev pub emptyBoard : Board
-emptyBoard = withRows emptyTable (replicate 128 0) (replicate 16 0)
+emptyBoard = withRows emptyTable (replicate places 0) (replicate groups 0)

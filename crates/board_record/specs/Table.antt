@@ -24,7 +24,7 @@ tableOf keys versions lengths version floor forms =
 
 -- "128 places, all empty at the start"; "Version and floor start at 0"
 abbrev pub emptyTable : Table
-emptyTable = tableOf (replicate 128 0) (replicate 128 0) (replicate 128 0) 0 0 (replicate 128 0)
+emptyTable = tableOf (replicate places 0) (replicate places 0) (replicate places 0) 0 0 (replicate places 0)
 
 -- its lists have a number for each place; the types of the code say so
 pub record Sized (b : Table) : Type 0 where

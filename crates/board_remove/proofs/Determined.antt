@@ -4,11 +4,8 @@ use mathlib.Core.Path.{_≡_}
 use mathlib.Core.List.{List}
 use Rattle.answers.specs.declared.verdict.Verdict.{Verdict}
 use Rattle.board_record.specs.declared.record.Board.{Board}
-use Rattle.board_rules.specs.OnRecord.{resultOf, removeOn, compactOn}
+use Rattle.board_rules.specs.OnRecord.{resultOf, removeOn}
 use Rattle.board_rules.proofs.OnRecord.{results-same}
 
 pub remove-determined : (b : Board) (store : List ℕ) (k : ℕ) (v w : Verdict) (c d : Board) → resultOf v c ≡ removeOn b store k → resultOf w d ≡ removeOn b store k → (v ≡ w) × (c ≡ d)
 remove-determined b store k v w c d p q = results-same (removeOn b store k) v w c d p q
-
-pub compact-determined : (b : Board) (store : List ℕ) (m : ℕ) (v w : Verdict) (c d : Board) → resultOf v c ≡ compactOn b store m → resultOf w d ≡ compactOn b store m → (v ≡ w) × (c ≡ d)
-compact-determined b store m v w c d p q = results-same (compactOn b store m) v w c d p q

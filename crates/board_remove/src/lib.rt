@@ -1,7 +1,5 @@
-// The board's calls that take a path or a mark away, on a record whose parts are lent (document 01, "The board"): each decides
-// on numbers, then stores in place. A refusal writes nothing.
-mod compacting;
+// The board's call that takes a path away, on a record whose parts are lent (document 01, "The board"): it decides on numbers, then
+// stores in place. A refusal writes nothing.
 mod removing;
 
-pub use compacting::compact;
 pub use removing::remove;

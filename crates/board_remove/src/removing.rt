@@ -7,12 +7,12 @@ ghost use Rattle.board_rules.specs.OnRecord.{resultOf, removeOn};
 use answers::NOT_A_BOARD;
 use answers::Verdict;
 use answers::refused;
-use board_order::move_last;
-use board_rules::is_board;
-use board_rules::length_at;
-use board_rules::remove_rules;
+use board_order_moves::move_last;
+use board_refusals::remove_rules;
 use board_search::place_of;
 use board_tops::raise;
+use board_whole::is_board;
+use board_whole::length_at;
 
 pub fn remove(
     keys: &[u32; 128],

@@ -6,7 +6,7 @@ use mathlib.Core.Path.{_≡_, refl, sym, ap, _∙_}
 use mathlib.Core.Bool.{Bool, true, false, not, cond, _&&_}
 use mathlib.Core.List.{List, []}
 use mathlib.Core.Logic.{_⊎_, ⊎-elim}
-use lib.ListN.{length, getD, set, take, drop, length-drop}
+use lib.ListN.{length, take, drop, length-drop}
 use lib.Dec.{eqb, ltb, leb}
 use borrow.Author.Tests.{eqb-true, eqb-false, ltb-false, leb-false}
 use Rattle.answers.specs.declared.verdict.Verdict.{Verdict}
@@ -18,14 +18,14 @@ use Rattle.session.specs.declared.Session.{Session}
 use Rattle.route.specs.Routes.{judgeOf}
 use Rattle.objects.specs.Objects.{header, srv6Setup, mplsSetup}
 use Rattle.board_record.specs.Sizes.{places, room, storeSize, keyLeast, keyMost, versionMost}
-use Rattle.board_record.specs.Table.{Table, tableOf}
+use Rattle.board_record.specs.Table.{Table, bearing, changed}
 use Rattle.board_record.specs.Search.{targetOf, floorAfter}
 use Rattle.board_record.specs.Proper.{properB}
 use Rattle.board_rules.specs.Rules.{isBoard, inRange, outcomeOf}
 use Rattle.board_rules.specs.Report.{bodyIn, reportRules, reportVerdict, reported, reportWith, storeWith, reportAnswer, reportStore}
 use Rattle.board_rules.proofs.Keeps.{BodyFits, body-fits, least-some}
 use Rattle.board_rules.proofs.Verdicts.{kept-old, kept-new, rule-passed, route-passed, range-passed}
-use Rattle.board_rules.proofs.Told.{board-not, board-is, board-room, version-room}
+use Rattle.board_rules.proofs.Told.{board-not, board-is, board-room}
 
 -- what the passed rules say
 pub record Passed (k : ℕ) (route : Verdict) (n top target : ℕ) : Type 0 where
@@ -92,15 +92,16 @@ module _ (b : Table) (store : List ℕ) (k : ℕ) (ero : List ℕ) (session : Se
   store-refused v e d = rw (← e, kept-old (v .number) store (placed store (room * targetOf b k) (bodyIn ero)) d)
 
   -- ---- accepted
-  reported-is : (at n f : ℕ) → at ≡ targetOf b k → n ≡ length ero - 4 → f ≡ floorAfter b k at
-      → tableOf (set (b .keys) at k) (set (b .versions) at (b .version + 1)) (set (b .lengths) at n) (b .version + 1) f (set (b .forms) at pst) ≡ reported b k ero pst
+  reported-is : (at n f : ℕ) → at ≡ targetOf b k → n ≡ length ero - 4 → f ≡ floorAfter b k at → changed b at (bearing b k n pst) f ≡ reported b k ero pst
   unfolding reported
   reported-is at n f p q r = rw (← p, length-drop 4 ero, q, r)
 
-  pub report-accepted : (at n f : ℕ) (v : Verdict) → v ≡ reportVerdict b store k ero (judgeOf ero true session pst) → v .number ≡ 0 → at ≡ targetOf b k → n ≡ length ero - 4 → f ≡ floorAfter b k at
-      → outcomeOf v (tableOf (set (b .keys) at k) (set (b .versions) at (b .version + 1)) (set (b .lengths) at n) (b .version + 1) f (set (b .forms) at pst)) ≡ reportAnswer b store k ero session pst
+  pub report-accepted : (at n f : ℕ) (d : Table) (v : Verdict) → v ≡ reportVerdict b store k ero (judgeOf ero true session pst) → v .number ≡ 0 → at ≡ targetOf b k → n ≡ length ero - 4
+      → f ≡ floorAfter b k at
+      → d ≡ changed b at (bearing b k n pst) f
+      → outcomeOf v d ≡ reportAnswer b store k ero session pst
   unfolding reportAnswer reportWith
-  report-accepted at n f v e z p q r = rw (← e, kept-new (v .number) b (reported b k ero pst) z, reported-is at n f p q r)
+  report-accepted at n f d v e z p q r g = rw (← e, kept-new (v .number) b (reported b k ero pst) z, g ∙ reported-is at n f p q r)
 
   pub store-accepted : (at from : ℕ) (v : Verdict) (after : List ℕ) → v ≡ reportVerdict b store k ero (judgeOf ero true session pst) → v .number ≡ 0 → at ≡ targetOf b k → from ≡ room * at
       → after ≡ placed store from (take (length ero - 4) (drop 4 ero))

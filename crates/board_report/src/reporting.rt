@@ -12,13 +12,12 @@ ghost use Rattle.board_rules.specs.OnRecord.{resultOf, reportOn, reportStoreOn}
 use answers::NOT_A_BOARD;
 use answers::Verdict;
 use answers::refused;
-use board_order::move_last;
-use board_rules::is_board;
-use board_rules::report_rules;
-use board_rules::start_of;
+use board_entry::enter;
+use board_refusals::report_rules;
 use board_search::floor_after;
 use board_search::target;
-use board_tops::raise;
+use board_whole::is_board;
+use board_whole::start_of;
 use objects::HEADER;
 use octets::lay;
 use route::judge;
@@ -74,15 +73,21 @@ pub fn report(
         return verdict;
     }
     let raised = floor_after(keys, versions, *floor, key, at);
-    let next = *version + 1;
-    move_last(keys, versions, lengths, *version, *floor, order, forms, at);
-    raise(versions, tops, at, next);
+    enter(
+        keys,
+        versions,
+        lengths,
+        version,
+        floor,
+        order,
+        tops,
+        forms,
+        at,
+        key as u32,
+        n as u16,
+        pst as u8,
+        raised,
+    );
     lay(store, start_of(at), &ero[HEADER..]);
-    keys[at] = key as u32;
-    versions[at] = next;
-    lengths[at] = n as u16;
-    forms[at] = pst as u8;
-    *version = next;
-    *floor = raised;
     verdict
 }

@@ -1,20 +1,8 @@
-// The board's calls (document 01, "The board"): what each answers, and its rules in their order, on numbers. Rule 17, the
-// first of each, is `is_board`; the other rules take a board for granted.
+// What the board's calls answer (document 01, "The board"). Their rules, answers and what each leaves are definitions (specs), over a
+// table and over a record with its rows; `board_whole` and `board_refusals` test the rules.
 mod answer;
-mod rule;
-mod whole;
 
 pub use answer::Change;
 pub use answer::Handed;
 pub use answer::Mark;
 pub use answer::Octets;
-pub use rule::body_rules;
-pub use rule::compact_rules;
-pub use rule::moved_rules;
-pub use rule::next_rules;
-pub use rule::remove_rules;
-pub use rule::report_rules;
-pub use whole::form_at;
-pub use whole::is_board;
-pub use whole::length_at;
-pub use whole::start_of;

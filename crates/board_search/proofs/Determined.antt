@@ -3,7 +3,7 @@ use Prim.Native.Nat.{ℕ}
 use mathlib.Core.Path.{_≡_, sym, _∙_}
 use mathlib.Core.List.{List}
 use Rattle.board_record.specs.Table.{Table}
-use Rattle.board_record.specs.Search.{placeIn, targetOf, floorAfter, nextOf}
+use Rattle.board_record.specs.Search.{placeIn, targetOf, floorAfter}
 
 pub place-determined : (keys : List ℕ) (k x y : ℕ) → x ≡ placeIn keys k → y ≡ placeIn keys k → x ≡ y
 place-determined keys k x y p q = p ∙ sym q
@@ -13,6 +13,3 @@ target-determined b k x y p q = p ∙ sym q
 
 pub floor-determined : (b : Table) (k i x y : ℕ) → x ≡ floorAfter b k i → y ≡ floorAfter b k i → x ≡ y
 floor-determined b k i x y p q = p ∙ sym q
-
-pub next-determined : (b : Table) (s w x y : ℕ) → x ≡ nextOf b s w → y ≡ nextOf b s w → x ≡ y
-next-determined b s w x y p q = p ∙ sym q

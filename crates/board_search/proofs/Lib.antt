@@ -1,6 +1,4 @@
 pub mod Keys
 pub mod Tracks
 pub mod Targets
-pub mod Along
 pub mod Determined
-pub mod Ranges

@@ -140,7 +140,7 @@ pub fn compact<'a>(
         let after = withRows (tableOf (now (keys .exit)) (now (versions .exit)) (now (lengths .entry)) version (now (floor .exit)) (now (forms .entry))) (now (order .exit)) (now (tops .exit)) in
         ⌜ after ≡ compactOn before (now (store .entry)) c .board ⌝ }
 {
-    let v = board_remove::compact(
+    let v = board_compact::compact(
         keys,
         versions,
         lengths,

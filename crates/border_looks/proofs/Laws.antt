@@ -14,7 +14,7 @@ use Rattle.board_record.specs.Table.{lengthAt, formAt}
 use Rattle.board_record.specs.Search.{placeOf}
 use Rattle.board_rules.specs.Rules.{lengthIn, formIn}
 use Rattle.board_rules.specs.OnRecord.{bodyNumberOn, bodyOn, bodyFormOn}
-use Rattle.board_look.proofs.Looks.{body-none-on, body-taken, body-on, body-here, body-is, form-none-on, form-on, form-is}
+use Rattle.board_body.proofs.Bodies.{body-none-on, body-taken, body-on, body-here, body-is, form-none-on, form-on, form-is}
 use Rattle.border_looks.specs.Looks.{partOut}
 
 -- ---- what stays after a refusal

@@ -51,7 +51,7 @@ pub fn body<'a>(
         let b = withRows (tableOf (now (keys .entry)) (now (versions .entry)) (now (lengths .entry)) version floor (now (forms .entry))) (now (order .entry)) (now (tops .entry)) in
         ⌜ r .form ≡ bodyFormOn b (now (store .entry)) key ⌝ }
 {
-    let verdict = board_look::body_number(
+    let verdict = board_body::body_number(
         keys,
         versions,
         lengths,
@@ -75,8 +75,8 @@ pub fn body<'a>(
     PartRecord {
         number: 0,
         start: board_record::ROOM * at,
-        length: board_rules::length_at(lengths, at),
-        form: board_rules::form_at(forms, at),
+        length: board_whole::length_at(lengths, at),
+        form: board_whole::form_at(forms, at),
     }
 }
 

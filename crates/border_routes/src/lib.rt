@@ -20,7 +20,7 @@ fn judged(octets: &[u8], kind: bool, session: SessionRecord, pst: u64, addresses
         return route_call::judge_in(octets, kind, own, pst, addresses);
     }
     let plain = border_session::plain_under(session, pst);
-    route_call::judge_in(octets, kind, plain, pst, addresses)
+    route_call::judge_plain(octets, kind, plain, pst, addresses)
 }
 
 // The verdict on a route under a session and a setup type. An acceptance is laid out by its counts alone, which is

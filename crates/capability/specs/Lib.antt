@@ -1,3 +1,1 @@
-pub mod SetupTypes
 pub mod Srv6
-pub mod Mpls

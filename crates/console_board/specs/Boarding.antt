@@ -1,17 +1,17 @@
 -- The commands about the board (console.md, the table's last rows).
 use Prim.Native.Nat.{ℕ, _*_}
-use mathlib.Core.Bool.{cond}
-use mathlib.Core.List.{List, [], _∷_}
-use lib.Dec.{eqb}
+use mathlib.Core.List.{List}
 use Rattle.session.specs.declared.Sessions.{Sessions}
 use Rattle.octets.specs.Octets.{part}
 use Rattle.board_record.specs.declared.record.Board.{Board}
 use Rattle.board_record.specs.Sizes.{room}
-use Rattle.board_record.specs.Order.{named}
 use Rattle.board_rules.specs.declared.answer.Handed.{Handed}
 use Rattle.board_rules.specs.declared.answer.Handed.the-variants.{Refused, Path, Removed, Level}
-use Rattle.board_by_value.specs.ByValue.{reportOn, reportStoreOn, removeOn, compactOn, bodyNumberOn, bodyOn, bodyFormOn, nextOn, movedOn, freshMarkOn}
+use Rattle.board_by_value.specs.ByValue.{removeOn, compactOn}
+use Rattle.board_report_by_value.specs.ByValue.{reportOn, reportStoreOn}
+use Rattle.board_look_by_value.specs.ByValue.{bodyNumberOn, bodyOn, bodyFormOn, nextOn, movedOn, freshMarkOn}
 use Rattle.command.specs.declared.Command.{Command}
+use Rattle.console_chain.specs.Chain.{chainOf}
 use Rattle.console_lines.specs.Lines.{refusalLine, oneLine, formLine, listLine, pathLine, removedLine, levelLine, twoLine}
 use Rattle.console_state.specs.Answers.{answerLine, countLine, plainLine}
 use Rattle.console_state.specs.Spelled.{octetsIn}
@@ -73,11 +73,6 @@ markLine b = twoLine (freshMarkOn b .s) (freshMarkOn b .w)
 -- `board`: "the board's numbers"; `0 0 VERSION FLOOR`
 abbrev pub boardLine : Board → List ℕ
 boardLine b = twoLine (b .version) (b .floor)
-
--- the places that an order names, up to the first number that names none
-unfoldable pub chainOf : List ℕ → List ℕ
-chainOf [] = []
-chainOf (n ∷ ns) = cond (eqb n 0) [] (named n ∷ chainOf ns)
 
 -- `chain`: "the used places from the oldest change to the newest"; `0 0 PLACES`
 abbrev pub chainLine : Board → List ℕ

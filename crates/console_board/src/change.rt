@@ -3,6 +3,7 @@ ghost use Prim.Native.Nat.{_*_, _≤_};
 ghost use mathlib.Core.Path.{_≡_};
 ghost use lib.ListN.{length};
 ghost use Rattle.printing.specs.Text.{Behind};
+ghost use Rattle.console_lines.specs.Lines.{short};
 ghost use Rattle.console_state.specs.Standing.{listIn};
 ghost use Rattle.console_board.specs.Boarding.{reportTurn, removeTurn, compactTurn};
 use board_record::Board;
@@ -29,14 +30,14 @@ pub fn reported(
     room: &mut [u8],
     out: &mut [u8],
 ) -> Boarded
-    requires { ⌜ (length (now line) ≤ 2 * length (now room)) × (128 ≤ length (now out)) ⌝ }
+    requires { ⌜ (length (now line) ≤ 2 * length (now room)) × (short ≤ length (now out)) ⌝ }
     ensures board { λ r. ⌜ r .board ≡ reportTurn b (now (store .entry)) both (listIn given (now (memory .entry))) c (now (line .entry)) .board ⌝ }
     ensures store { λ r. ⌜ now (store .exit) ≡ reportTurn b (now (store .entry)) both (listIn given (now (memory .entry))) c (now (line .entry)) .store ⌝ }
     ensures told { λ r. ⌜ Behind (now (out .entry)) (now (out .exit)) 0 (r .end) (reportTurn b (now (store .entry)) both (listIn given (now (memory .entry))) c (now (line .entry)) .answer) ⌝ }
 {
     let n = octets_at(line, 3, room);
     let list = listed(memory, given);
-    let a = board_by_value::report(b, store, c.one, &room[..n], both, c.two, list);
+    let a = board_report_by_value::report(b, store, c.one, &room[..n], both, c.two, list);
     let v = a.verdict;
     let after = a.board;
     Boarded {
@@ -47,7 +48,7 @@ pub fn reported(
 
 // `remove KEY`
 pub fn removed(b: Board, c: Command, store: &[u8], out: &mut [u8]) -> Boarded
-    requires { ⌜ 128 ≤ length (now out) ⌝ }
+    requires { ⌜ short ≤ length (now out) ⌝ }
     ensures board { λ r. ⌜ r .board ≡ removeTurn b (now (store .entry)) c .board ⌝ }
     ensures told { λ r. ⌜ Behind (now (out .entry)) (now (out .exit)) 0 (r .end) (removeTurn b (now (store .entry)) c .answer) ⌝ }
 {
@@ -62,7 +63,7 @@ pub fn removed(b: Board, c: Command, store: &[u8], out: &mut [u8]) -> Boarded
 
 // `compact C`
 pub fn compacted(b: Board, c: Command, store: &[u8], out: &mut [u8]) -> Boarded
-    requires { ⌜ 128 ≤ length (now out) ⌝ }
+    requires { ⌜ short ≤ length (now out) ⌝ }
     ensures board { λ r. ⌜ r .board ≡ compactTurn b (now (store .entry)) c .board ⌝ }
     ensures told { λ r. ⌜ Behind (now (out .entry)) (now (out .exit)) 0 (r .end) (compactTurn b (now (store .entry)) c .answer) ⌝ }
 {

@@ -1,64 +1,65 @@
 // body, next, moved, mark, board, chain: the line.
 ghost use Prim.Native.Nat.{_+_, _*_, _≤_};
 ghost use mathlib.Core.Path.{_≡_};
-ghost use lib.ListN.{length, take};
+ghost use lib.ListN.{length};
 ghost use Rattle.octets.specs.Octets.{part};
-ghost use Rattle.board_record.specs.Sizes.{places};
+ghost use Rattle.board_record.specs.Sizes.{places, room};
 ghost use Rattle.printing.specs.Text.{Behind};
-ghost use Rattle.console_board.specs.Boarding.{bodyLine, nextLine, movedLine, markLine, boardLine, chainOf, chainLine};
+ghost use Rattle.console_lines.specs.Lines.{short};
+ghost use Rattle.console_board.specs.Boarding.{bodyLine, nextLine, movedLine, markLine, boardLine, chainLine};
 use board_record::Board;
 use board_rules::Handed;
 use command::Command;
 
 // `body KEY`
 pub fn body(b: Board, c: Command, store: &[u8], out: &mut [u8]) -> usize
-    requires { ⌜ 2 * length (now store) + 128 ≤ length (now out) ⌝ }
+    requires { ⌜ 2 * length (now store) + short ≤ length (now out) ⌝ }
     ensures told { λ r. ⌜ Behind (now (out .entry)) (now (out .exit)) 0 r (bodyLine b (now (store .entry)) c) ⌝ }
 {
-    let v = board_by_value::body_number(b, store, c.one);
+    let v = board_look_by_value::body_number(b, store, c.one);
     if v.number != 0 {
         return console_lines::refusal(out, v.number, v.place);
     }
-    let form = board_by_value::body_form(b, store, c.one);
-    let path = board_by_value::body(b, store, c.one);
-    console_lines::formed(out, form as u64, path)
+    let form = board_look_by_value::body_form(b, store, c.one);
+    let path = board_look_by_value::body(b, store, c.one);
+    console_accepted::formed(out, form as u64, path)
 }
 
 // `next S W`
 pub fn next(b: Board, c: Command, store: &[u8], out: &mut [u8]) -> usize
-    requires { ⌜ 2 * length (now store) + 128 ≤ length (now out) ⌝ }
+    requires { ⌜ 2 * length (now store) + short ≤ length (now out) ⌝ }
     ensures told { λ r. ⌜ Behind (now (out .entry)) (now (out .exit)) 0 r (nextLine b (now (store .entry)) c) ⌝ }
 {
-    match board_by_value::next(b, store, c.one, c.two) {
+    match board_look_by_value::next(b, store, c.one, c.two) {
         Handed::Refused(v) => console_lines::refusal(out, v.number, v.place),
-        Handed::Path(change, path) => console_lines::path(
+        Handed::Path(change, path) => console_accepted::path(
             out,
             change.key,
             change.version,
             path.form as u64,
             named(store, path.place, path.length),
         ),
-        Handed::Removed(change) => console_lines::removed(out, change.key, change.version),
-        Handed::Level(version) => console_lines::level(out, version),
+        Handed::Removed(change) => console_accepted::removed(out, change.key, change.version),
+        Handed::Level(version) => console_accepted::level(out, version),
     }
 }
 
 // `moved A B V`
 pub fn moved(b: Board, c: Command, store: &[u8], out: &mut [u8]) -> usize
-    requires { ⌜ 128 ≤ length (now out) ⌝ }
+    requires { ⌜ short ≤ length (now out) ⌝ }
     ensures told { λ r. ⌜ Behind (now (out .entry)) (now (out .exit)) 0 r (movedLine b (now (store .entry)) c) ⌝ }
 {
-    let v = board_by_value::moved(b, store, c.one, c.two, c.three);
+    let v = board_look_by_value::moved(b, store, c.one, c.two, c.three);
     if v.number != 0 {
         return console_lines::refusal(out, v.number, v.place);
     }
-    console_lines::one(out, v.count as u64)
+    console_accepted::one(out, v.count as u64)
 }
 
 // The octets that a place and a length name.
 fn named(store: &[u8], place: usize, n: usize) -> &[u8]
-    requires { ⌜ 384 * place + n ≤ length (now store) ⌝ }
-    ensures named { λ r. ⌜ now r ≡ part (now (store .entry)) (384 * place) n ⌝ }
+    requires { ⌜ room * place + n ≤ length (now store) ⌝ }
+    ensures named { λ r. ⌜ now r ≡ part (now (store .entry)) (room * place) n ⌝ }
 {
     let from = board_record::ROOM * place;
     let to = from + n;
@@ -67,46 +68,28 @@ fn named(store: &[u8], place: usize, n: usize) -> &[u8]
 
 // `mark`: a fresh one.
 pub fn mark(b: Board, out: &mut [u8]) -> usize
-    requires { ⌜ 128 ≤ length (now out) ⌝ }
+    requires { ⌜ short ≤ length (now out) ⌝ }
     ensures told { λ r. ⌜ Behind (now (out .entry)) (now (out .exit)) 0 r (markLine b) ⌝ }
 {
-    let m = board_by_value::fresh_mark(b);
-    console_lines::two(out, m.s, m.w)
+    let m = board_look_by_value::fresh_mark(b);
+    console_accepted::two(out, m.s, m.w)
 }
 
 // `board`: version and floor.
 pub fn numbers(b: Board, out: &mut [u8]) -> usize
-    requires { ⌜ 128 ≤ length (now out) ⌝ }
+    requires { ⌜ short ≤ length (now out) ⌝ }
     ensures told { λ r. ⌜ Behind (now (out .entry)) (now (out .exit)) 0 r (boardLine b) ⌝ }
 {
-    console_lines::two(out, b.version, b.floor)
-}
-
-// The places that the numbers of an order name go to the front of `row`; how many they are.
-fn along(order: &[u8], row: &mut [u8]) -> usize
-    requires { ⌜ (length (now order) ≡ places) × (length (now row) ≡ places) ⌝ }
-    ensures named { λ r. ⌜ take r (now (row .exit)) ≡ chainOf (now (order .entry)) ⌝ }
-    ensures within { λ r. ⌜ r ≤ places ⌝ }
-{
-    let mut i: usize = 0;
-    while i < board_record::PLACES {
-        let n = order[i];
-        if n == 0 {
-            return i;
-        }
-        row[i] = n - 1;
-        i += 1;
-    }
-    i
+    console_accepted::two(out, b.version, b.floor)
 }
 
 // `chain`: the used places from the oldest change to the newest.
 pub fn chain(b: Board, out: &mut [u8]) -> usize
-    requires { ⌜ 21 * places + 128 ≤ length (now out) ⌝ }
+    requires { ⌜ 21 * places + short ≤ length (now out) ⌝ }
     ensures told { λ r. ⌜ Behind (now (out .entry)) (now (out .exit)) 0 r (chainLine b) ⌝ }
 {
     let order = b.order;
     let mut row = [0u8; 128];
-    let n = along(&order, &mut row);
-    console_lines::list(out, &row[..n])
+    let n = console_chain::along(&order, &mut row);
+    console_accepted::list(out, &row[..n])
 }

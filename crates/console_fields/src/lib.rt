@@ -7,81 +7,20 @@ ghost use lib.ListN.{length, take};
 ghost use Rattle.forms.specs.Forms.{naiLength};
 ghost use Rattle.forms.specs.Sized.{Sized};
 ghost use Rattle.printing.specs.Text.{Behind, spaced, octetsText};
-ghost use Rattle.msd.specs.Msd.{depthIn};
-ghost use Rattle.console_lines.specs.Lines.{short, furtherWords};
-ghost use Rattle.console_fields.specs.Shown.{long, bitOf, limitText, depthText, mplsWords, flagWords, openLine, openedLine, structureText, strayWords, labelWords, segmentLine};
+ghost use Rattle.console_fields.specs.Shown.{long, openLine, openedLine, structureText, segmentLine};
+use console_ends::NONE;
+use console_ends::bit;
+use console_ends::flags_end;
+use console_ends::labels_end;
+use console_ends::limit_field;
 use console_lines::ACCEPTED;
-use console_lines::END;
 use forms::Form;
-use msd::ABSENT;
-use session::Limit;
 use session::Opened;
 use subobject::Segment;
 use subobject_strays::Strays;
 use words::COMMA;
-use words::DASH;
-use words::SPACE;
 
 const JOINT: [u8; 1] = [COMMA];
-
-// ` -`
-const NONE: [u8; 2] = [SPACE, DASH];
-
-fn bit(b: bool) -> u64
-    ensures bit { λ r. ⌜ r ≡ bitOf b ⌝ }
-{
-    if b { 1 } else { 0 }
-}
-
-// A space and a number, or `-`.
-fn limit_field(out: &mut [u8], at: usize, limit: Limit) -> usize
-    requires { ⌜ at + 21 ≤ length (now out) ⌝ }
-    ensures behind { λ r. ⌜ Behind (now (out .entry)) (now (out .exit)) at r (spaced (limitText limit)) ⌝ }
-    ensures short { λ r. ⌜ r ≤ at + 21 ⌝ }
-{
-    match limit {
-        Limit::Free => printing::push(out, at, &NONE),
-        Limit::Most(n) => printing::field(out, at, n as u64),
-    }
-}
-
-// A space and a number, or `-`.
-fn depth_field(out: &mut [u8], at: usize, d: usize) -> usize
-    requires { ⌜ at + 21 ≤ length (now out) ⌝ }
-    ensures behind { λ r. ⌜ Behind (now (out .entry)) (now (out .exit)) at r (spaced (depthText (depthIn d))) ⌝ }
-    ensures short { λ r. ⌜ r ≤ at + 21 ⌝ }
-{
-    if ABSENT <= d {
-        return printing::push(out, at, &NONE);
-    }
-    printing::field(out, at, d as u64)
-}
-
-// ` MPLS MN MLIMIT`, and the end of the line.
-fn mpls_end(out: &mut [u8], at: usize, o: Opened) -> usize
-    requires { ⌜ at + 64 ≤ length (now out) ⌝ }
-    ensures behind { λ r. ⌜ Behind (now (out .entry)) (now (out .exit)) at r (furtherWords (mplsWords o)) ⌝ }
-    ensures short { λ r. ⌜ r ≤ at + 64 ⌝ }
-{
-    let end = printing::field(out, at, bit(o.mpls));
-    let end = printing::field(out, end, bit(o.mplsn));
-    let limit = o.mplslimit;
-    let end = limit_field(out, end, limit);
-    printing::push(out, end, &END)
-}
-
-// ` A R V M MPLS MN MLIMIT`, and the end of the line.
-fn flags_end(out: &mut [u8], at: usize, o: Opened) -> usize
-    requires { ⌜ at + 160 ≤ length (now out) ⌝ }
-    ensures behind { λ r. ⌜ Behind (now (out .entry)) (now (out .exit)) at r (furtherWords (flagWords o)) ⌝ }
-    ensures short { λ r. ⌜ r ≤ at + 160 ⌝ }
-{
-    let end = printing::field(out, at, bit(o.a));
-    let end = printing::field(out, end, bit(o.r));
-    let end = depth_field(out, end, o.v);
-    let end = depth_field(out, end, o.m);
-    mpls_end(out, end, o)
-}
 
 // `0 0 SRV6 N LIMIT A R V M MPLS MN MLIMIT`
 fn carried(out: &mut [u8], o: Opened) -> usize
@@ -164,29 +103,6 @@ fn nai_field(out: &mut [u8], at: usize, form: Form, nt: usize, nai: [u8; 40]) ->
 {
     let n = forms::nai_length(form, nt);
     printing::octets_field(out, at, &nai[..n])
-}
-
-// ` FLAGS SFLAGS RESERVED`, and the end of the line.
-fn strays_end(out: &mut [u8], at: usize, x: Strays) -> usize
-    requires { ⌜ at + 64 ≤ length (now out) ⌝ }
-    ensures behind { λ r. ⌜ Behind (now (out .entry)) (now (out .exit)) at r (furtherWords (strayWords x)) ⌝ }
-    ensures short { λ r. ⌜ r ≤ at + 64 ⌝ }
-{
-    let end = printing::field(out, at, x.flags as u64);
-    let end = printing::field(out, end, x.structure as u64);
-    let end = printing::field(out, end, bit(x.reserved));
-    printing::push(out, end, &END)
-}
-
-// ` M C FLAGS SFLAGS RESERVED`, and the end of the line.
-fn labels_end(out: &mut [u8], at: usize, m: bool, c: bool, x: Strays) -> usize
-    requires { ⌜ at + 106 ≤ length (now out) ⌝ }
-    ensures behind { λ r. ⌜ Behind (now (out .entry)) (now (out .exit)) at r (furtherWords (labelWords m c x)) ⌝ }
-    ensures short { λ r. ⌜ r ≤ at + 106 ⌝ }
-{
-    let end = printing::field(out, at, bit(m));
-    let end = printing::field(out, end, bit(c));
-    strays_end(out, end, x)
 }
 
 // `0 0 L V NT BEHAVIOUR SID NAI STRUCTURE M C FLAGS SFLAGS RESERVED`, of a segment of a form

@@ -2,6 +2,7 @@
 ghost use mathlib.Core.Path.{_≡_};
 ghost use Rattle.printing.specs.Text.{Behind};
 ghost use Rattle.console_input.specs.Hearing.{Ready, heardOf, lineEnded, turnNow};
+use console_part::numbered;
 use console_state::State;
 use console_turn::answered;
 
@@ -33,7 +34,7 @@ pub fn answer(
     ensures begun { λ r. ⌜ r .hearing .kept ≡ 0 ⌝ }
 {
     let kept = h.kept;
-    let lines = std::num::wrapping_add_u64(h.lines, 1);
+    let lines = numbered(h.lines);
     let before = h.state;
     let turn = answered(before, &line[..kept], lines, store, memory, room, out);
     let after = turn.state;

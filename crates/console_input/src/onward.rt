@@ -7,7 +7,7 @@ ghost use Rattle.console_input.specs.Hearing.{Ready, heardOf, hearAll, s
 use crate::heard::Hearing;
 use crate::heard::answer;
 use crate::line::keep;
-use words::NEWLINE;
+use console_part::part as part_of;
 
 // What has been heard, the end of the answer in `out`, and where to go on in what was read.
 pub struct Onward {
@@ -32,7 +32,7 @@ pub fn take_in(
     ensures said { λ r. ⌜ take (r .end) (now (out .exit)) ++ sayAll (heardOf (r .hearing) (now (line .exit)) (now (store .exit)) (now (memory .exit))) (drop (r .next) (now (read .entry))) ≡ sayAll (heardOf h (now (line .entry)) (now (store .entry)) (now (memory .entry))) (drop at (now (read .entry))) ⌝ }
     ensures within { λ r. ⌜ (at < r .next) × (r .next ≤ length (now (read .entry))) × (r .hearing .kept ≤ length (now (line .entry))) × (r .end ≤ length (now (out .entry))) ⌝ }
 {
-    let part = words::word(&read[at..], NEWLINE, 0);
+    let part = part_of(read, at);
     let end = at + part.len();
     let kept = keep(line, h.kept, part);
     let state = h.state;

@@ -14,7 +14,7 @@ pub fn counted(out: &mut [u8], v: Verdict) -> usize
     if v.number != 0 {
         return console_lines::refusal(out, v.number, v.place);
     }
-    console_lines::two(out, v.count as u64, v.stray as u64)
+    console_accepted::two(out, v.count as u64, v.stray as u64)
 }
 
 // `0 0`, or the refusal.
@@ -25,5 +25,5 @@ pub fn plain(out: &mut [u8], v: Verdict) -> usize
     if v.number != 0 {
         return console_lines::refusal(out, v.number, v.place);
     }
-    console_lines::done(out)
+    console_accepted::done(out)
 }

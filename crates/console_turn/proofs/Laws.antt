@@ -7,7 +7,6 @@ use lib.Seq.{take-at, drop-at}
 use Rattle.positions.specs.declared.Setup.{Setup}
 use Rattle.command_forms.specs.Forms.{mostSize}
 use Rattle.session.specs.declared.Opened.{Opened}
-use Rattle.session.specs.declared.Sessions.{Sessions}
 use Rattle.board_record.specs.declared.record.Board.{Board}
 use Rattle.writer.specs.declared.state.Writer.{Writer}
 use Rattle.printing.specs.Text.{Behind}
@@ -42,11 +41,6 @@ does w {s} {c = c} {store} {memory} {line} {store′} {memory′} {before} {afte
     }
 
 -- ## What `refl` does not compute
-
--- The session that was agreed is the console's.
-pub under : (f : Sessions → List ℕ → Command → List ℕ → List ℕ) (addresses : List ℕ) {s t : Sessions} {c : Command} {line : List ℕ} → s ≡ t
-    → f s addresses c line ≡ f t addresses c line
-under f addresses {c = c} {line = line} e = ap (λ (x : Sessions). f x addresses c line) e
 
 -- The console part by part, after a command that changes it.
 pub parts : {board b : Board} {store s : List ℕ} {pcc o pce p : Opened} {writer w : Writer} {lent l : List ℕ} {at : Setup} {addresses list : List ℕ}

@@ -1,2 +1,2 @@
-pub mod Formed
 pub mod Laws
+pub mod Rows

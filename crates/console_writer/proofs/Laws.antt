@@ -1,9 +1,9 @@
 -- Laws of the writer's commands, in the order of specs/Composing.
 use Prim.Native.Nat.{ℕ, zero, suc, _+_, _<_, min}
 use mathlib.Core.Path.{_≡_, refl}
-use mathlib.Core.Bool.{Bool, true, false, cond, not}
+use mathlib.Core.Bool.{Bool, true, false, cond}
 use mathlib.Core.List.{List, _++_, append-nil}
-use lib.Dec.{eqb, ltb, leb}
+use lib.Dec.{ltb, leb}
 use lib.ListN.{length, take, drop, set, replicate, length-replicate, getD-replicate, drop-of-length-le}
 use lib.Seq.{take-at, take-all}
 use native.Mathlib.Omega.{arith}
@@ -12,11 +12,7 @@ use Rattle.answers.specs.Verdicts.{kept}
 use Rattle.octets.proofs.Laws.{copied, copied-more}
 use Rattle.writer.specs.declared.state.Writer.{Writer}
 use Rattle.writer.specs.Writing.{beginNumber, beginAnswer, answered}
-use Rattle.words.specs.Words.{space, wordOf}
-use Rattle.decimal.specs.Decimal.{isNone, structureOf}
-use Rattle.command.specs.declared.Command.{Command}
-use Rattle.command.specs.Commands.{numberAt}
-use Rattle.console_writer.specs.Composing.{freshOctet, freshBuffer, sidIn, naiIn, segmentIn}
+use Rattle.console_writer.specs.Composing.{freshOctet, freshBuffer}
 
 -- ## The part of a memory that is lent
 
@@ -74,29 +70,3 @@ kept-old (suc n) old new h = refl
 pub kept-new : {A : Type 0} (n : ℕ) (old new : A) → n ≡ 0 → new ≡ kept n old new
 kept-new zero old new h = refl
 kept-new (suc n) old new h = absurd (omega arith)
-
--- ## Add
-
-pub segment-made : (c : Command) (line : List ℕ) {sid nai structure : List ℕ} {bare plain : Bool} {m k : ℕ}
-    → sid ≡ sidIn line
-    → nai ≡ naiIn line
-    → bare ≡ isNone (wordOf space line 5)
-    → plain ≡ isNone (wordOf space line 7)
-    → structure ≡ structureOf (wordOf space line 7)
-    → m ≡ numberAt line 8
-    → k ≡ numberAt line 9
-    → record {
-      loose = eqb (c .one) 1;
-      verify = eqb (c .two) 1;
-      nt = c .three;
-      behaviour = c .four;
-      hassid = not bare;
-      sid = sid;
-      nai = nai;
-      structured = not plain;
-      structure = structure;
-      labelled = eqb m 1;
-      complete = eqb k 1;
-    } ≡ segmentIn c line
-unfolding segmentIn
-segment-made c line a b d e f g h = cc

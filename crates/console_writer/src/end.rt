@@ -35,7 +35,7 @@ fn close(part: &mut [u8], old: Writer, out: &mut [u8]) -> Closed
     let n = fit(new.at, part);
     Closed {
         writer: new,
-        end: console_lines::octets(out, &part[..n]),
+        end: console_accepted::octets(out, &part[..n]),
     }
 }
 
@@ -60,5 +60,5 @@ pub fn shown(size: usize, memory: &[u8], out: &mut [u8]) -> usize
     ensures told { λ r. ⌜ Behind (now (out .entry)) (now (out .exit)) 0 r (lentLine (take size (now (memory .entry)))) ⌝ }
 {
     let n = fit(size, memory);
-    console_lines::octets(out, &memory[..n])
+    console_accepted::octets(out, &memory[..n])
 }

@@ -5,11 +5,12 @@ ghost use lib.ListN.{length, take};
 ghost use Rattle.printing.specs.Text.{Behind};
 ghost use Rattle.console_lines.specs.Lines.{short};
 ghost use Rattle.console_state.specs.Rooms.{Spells};
-ghost use Rattle.console_writer.specs.Composing.{addTurn, AddForm};
-use crate::word::segment_in;
+ghost use Rattle.console_add.specs.Added.{AddForm};
+ghost use Rattle.console_writer.specs.Composing.{addTurn};
 use crate::wrote::Composed;
 use crate::wrote::placed;
 use command::Command;
+use console_add::segment_in;
 use console_state::fit;
 use writer::Writer;
 

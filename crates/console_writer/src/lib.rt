@@ -3,7 +3,6 @@
 mod begin;
 mod end;
 mod grow;
-mod word;
 mod wrote;
 
 pub use begin::begun;

@@ -24,5 +24,5 @@ pub fn placed(out: &mut [u8], w: Written) -> usize
         return console_lines::refusal(out, v.number, v.place);
     }
     let writer = w.writer;
-    console_lines::one(out, writer.at as u64)
+    console_accepted::one(out, writer.at as u64)
 }

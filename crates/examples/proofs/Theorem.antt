@@ -7,9 +7,9 @@ use Rattle.answers.specs.Numbers.{notAgreed}
 use Rattle.answers.specs.Verdicts.{refusedBy}
 use Rattle.session.specs.Sessions.{sessionOf, mplsSessionOf, sessionUnder}
 use Rattle.tlvs.specs.Tlvs.{tlvsIn, tlvsOf}
-use Rattle.capability.specs.SetupTypes.{listSize, listsType}
+use Rattle.setup_types.specs.SetupTypes.{listSize, listsType}
 use Rattle.msd.specs.Msd.{knownMsd}
-use Rattle.capability.specs.Mpls.{mplsSizedOf, mplsNOf, mplsXOf, depthOf, depthless, mplsLimitOf}
+use Rattle.capability_mpls.specs.Mpls.{mplsSizedOf, mplsNOf, mplsXOf, depthOf, depthless, mplsLimitOf}
 use Rattle.capability.specs.Srv6.{sizedOf, nOf, xOf, aOf, rOf, wrongOf, hEncapsOf, segmentsLeftOf, limitOf}
 use Rattle.positions.specs.Positions.{usableSetup, flagAt}
 use Rattle.open.specs.Open.{

@@ -4,7 +4,7 @@ use mathlib.Core.Bool.{true, false}
 use mathlib.Core.List.{List, [], _∷_, _++_}
 use lib.ListN.{set}
 use Rattle.objects.specs.Objects.{mplsSetup, srv6Setup}
-use Rattle.answers.specs.Numbers.{wrongMsd, lengthWrong, sidNeeded, tooManySegments, noSrv6, labelValue, labelFormat}
+use Rattle.answers.specs.Numbers.{wrongMsd, lengthWrong, sidNeeded, tooManySegments, noneOfForm, labelValue, labelFormat}
 use Rattle.answers.specs.Verdicts.{refusedBy, acceptedWith}
 use Rattle.session.specs.declared.Limit.the-variants.{Most}
 use Rattle.session.specs.declared.Sessions.{Sessions}
@@ -95,7 +95,7 @@ mplsAnswers =
     ∷ judged (acceptedWith 1)
     ∷ judged (refusedBy lengthWrong 4)
     ∷ judged (refusedBy tooManySegments 20)
-    ∷ judged (refusedBy noSrv6 0)
-    ∷ judged (refusedBy noSrv6 0)
-    ∷ judged (refusedBy noSrv6 0)
+    ∷ judged (refusedBy noneOfForm 0)
+    ∷ judged (refusedBy noneOfForm 0)
+    ∷ judged (refusedBy noneOfForm 0)
     ∷ []

@@ -5,7 +5,7 @@ use mathlib.Core.List.{List, [], _∷_, _++_}
 use lib.ListN.{set}
 use Rattle.objects.specs.Objects.{mplsSetup, srv6Setup}
 use Rattle.answers.specs.declared.verdict.Verdict.{Verdict}
-use Rattle.answers.specs.Numbers.{wrongMsd, lengthWrong, nothingThere, structureTooLong, noSrv6}
+use Rattle.answers.specs.Numbers.{wrongMsd, lengthWrong, nothingThere, structureTooLong, noneOfForm}
 use Rattle.answers.specs.Verdicts.{refusedBy, acceptedWith}
 use Rattle.session.specs.declared.Limit.the-variants.{Free, Most}
 use Rattle.session.specs.declared.Opened.{Opened}
@@ -73,7 +73,7 @@ answers =
     ∷ opened (openCarries false false Free false false absent absent)
     ∷ opened (openRefused wrongMsd srv6Setup)
     ∷ judged (acceptedWith 1)
-    ∷ judged (refusedBy noSrv6 0)
+    ∷ judged (refusedBy noneOfForm 0)
     ∷ judged (refusedBy nothingThere 4)
     ∷ judged (refusedBy lengthWrong 4)
     ∷ judged (acceptedWith 1)

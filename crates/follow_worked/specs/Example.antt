@@ -8,6 +8,7 @@ use mathlib.Core.Option.{Option, none, some}
 use lib.ListN.{replicate}
 use lib.Dec.{eqb}
 use Rattle.answers.specs.Numbers.{markTooOld}
+use Rattle.board_record.specs.Sizes.{storeSize}
 use Rattle.board_record.specs.Table.{emptyTable}
 use Rattle.board_rules.specs.Next.{nextAnswer}
 use Rattle.msd.specs.Msd.{absent}
@@ -66,7 +67,7 @@ calls = report keyA objectA both srv6Setup [] ∷ report keyB objectB both mplsS
 
 -- the empty table with a store of 49,152 octets, every follower fresh
 abbrev pub dawn : World
-dawn = start emptyTable (replicate 49152 0) (allFresh emptyTable)
+dawn = start emptyTable (replicate storeSize 0) (allFresh emptyTable)
 
 -- after the three calls, and after the compaction
 abbrev pub noon : World

@@ -6,7 +6,7 @@ use lib.Dec.{eqb}
 use native.Mathlib.Omega.{arith}
 use borrow.Author.Tests.{eq-eqb, ne-eqb}
 use Rattle.forms.specs.declared.Form.{Form}
-use Rattle.forms.specs.Forms.{srv6Form, mplsForm, formOf, flagIn, naiLength}
+use Rattle.forms.specs.Forms.{srv6Form, mplsForm, srv6Nai, mplsNai, formOf, flagIn, naiLength}
 use Rattle.forms.specs.Sized.{Sized, Shortest}
 
 pub flag-none : (octet w worth : ℕ) → w ≡ worth → w ≡ 0 → 0 ≡ flagIn octet worth
@@ -97,6 +97,28 @@ nai-shifted form (suc (suc (suc (suc zero)))) n h = refl
 nai-shifted form (suc (suc (suc (suc (suc zero))))) n h = refl
 nai-shifted form (suc (suc (suc (suc (suc (suc zero)))))) n h = refl
 nai-shifted form (suc (suc (suc (suc (suc (suc (suc k))))))) n h = absurd (omega arith)
+
+-- They are those of the papers' tables.
+srv6-past : (nt : ℕ) → 6 < nt → srv6Nai nt ≡ 0
+srv6-past nt h = rw (ne-eqb nt 2 (omega arith), ne-eqb nt 4 (omega arith), ne-eqb nt 6 (omega arith))
+
+beyond : (nt : ℕ) → 6 < nt → naiLength srv6Form nt ≡ srv6Nai nt
+beyond nt h = sym (nai-past srv6Form nt h) ∙ sym (srv6-past nt h)
+
+pub srv6-nais : (nt : ℕ) → naiLength srv6Form nt ≡ srv6Nai nt
+unfolding naiLength
+srv6-nais zero = refl
+srv6-nais (suc zero) = refl
+srv6-nais (suc (suc zero)) = refl
+srv6-nais (suc (suc (suc zero))) = refl
+srv6-nais (suc (suc (suc (suc zero)))) = refl
+srv6-nais (suc (suc (suc (suc (suc zero))))) = refl
+srv6-nais (suc (suc (suc (suc (suc (suc zero)))))) = refl
+srv6-nais (suc (suc (suc (suc (suc (suc (suc k))))))) = beyond (suc (suc (suc (suc (suc (suc (suc k))))))) (omega arith)
+
+pub mpls-nais : (nt : ℕ) → naiLength mplsForm nt ≡ mplsNai nt
+unfolding naiLength
+mpls-nais nt = refl
 
 -- No NAI is longer than what a segment keeps for it.
 pub nai-most : {form : Form} → Sized form → (nt : ℕ) → naiLength form nt ≤ 40

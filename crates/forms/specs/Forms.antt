@@ -2,6 +2,7 @@
 use Prim.Native.Nat.{ℕ, _+_, _*_, _/_, _%_}
 use mathlib.Core.Bool.{Bool, true, false, cond, not, _||_}
 use lib.Dec.{eqb}
+use Rattle.objects.specs.Objects.{mplsSetup, srv6Setup}
 use Rattle.forms.specs.declared.Form.{Form}
 
 -- The lengths of the NAIs for NT 1 to 6 are one number, with an octet for each: what that octet is worth.
@@ -27,7 +28,7 @@ nt6 = 281474976710656
 abbrev pub srv6Form : Form
 srv6Form =
     record {
-      setup = 3;
+      setup = srv6Setup;
       kind = 40;
       fixed = 8;
       sid = 16;
@@ -46,7 +47,7 @@ srv6Form =
 abbrev pub mplsForm : Form
 mplsForm =
     record {
-      setup = 1;
+      setup = mplsSetup;
       kind = 36;
       fixed = 4;
       sid = 4;
@@ -80,6 +81,14 @@ naiLength form nt =
     (cond (eqb nt 2) (octetAt (form .nais) nt2)
     (cond (eqb nt 3) (octetAt (form .nais) nt3)
     (cond (eqb nt 4) (octetAt (form .nais) nt4) (cond (eqb nt 5) (octetAt (form .nais) nt5) (cond (eqb nt 6) (octetAt (form .nais) nt6) 0)))))
+
+-- The same in the papers' words, one for each form: "NAI: NT 0 none, 2 node 16, 4 adjacency 32, 6 link-local adjacency 40" (document 01),
+abbrev pub srv6Nai : ℕ → ℕ
+srv6Nai nt = cond (eqb nt 2) 16 (cond (eqb nt 4) 32 (cond (eqb nt 6) 40 0))
+
+-- and NT 1 and 2, a node of IPv4 and of IPv6; 3 and 4, an adjacency of either; 5, an unnumbered adjacency; 6, a link-local adjacency (RFC 8664, 4.3.1 and 4.3.2).
+abbrev pub mplsNai : ℕ → ℕ
+mplsNai nt = cond (eqb nt 1) 4 (cond (eqb nt 2) 16 (cond (eqb nt 3) 8 (cond (eqb nt 4) 32 (cond (eqb nt 5) 16 (cond (eqb nt 6) 40 0)))))
 
 -- Whether the form knows an NT.
 unfoldable pub knows : Form → ℕ → Bool

@@ -13,6 +13,7 @@ ghost use mathlib.Core.Path.{_≡_};
 ghost use Prim.Native.Nat.{_≤_};
 ghost use Rattle.forms.specs.Forms.{srv6Form, mplsForm, formOf, flagIn, naiLength, knows};
 use objects::MPLS_SETUP;
+use objects::SRV6_SETUP;
 
 // what the octet of an NT is worth among the lengths of NAIs
 const NT1: u64 = 256;
@@ -61,7 +62,7 @@ pub fn srv6() -> Form
     ensures form { λ r. ⌜ r ≡ srv6Form ⌝ }
 {
     Form {
-        setup: 3,
+        setup: SRV6_SETUP as u8,
         kind: 40,
         fixed: 8,
         sid: 16,
@@ -81,7 +82,7 @@ pub fn mpls() -> Form
     ensures form { λ r. ⌜ r ≡ mplsForm ⌝ }
 {
     Form {
-        setup: 1,
+        setup: MPLS_SETUP as u8,
         kind: 36,
         fixed: 4,
         sid: 4,

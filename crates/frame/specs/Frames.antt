@@ -7,7 +7,7 @@ use lib.Dec.{ltb, leb, eqb}
 use Rattle.octets.specs.Octets.{octetOf, be16}
 use Rattle.objects.specs.Objects.{header, unit, classPlace, typePlace, lengthPlace, typeWorth, eroClass, rroClass, objectType}
 use Rattle.answers.specs.declared.verdict.Verdict.{Verdict}
-use Rattle.answers.specs.Numbers.{frameBroken, routeEmpty, kindsMixed, noSrv6}
+use Rattle.answers.specs.Numbers.{frameBroken, routeEmpty, kindsMixed, noneOfForm}
 use Rattle.answers.specs.Verdicts.{acceptedWith}
 use Rattle.subobject.specs.Layout.{kindOf}
 use Rattle.frame.specs.Checks.{Check, check, firstBroken}
@@ -109,7 +109,7 @@ frameChecks s ero kind =
     check frameBroken 0 (rule4 s ero)
     ∷ check routeEmpty 0 (rule5 s)
     ∷ check kindsMixed (rule6Place s ero) (rule6 s ero kind)
-    ∷ check noSrv6 0 (rule14 s ero kind)
+    ∷ check noneOfForm 0 (rule14 s ero kind)
     ∷ []
 
 -- The frame's answer: the first broken one, or the number of subobjects.

@@ -9,7 +9,7 @@ use borrow.Author.Tests.{eq-eqb, le-ltb, not-true, not-false}
 use Rattle.octets.specs.Octets.{octetOf, be16}
 use Rattle.objects.specs.Objects.{header, unit, classPlace, typePlace, lengthPlace, typeWorth, objectType}
 use Rattle.answers.specs.declared.verdict.Verdict.{Verdict}
-use Rattle.answers.specs.Numbers.{frameBroken, routeEmpty, kindsMixed, noSrv6}
+use Rattle.answers.specs.Numbers.{frameBroken, routeEmpty, kindsMixed, noneOfForm}
 use Rattle.answers.specs.Verdicts.{refusedBy, acceptedWith}
 use Rattle.frame.specs.declared.gathering.Facts.{Facts}
 use Rattle.frame.specs.Frames.{classOf, headed, apartOf, rule4, rule5, rule6, rule6Place, rule14, frameOf}
@@ -29,7 +29,7 @@ abbrev pub byFacts : Facts → Verdict
 byFacts g =
     cond (not (g .whole)) (refusedBy frameBroken 0)
     (cond (eqb (g .count) 0) (refusedBy routeEmpty 0)
-    (cond (g .any && not (eqb (g .other) 0)) (refusedBy kindsMixed (g .other)) (cond (not (g .any)) (refusedBy noSrv6 0) (acceptedWith (g .count)))))
+    (cond (g .any && not (eqb (g .other) 0)) (refusedBy kindsMixed (g .other)) (cond (not (g .any)) (refusedBy noneOfForm 0) (acceptedWith (g .count)))))
 
 pub header-broken : (ero : Bool) (kind : ℕ) (s : List ℕ) (h : Bool) → h ≡ headed s ero → not h ≡ true → refusedBy frameBroken 0 ≡ frameOf s ero kind
 unfolding frameOf rule4

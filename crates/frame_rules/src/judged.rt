@@ -44,7 +44,7 @@ pub fn framed(s: &[u8], ero: bool, kind: usize) -> Verdict
         return answers::refused(answers::KINDS_MIXED, g.other);
     }
     if !g.any {
-        return answers::refused(answers::NO_SRV6, 0);
+        return answers::refused(answers::NONE_OF_FORM, 0);
     }
     answers::accepted(g.count)
 }

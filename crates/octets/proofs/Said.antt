@@ -23,6 +23,10 @@ pub either-false : (a b : Bool) → (a || b) ≡ false → (a ≡ false) × (b �
 either-false true b e = absurd (false≢true (sym e))
 either-false false b e = (refl, e)
 
+pub and-false : (a : Bool) → (a && false) ≡ false
+and-false true = refl
+and-false false = refl
+
 pub and-holding : (a : Bool) → (a && true) ≡ a
 and-holding true = refl
 and-holding false = refl

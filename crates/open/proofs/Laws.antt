@@ -1,30 +1,25 @@
 -- The answer to an OPEN object by the walk over its TLVs is the one that its rules give.
-use Prim.Native.Nat.{ℕ, _-_, _%_, _≤_, _<_}
+use Prim.Native.Nat.{ℕ, _-_}
 use mathlib.Core.Path.{_≡_, refl}
 use mathlib.Core.List.{List, [], _∷_}
 use mathlib.Core.Bool.{Bool, true, false, cond, not, _&&_}
 use mathlib.Core.Option.{Option, none, some}
 use lib.ListN.{length, drop}
-use lib.Dec.{eqb, leb}
-use borrow.Author.Tests.{lt-leb, le-leb, leb-true}
 use Rattle.octets.specs.Octets.{part}
 use Rattle.octets.proofs.Laws.{rest-lent}
-use Rattle.octets.proofs.Said.{both-true, and-holding}
-use Rattle.objects.specs.Objects.{unit, mplsSetup, srv6Setup, objectLength}
+use Rattle.objects.specs.Objects.{mplsSetup, srv6Setup}
 use Rattle.answers.specs.Numbers.{openMalformed, capabilityMissing, wrongMsd, notUsable}
 use Rattle.positions.specs.declared.Setup.{Setup}
 use Rattle.positions.specs.Positions.{usableSetup}
 use Rattle.session.specs.declared.Opened.{Opened}
-use Rattle.session.specs.Sessions.{openRefused, withoutSrv6, withMpls}
-use Rattle.tlvs.specs.Tlvs.{tlvsWhole, firstTlv, absent}
-use Rattle.capability.specs.SetupTypes.{pathSetup, holdsList, subsOf, listsType}
-use Rattle.capability.specs.Mpls.{mplsCapability, mplsAnnouncedOf}
+use Rattle.session.specs.Sessions.{openRefused, withoutSrv6}
+use Rattle.tlvs.specs.Tlvs.{tlvsWhole, firstTlv, notThere}
+use Rattle.setup_types.specs.SetupTypes.{pathSetup, holdsList, subsOf, listsType}
+use Rattle.capability_mpls.specs.Mpls.{mplsCapability, mplsAnnouncedOf}
 use Rattle.capability.specs.Srv6.{srv6Capability, announcedOf}
 use Rattle.open_walk.specs.Walk.{Sight, torn, seen, openWalk}
 use Rattle.open.specs.Open.{
   tlvsAt,
-  openHeaded,
-  measured,
   framed,
   openTlvs,
   setupOf,
@@ -53,30 +48,13 @@ use Rattle.open.specs.Open.{
   carriesOf,
   Rule,
   rule,
-  firstBroken,
+  firstRule,
   noForm,
   openOf,
 }
-use Rattle.open.specs.Carried.{announcedBy, srv6By, mplsAnnouncedBy, mplsBy, goesFirst, joinedOf}
+use Rattle.open_carried.specs.Carried.{announcedBy, srv6By, mplsAnnouncedBy, mplsBy, joinedOf}
 
 -- the answer ---------------------------------------------------------------------------------------------------
-
-and-false : (a : Bool) → (a && false) ≡ false
-and-false true = refl
-and-false false = refl
-
-pub framed-short : (s : List ℕ) → length s < tlvsAt → framed s ≡ false
-unfolding framed
-framed-short s h = rw (lt-leb tlvsAt (length s) h, and-false (eqb (objectLength s) (length s) && eqb (length s % unit) 0), and-false (openHeaded s))
-
-pub framed-long : (s : List ℕ) → tlvsAt ≤ length s → framed s ≡ (openHeaded s && (eqb (objectLength s) (length s) && eqb (length s % unit) 0))
-unfolding framed
-framed-long s h = rw (le-leb tlvsAt (length s) h, and-holding (eqb (objectLength s) (length s) && eqb (length s % unit) 0))
-
-pub long-framed : (s : List ℕ) → framed s ≡ true → tlvsAt ≤ length s
-unfolding framed
-long-framed s e =
-    leb-true tlvsAt (length s) (both-true (eqb (objectLength s) (length s) && eqb (length s % unit) 0) (leb tlvsAt (length s)) (both-true (openHeaded s) (measured s) e .1) .1)
 
 pub part-rest : (s : List ℕ) (a : ℕ) → part s a (length s - a) ≡ drop a s
 unfolding part
@@ -91,14 +69,14 @@ three a b c form = rule a openMalformed form ∷ rule b capabilityMissing form �
 -- A half is the first broken one of its three rules, or what it carries.
 srv6-half : (p : Setup) (v sub : Option (List ℕ))
     → srv6By p v sub
-    ≡ (let l = listedIn srv6Setup v in firstBroken (three (l && not (sizedIn sub)) (l && absent sub) (l && wrongSub sub) srv6Setup) (cond l (saidBy p sub) withoutSrv6))
+    ≡ (let l = listedIn srv6Setup v in firstRule (three (l && not (sizedIn sub)) (l && notThere sub) (l && wrongSub sub) srv6Setup) (cond l (saidBy p sub) withoutSrv6))
 unfolding announcedOf
 srv6-half p none sub = refl
 srv6-half p (some v) sub = go (listsType srv6Setup v) sub
   where
     go : (l : Bool) (o : Option (List ℕ))
         → cond l (announcedBy p o) withoutSrv6
-        ≡ firstBroken (three (l && not (sizedIn o)) (l && absent o) (l && wrongSub o) srv6Setup) (cond l (saidBy p o) withoutSrv6)
+        ≡ firstRule (three (l && not (sizedIn o)) (l && notThere o) (l && wrongSub o) srv6Setup) (cond l (saidBy p o) withoutSrv6)
     go false o = refl
     go true none = refl
     go true (some w) = refl
@@ -106,30 +84,19 @@ srv6-half p (some v) sub = go (listsType srv6Setup v) sub
 mpls-half : (v sub : Option (List ℕ))
     → mplsBy v sub
     ≡ (let l = listedIn mplsSetup v in
-    firstBroken (three (l && not (mplsSizedIn sub)) (l && absent sub) (l && depthlessSub sub) mplsSetup) (besideBy l sub withoutSrv6))
+    firstRule (three (l && not (mplsSizedIn sub)) (l && notThere sub) (l && depthlessSub sub) mplsSetup) (besideBy l sub withoutSrv6))
 unfolding mplsAnnouncedOf
 mpls-half none sub = refl
 mpls-half (some v) sub = go (listsType mplsSetup v) sub
   where
     go : (l : Bool) (o : Option (List ℕ))
         → cond l (mplsAnnouncedBy o) withoutSrv6
-        ≡ firstBroken (three (l && not (mplsSizedIn o)) (l && absent o) (l && depthlessSub o) mplsSetup) (besideBy l o withoutSrv6)
+        ≡ firstRule (three (l && not (mplsSizedIn o)) (l && notThere o) (l && depthlessSub o) mplsSetup) (besideBy l o withoutSrv6)
     go false o = refl
     go true none = refl
     go true (some w) = refl
 
 -- both halves --------------------------------------------------------------------------------------------------
-
--- The ways out of the code that joins them.
-module _ (m o : Opened) where
-  pub joined-first : goesFirst m o ≡ true → m ≡ joinedOf m o
-  joined-first e = rw e
-
-  pub joined-both : goesFirst m o ≡ false → (m .mpls && eqb (o .number) 0) ≡ true → withMpls o (m .mplsn) (m .mplslimit) ≡ joinedOf m o
-  joined-both e f = rw (e, f)
-
-  pub joined-last : goesFirst m o ≡ false → (m .mpls && eqb (o .number) 0) ≡ false → o ≡ joinedOf m o
-  joined-last e f = rw (e, f)
 
 -- The rules of both forms by their numbers, MPLS's first of each.
 abbrev six : Bool → Bool → Bool → Bool → Bool → Bool → List Rule
@@ -145,8 +112,8 @@ six a a′ b b′ c c′ =
 -- The halves joined are the first broken one of the six rules, or what both carry.
 module _ (sub : Option (List ℕ)) (o : Opened) (accepted : o .number ≡ 0) where
   joined-halves : (a a′ b b′ c c′ l : Bool)
-      → joinedOf (firstBroken (three a b c mplsSetup) (besideBy l sub withoutSrv6)) (firstBroken (three a′ b′ c′ srv6Setup) o)
-      ≡ firstBroken (six a a′ b b′ c c′) (besideBy l sub o)
+      → joinedOf (firstRule (three a b c mplsSetup) (besideBy l sub withoutSrv6)) (firstRule (three a′ b′ c′ srv6Setup) o)
+      ≡ firstRule (six a a′ b b′ c c′) (besideBy l sub o)
   joined-halves true true b b′ c c′ l = refl
   joined-halves true false b true c c′ l = refl
   joined-halves true false b false c true l = refl
@@ -193,14 +160,14 @@ pub halves : (p : Setup) (v mpls srv6 : Option (List ℕ))
     → joinedOf (mplsBy v mpls) (srv6By p v srv6)
     ≡ (let m = listedIn mplsSetup v in
     let l = listedIn srv6Setup v in
-    firstBroken (six (m && not (mplsSizedIn mpls)) (l && not (sizedIn srv6)) (m && absent mpls) (l && absent srv6) (m && depthlessSub mpls) (l && wrongSub srv6))
+    firstRule (six (m && not (mplsSizedIn mpls)) (l && not (sizedIn srv6)) (m && notThere mpls) (l && notThere srv6) (m && depthlessSub mpls) (l && wrongSub srv6))
     (besideBy m mpls (cond l (saidBy p srv6) withoutSrv6)))
 halves p v mpls srv6 =
     let m = listedIn mplsSetup v in
     let l = listedIn srv6Setup v in
     rw (mpls-half v mpls, srv6-half p v srv6) (
     joined-halves mpls (cond l (saidBy p srv6) withoutSrv6) (said-zero p l srv6)
-    (m && not (mplsSizedIn mpls)) (l && not (sizedIn srv6)) (m && absent mpls) (l && absent srv6) (m && depthlessSub mpls) (l && wrongSub srv6) m
+    (m && not (mplsSizedIn mpls)) (l && not (sizedIn srv6)) (m && notThere mpls) (l && notThere srv6) (m && depthlessSub mpls) (l && wrongSub srv6) m
     )
 
 -- What the walks over the TLVs of a framed object, for 26 and for 27, come to.

@@ -19,7 +19,7 @@ use Rattle.session.specs.declared.Opened.{Opened}
 use Rattle.session.specs.Sessions.{openRefused, withoutSrv6}
 use Rattle.msd.specs.Msd.{maxSegmentsLeft, maxHEncaps, smallestOf, numberOf, depthIn}
 use Rattle.msd_limit.specs.Limits.{limitBy, limitIn, present, onlyEnds}
-use Rattle.capability.specs.Mpls.{mplsNOf, mplsLimitOf}
+use Rattle.capability_mpls.specs.Mpls.{mplsNOf, mplsLimitOf}
 use Rattle.capability.specs.Srv6.{pairsAt, xOf, pairsOf, hEncapsOf, segmentsLeftOf, limitOf, carriesBy}
 use Rattle.capability.proofs.Laws.{no-limit-exactly, ends-limit-nothing}
 use Rattle.open.proofs.Small.{Value, small-drop, srv6-small, depth-back, small-smallest}
@@ -48,7 +48,7 @@ use Rattle.open.specs.Open.{
   carriesOf,
   Rule,
   rule,
-  firstBroken,
+  firstRule,
   noForm,
   openRules,
   openOf,
@@ -87,32 +87,32 @@ misnamed : (k f : ℕ) (r : Rule) (rest : Bool) → (not (names k f r) && rest) 
 misnamed k f r rest h e = false≢true (sym (not-true (names k f r) (both-true (not (names k f r)) rest h .0)) ∙ named k f r e)
 
 module _ (k f : ℕ) (refusal : eqb k 0 ≡ false) (o : Opened) (accepted : o .number ≡ 0) where
-  unnamed-refuses-not : (rs : List Rule) → unnamed k f rs ≡ true → firstBroken rs o ≡ openRefused k f → ⊥
+  unnamed-refuses-not : (rs : List Rule) → unnamed k f rs ≡ true → firstRule rs o ≡ openRefused k f → ⊥
   unnamed-refuses-not [] h e = false≢true (sym refusal ∙ eq-eqb k 0 (sym (ap (λ (q : Opened). q .number) e) ∙ accepted))
   unnamed-refuses-not (r ∷ rs) h e = go (r .broken) (unnamed-refuses-not rs (both-true (not (names k f r)) (unnamed k f rs) h .1)) e
     where
-      go : (b : Bool) → (firstBroken rs o ≡ openRefused k f → ⊥) → cond b (openRefused (r .number) (r .form)) (firstBroken rs o) ≡ openRefused k f → ⊥
+      go : (b : Bool) → (firstRule rs o ≡ openRefused k f → ⊥) → cond b (openRefused (r .number) (r .form)) (firstRule rs o) ≡ openRefused k f → ⊥
       go true on e = misnamed k f r (unnamed k f rs) h e
       go false on e = on e
 
-  broken-at : (i : ℕ) (rs : List Rule) → namedAt i k f rs ≡ true → firstBroken rs o ≡ openRefused k f → Breaks rs i
+  broken-at : (i : ℕ) (rs : List Rule) → namedAt i k f rs ≡ true → firstRule rs o ≡ openRefused k f → Breaks rs i
   broken-at i [] h e = false≢true h
   broken-at zero (r ∷ rs) h e = go (r .broken) refl e
     where
-      go : (b : Bool) → r .broken ≡ b → cond b (openRefused (r .number) (r .form)) (firstBroken rs o) ≡ openRefused k f → r .broken ≡ true
+      go : (b : Bool) → r .broken ≡ b → cond b (openRefused (r .number) (r .form)) (firstRule rs o) ≡ openRefused k f → r .broken ≡ true
       go true q e = q
       go false q e = absurd (unnamed-refuses-not rs (both-true (names k f r) (unnamed k f rs) h .1) e)
   broken-at (suc i) (r ∷ rs) h e = go (r .broken) refl (broken-at i rs (both-true (not (names k f r)) (namedAt i k f rs) h .1)) e
     where
       go : (b : Bool)
           → r .broken ≡ b
-          → (firstBroken rs o ≡ openRefused k f → Breaks rs i)
-          → cond b (openRefused (r .number) (r .form)) (firstBroken rs o) ≡ openRefused k f
+          → (firstRule rs o ≡ openRefused k f → Breaks rs i)
+          → cond b (openRefused (r .number) (r .form)) (firstRule rs o) ≡ openRefused k f
           → (r .broken ≡ false) × Breaks rs i
       go true q on e = absurd (misnamed k f r (namedAt i k f rs) h e)
       go false q on e = (q, on e)
 
-  refuses-at : (i : ℕ) (rs : List Rule) → namedAt i k f rs ≡ true → Breaks rs i → firstBroken rs o ≡ openRefused k f
+  refuses-at : (i : ℕ) (rs : List Rule) → namedAt i k f rs ≡ true → Breaks rs i → firstRule rs o ≡ openRefused k f
   refuses-at i [] h e = absurd e
   refuses-at zero (r ∷ rs) h e =
       let n = both-true (eqb (r .number) k) (eqb (r .form) f) (both-true (names k f r) (unnamed k f rs) h .0) in
@@ -120,15 +120,15 @@ module _ (k f : ℕ) (refusal : eqb k 0 ≡ false) (o : Opened) (accepted : o .n
   refuses-at (suc i) (r ∷ rs) h e = rw (e .0) (refuses-at i rs (both-true (not (names k f r)) (namedAt i k f rs) h .1) (e .1))
 
 -- What holds of every refusal and of an answer holds of the first broken one, or that answer.
-first-keeps : (P : Opened → Type 0) → ((k f : ℕ) → P (openRefused k f)) → (rs : List Rule) {o : Opened} → P o → P (firstBroken rs o)
+first-keeps : (P : Opened → Type 0) → ((k f : ℕ) → P (openRefused k f)) → (rs : List Rule) {o : Opened} → P o → P (firstRule rs o)
 first-keeps P h [] x = x
 first-keeps P h (r ∷ rs) {o} x = go (r .broken) (first-keeps P h rs x)
   where
-    go : (b : Bool) → P (firstBroken rs o) → P (cond b (openRefused (r .number) (r .form)) (firstBroken rs o))
+    go : (b : Bool) → P (firstRule rs o) → P (cond b (openRefused (r .number) (r .form)) (firstRule rs o))
     go true y = h (r .number) (r .form)
     go false y = y
 
-first-unbroken : (rs : List Rule) (o : Opened) → Unbroken rs → firstBroken rs o ≡ o
+first-unbroken : (rs : List Rule) (o : Opened) → Unbroken rs → firstRule rs o ≡ o
 first-unbroken [] o h = refl
 first-unbroken (r ∷ rs) o h = rw (h .0) (first-unbroken rs o (h .1))
 
@@ -137,11 +137,11 @@ abbrev refusing : List Rule → Bool
 refusing [] = true
 refusing (r ∷ rs) = not (eqb (r .number) 0) && refusing rs
 
-accepted-unbroken : (rs : List Rule) (o : Opened) → refusing rs ≡ true → firstBroken rs o .number ≡ 0 → Unbroken rs
+accepted-unbroken : (rs : List Rule) (o : Opened) → refusing rs ≡ true → firstRule rs o .number ≡ 0 → Unbroken rs
 accepted-unbroken [] o h e = tt
 accepted-unbroken (r ∷ rs) o h e = go (r .broken) refl (accepted-unbroken rs o (both-true (not (eqb (r .number) 0)) (refusing rs) h .1)) e
   where
-    go : (b : Bool) → r .broken ≡ b → (firstBroken rs o .number ≡ 0 → Unbroken rs) → cond b (openRefused (r .number) (r .form)) (firstBroken rs o) .number ≡ 0 → (r .broken ≡ false) × Unbroken rs
+    go : (b : Bool) → r .broken ≡ b → (firstRule rs o .number ≡ 0 → Unbroken rs) → cond b (openRefused (r .number) (r .form)) (firstRule rs o) .number ≡ 0 → (r .broken ≡ false) × Unbroken rs
     go true q on e = absurd (false≢true (sym (not-true (eqb (r .number) 0) (both-true (not (eqb (r .number) 0)) (refusing rs) h .0)) ∙ eq-eqb (r .number) 0 e))
     go false q on e = (q, on e)
 
@@ -159,7 +159,7 @@ beside-limit true none o = refl
 beside-limit true (some w) o = refl
 
 module _ (p : Setup) (s : List ℕ) where
-  is-first : openOf p s ≡ firstBroken (openRules p s) (carriesOf p s)
+  is-first : openOf p s ≡ firstRule (openRules p s) (carriesOf p s)
   unfolding openOf
   is-first = refl
 
@@ -280,7 +280,7 @@ module _ (p : Setup) (s : List ℕ) where
       said true (some u) true (some w) = refl
 
       go : (z a a′ b c l : Bool) (sub : Option (List ℕ))
-          → srv6Half (firstBroken (
+          → srv6Half (firstRule (
           rule z notUsable noForm ∷ rule a openMalformed noForm ∷ rule a′ openMalformed srv6Setup ∷ rule b capabilityMissing srv6Setup ∷ rule c wrongMsd srv6Setup ∷ []
           ) (besideBy l sub (carriesSrv6 p s)))
           ≡ cond z (openRefused notUsable noForm)

@@ -13,7 +13,7 @@ use Rattle.octets.specs.Octets.{pad4, part}
 use Rattle.msd.specs.Msd.{Pair, pairsIn, smaller, withPair, smallestOf, absent, numberOf, depthIn}
 use Rattle.msd.proofs.Laws.{depth-octet, depth-none}
 use Rattle.tlvs.specs.Tlvs.{Tlvs, tlvsEnd, tlvsCut, tlv, tlvHead, tlvLength, tlvBehind, tlvFits, tlvTurn, tlvsIn, tlvsOf, firstTlv}
-use Rattle.capability.specs.SetupTypes.{pathSetup, listSize, subsOf}
+use Rattle.setup_types.specs.SetupTypes.{pathSetup, listSize, subsOf}
 use Rattle.capability.specs.Srv6.{srv6Capability}
 use Rattle.open.specs.Open.{tlvsAt, openTlvs, setupOf, subIn, srv6Of}
 

@@ -1,41 +1,23 @@
 -- Reading an OPEN object (document 01, "The OPEN object"; sub-TLV 26 by document 02, C-16): its rules by their numbers, and the answer.
-use Prim.Native.Nat.{ℕ, _/_, _%_}
+use Prim.Native.Nat.{ℕ}
 use mathlib.Core.List.{List, [], _∷_}
 use mathlib.Core.Bool.{Bool, true, false, cond, not, _&&_}
 use mathlib.Core.Option.{Option, none, some}
-use lib.ListN.{length, drop}
-use lib.Dec.{eqb, leb}
-use Rattle.octets.specs.Octets.{octetOf}
-use Rattle.objects.specs.Objects.{header, unit, openClass, objectType, mplsSetup, srv6Setup, objectClass, objectKind, objectLength}
+use lib.ListN.{drop}
+use Rattle.objects.specs.Objects.{mplsSetup, srv6Setup}
 use Rattle.answers.specs.Numbers.{openMalformed, capabilityMissing, wrongMsd, notUsable}
 use Rattle.positions.specs.declared.Setup.{Setup}
 use Rattle.positions.specs.Positions.{usableSetup}
 use Rattle.session.specs.declared.Opened.{Opened}
 use Rattle.session.specs.Sessions.{openRefused, withoutSrv6}
-use Rattle.tlvs.specs.Tlvs.{Tlvs, tlvsOf, tlvsWhole, firstTlv, absent}
-use Rattle.capability.specs.SetupTypes.{pathSetup, holdsList, subsOf, listsType}
-use Rattle.capability.specs.Mpls.{mplsCapability, mplsSizedOf, depthless, mplsBeside}
+use Rattle.tlvs.specs.Tlvs.{Tlvs, tlvsOf, tlvsWhole, firstTlv, notThere}
+use Rattle.setup_types.specs.SetupTypes.{pathSetup, holdsList, subsOf, listsType}
+use Rattle.capability_mpls.specs.Mpls.{mplsCapability, mplsSizedOf, depthless, mplsBeside}
 use Rattle.capability.specs.Srv6.{srv6Capability, sizedOf, wrongOf, carriesBy}
+unfoldable pub use Rattle.open_frame.specs.Framed.{framed}
+pub use Rattle.open_frame.specs.Framed.{openVersion, versionPlace, versionWorth, versionOf, tlvsAt, openHeaded, measured}
 
 -- the object ---------------------------------------------------------------------------------------------------
-
--- "OPEN is class 1, type 1; its body is an octet whose top 3 bits are the version, which must be 1, .."
-abbrev pub openVersion : ℕ
-openVersion = 1
-
-abbrev pub versionPlace : ℕ
-versionPlace = header
-
--- What the lowest bit of the version is worth in its octet.
-abbrev pub versionWorth : ℕ
-versionWorth = 32
-
-abbrev pub versionOf : List ℕ → ℕ
-versionOf s = octetOf s versionPlace / versionWorth
-
--- ".. then keepalive, dead timer, session number, then TLVs."
-abbrev pub tlvsAt : ℕ
-tlvsAt = 8
 
 abbrev pub openTlvs : List ℕ → Tlvs
 openTlvs s = tlvsOf false (drop tlvsAt s)
@@ -73,16 +55,7 @@ breaks28 p = not (usableSetup p)
 
 -- rule 1 -------------------------------------------------------------------------------------------------------
 
--- "Class, type and version as above;"
-abbrev pub openHeaded : List ℕ → Bool
-openHeaded s = (eqb (objectClass s) openClass && eqb (objectKind s) objectType) && eqb (versionOf s) openVersion
-
--- "object length must equal the octets given, be a multiple of 4 and at least 8;"
-abbrev pub measured : List ℕ → Bool
-measured s = (eqb (objectLength s) (length s) && eqb (length s % unit) 0) && leb tlvsAt (length s)
-
-unfoldable pub framed : List ℕ → Bool
-framed s = openHeaded s && measured s
+-- The frame, `framed`, stands in open_frame/specs/Framed.
 
 -- "every TLV must fit."
 unfoldable pub fitting : List ℕ → Bool
@@ -120,11 +93,11 @@ breaks1Srv6 s = listed s && not (sizedIn (srv6Of s))
 
 -- ".. be there (2), .. else it is ignored."
 unfoldable pub breaks2Mpls : List ℕ → Bool
-breaks2Mpls s = mplsListed s && absent (mplsOf s)
+breaks2Mpls s = mplsListed s && notThere (mplsOf s)
 
 -- "Type 3 listed and no sub-TLV 27: 2. Sub-TLV 27 without type 3 is ignored."
 unfoldable pub breaks2Srv6 : List ℕ → Bool
-breaks2Srv6 s = listed s && absent (srv6Of s)
+breaks2Srv6 s = listed s && notThere (srv6Of s)
 
 -- rule 3 -------------------------------------------------------------------------------------------------------
 
@@ -173,9 +146,9 @@ abbrev pub rule : Bool → ℕ → ℕ → Rule
 rule broken number form = record { broken = broken; number = number; form = form }
 
 -- The first broken one refuses.
-abbrev pub firstBroken : List Rule → Opened → Opened
-firstBroken [] o = o
-firstBroken (r ∷ rs) o = cond (r .broken) (openRefused (r .number) (r .form)) (firstBroken rs o)
+abbrev pub firstRule : List Rule → Opened → Opened
+firstRule [] o = o
+firstRule (r ∷ rs) o = cond (r .broken) (openRefused (r .number) (r .form)) (firstRule rs o)
 
 -- No sub-TLV is at fault.
 abbrev pub noForm : ℕ
@@ -196,4 +169,4 @@ openRules p s =
 
 -- "Otherwise accepted."
 unfoldable pub openOf : Setup → List ℕ → Opened
-openOf p s = firstBroken (openRules p s) (carriesOf p s)
+openOf p s = firstRule (openRules p s) (carriesOf p s)

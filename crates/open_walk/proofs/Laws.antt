@@ -12,12 +12,12 @@ use lib.ListN.{length, take, drop}
 use lib.Dec.{eqb}
 use Rattle.octets.specs.Octets.{part}
 use Rattle.octets.proofs.Laws.{length-part}
-use Rattle.tlvs.specs.Tlvs.{Tlvs, tlvsEnd, tlv, tlvsIn, tlvsOf, tlvsWhole, firstTlv, absent}
+use Rattle.tlvs.specs.Tlvs.{Tlvs, tlvsEnd, tlv, tlvsIn, tlvsOf, tlvsWhole, firstTlv, notThere}
 use Rattle.tlvs.specs.Places.{itemAt, orElse}
 use Rattle.tlvs.specs.declared.Item.the-variants.{One, Broken}
 use Rattle.tlvs.proofs.Laws.{drop-part, items-end, items-turn}
 use Rattle.answers.proofs.Determined.{determined}
-use Rattle.capability.specs.SetupTypes.{pathSetup, listSize, holdsList, subsOf}
+use Rattle.setup_types.specs.SetupTypes.{pathSetup, listSize, holdsList, subsOf}
 use Rattle.open_walk.specs.Walk.{Sight, torn, seen, insideOf, openOnward, openWalk}
 
 -- A part of a slice, as it is lent.
@@ -49,7 +49,7 @@ module _ (want kind : ℕ) (v : List ℕ) (rest : Tlvs) where
       go false e = rw e
 
   -- an outer TLV that is not the first TLV 34 is passed over
-  pub onward-past : (list sub : Option (List ℕ)) → (absent list && eqb kind pathSetup) ≡ false → openOnward false want list sub (tlv kind v rest) ≡ openOnward false want list sub rest
+  pub onward-past : (list sub : Option (List ℕ)) → (notThere list && eqb kind pathSetup) ≡ false → openOnward false want list sub (tlv kind v rest) ≡ openOnward false want list sub rest
   onward-past none sub e = rw e
   onward-past (some w) sub e = refl
 

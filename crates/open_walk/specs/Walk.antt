@@ -8,7 +8,7 @@ use mathlib.Core.Option.{Option, none, some}
 use lib.ListN.{length}
 use Rattle.octets.specs.Octets.{part}
 use Rattle.tlvs.specs.Tlvs.{Tlvs, tlvsOf, tlvsWhole, firstTlv}
-use Rattle.capability.specs.SetupTypes.{pathSetup, listSize, holdsList, subsOf}
+use Rattle.setup_types.specs.SetupTypes.{pathSetup, listSize, holdsList, subsOf}
 use Rattle.tlvs.specs.declared.span.Span.{Span}
 use Rattle.tlvs.specs.Places.{missingOf, valueAt, Inside, orElse}
 use Rattle.open_walk.specs.declared.Found.{Found}

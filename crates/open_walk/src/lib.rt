@@ -8,7 +8,7 @@ ghost use Prim.Native.Nat.{_-_, _≤_, _<_};
 ghost use lib.ListN.{length};
 ghost use Rattle.octets.specs.Octets.{part};
 ghost use Rattle.open_walk.specs.Walk.{sightOf, openWalk, Bounds};
-use capability::PATH_SETUP;
+use setup_types::PATH_SETUP;
 use tlvs::Item;
 use tlvs::NOWHERE;
 use tlvs::Span;
@@ -49,7 +49,7 @@ pub fn walk(s: &[u8], start: usize, end: usize, inner: bool, want: usize) -> Fou
                     sub = tlvs::keep(sub, kind == want, from, len);
                 } else if octets::both(list.from == NOWHERE, kind == PATH_SETUP) {
                     let stop = from + len;
-                    let size = capability::list_size(&s[from..stop]);
+                    let size = setup_types::list_size(&s[from..stop]);
                     if len < size {
                         return Found::Cut;
                     }

@@ -7,6 +7,7 @@ use mathlib.Core.List.{List, [], _∷_, _++_}
 use lib.Dec.{eqb, ltb}
 use lib.ListN.{length}
 use native.Mathlib.Omega.{arith}
+use Rattle.octets.proofs.Said.{and-false}
 use Rattle.objects.specs.Objects.{mplsSetup}
 use Rattle.answers.specs.Verdicts.{kept}
 use Rattle.octets.specs.Octets.{placed}
@@ -23,7 +24,7 @@ use Rattle.writer_rules.specs.Refusals.{foreign, unfit, noRoom, addNumber}
 use Rattle.writer.specs.declared.state.Writer.{Writer}
 use Rattle.writer.specs.Writing.{answered, addAnswerIn, addBufferIn, addAnswer, addBuffer}
 use Rattle.route.specs.Alone.{naiAlone, lengthAlone, structured, fourFrom}
-use Rattle.route.proofs.Alone.{nai-alone, knows-alone, and-false, or-false}
+use Rattle.route.proofs.Alone.{nai-alone, knows-alone, or-false}
 use Rattle.readback.specs.Alone.{sOf, tOf, fOf, octetsAlone, tidyAlone, unfitAlone, numberAlone}
 
 flags-alone : (v t f s c m : ℕ) → v * 8 + t * 4 + f * 2 + s * 1 + c * 0 + m * 0 ≡ v * 8 + t * 4 + f * 2 + s

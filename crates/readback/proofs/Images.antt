@@ -20,7 +20,7 @@ use Rattle.writer.specs.declared.state.Written.{Written}
 use Rattle.writer_rules.specs.Refusals.{unfit, addNumber, finishNumber}
 use Rattle.writer_rules.proofs.Laws.{Proper, Taken, taken, Done, done}
 use Rattle.writer.specs.Writing.{headerOf, beginNumber, beginAnswer, beginBuffer, addAnswerIn, addBufferIn, addAnswer, addBuffer, finishAnswer, finishBuffer, answered, refusedAs, acceptedAs}
-use Rattle.readback.specs.Runs.{Run, onward, beginRun, addRun, finishRun, addsRun, writeRun, Accepted, objectIn, bodyOf, objectOf}
+use Rattle.readback.specs.Runs.{Run, onward, beginRun, addRun, finishRun, addsRun, writeRun, Accepted, objectIn, writtenBody, objectOf}
 
 -- A segment that adding takes, but for the room.
 pub record Fit (form : Form) (ero : Bool) (g : Segment) : Type 0 where
@@ -52,19 +52,19 @@ placed-behind p r w n e = rw (take-at p r n e, drop-at p r n e)
 
 -- An object under way: `body` stands behind the header, then come the segments still to add, then the rest of the buffer.
 pub record Under (form : Form) (ero : Bool) (body : List ℕ) (gs : List Segment) (r : Run) : Type 0 where
-  pub at : r .written .writer .at ≡ 4 + length (body ++ bodyOf form gs)
+  pub at : r .written .writer .at ≡ 4 + length (body ++ writtenBody form gs)
   pub rest : List ℕ
-  pub buffer : r .buffer ≡ headerOf ero (4 + length (body ++ bodyOf form gs)) ++ ((body ++ bodyOf form gs) ++ rest)
+  pub buffer : r .buffer ≡ headerOf ero (4 + length (body ++ writtenBody form gs)) ++ ((body ++ writtenBody form gs) ++ rest)
   pub fits : AllFit form ero gs
-  pub most : 4 + length (body ++ bodyOf form gs) ≤ 65532
-  pub fours : (4 + length (body ++ bodyOf form gs)) % 4 ≡ 0
-  pub filled : length (body ++ bodyOf form gs) ≡ 0 → ⊥
+  pub most : 4 + length (body ++ writtenBody form gs) ≤ 65532
+  pub fours : (4 + length (body ++ writtenBody form gs)) % 4 ≡ 0
+  pub filled : length (body ++ writtenBody form gs) ≡ 0 → ⊥
 
 -- A segment added stands behind the body.
 moved : (form : Form) {ero : Bool} (body : List ℕ) (g : Segment) (gs : List Segment) {r : Run} → Fit form ero g
     → Under form ero (body ++ subobjectOf form g) gs r → Under form ero body (g ∷ gs) r
 moved form body g gs f u =
-    let e = append-assoc body (subobjectOf form g) (bodyOf form gs) in
+    let e = append-assoc body (subobjectOf form g) (writtenBody form gs) in
     record {
       at = rw e at (u .at);
       rest = u .rest;
@@ -145,19 +145,19 @@ pub record Image (form : Form) (ero : Bool) (gs : List Segment) (r : Run) : Type
   pub at : r .written .writer .at ≡ length (objectOf form ero gs)
   pub object : objectIn r ≡ objectOf form ero gs
   pub fits : AllFit form ero gs
-  pub most : 4 + length (bodyOf form gs) ≤ 65532
-  pub fours : (4 + length (bodyOf form gs)) % 4 ≡ 0
-  pub filled : length (bodyOf form gs) ≡ 0 → ⊥
+  pub most : 4 + length (writtenBody form gs) ≤ 65532
+  pub fours : (4 + length (writtenBody form gs)) % 4 ≡ 0
+  pub filled : length (writtenBody form gs) ≡ 0 → ⊥
 
-pub length-object : (form : Form) (ero : Bool) (gs : List Segment) → length (objectOf form ero gs) ≡ 4 + length (bodyOf form gs)
+pub length-object : (form : Form) (ero : Bool) (gs : List Segment) → length (objectOf form ero gs) ≡ 4 + length (writtenBody form gs)
 unfolding objectOf headerOf
 length-object form ero gs = omega arith
 
 -- The octets of a buffer that starts with an object, up to its place.
-cut : (form : Form) (ero : Bool) (gs : List Segment) (b rest : List ℕ) (at : ℕ) → at ≡ 4 + length (bodyOf form gs)
-    → b ≡ headerOf ero (4 + length (bodyOf form gs)) ++ (bodyOf form gs ++ rest) → take at b ≡ objectOf form ero gs
+cut : (form : Form) (ero : Bool) (gs : List Segment) (b rest : List ℕ) (at : ℕ) → at ≡ 4 + length (writtenBody form gs)
+    → b ≡ headerOf ero (4 + length (writtenBody form gs)) ++ (writtenBody form gs ++ rest) → take at b ≡ objectOf form ero gs
 unfolding objectOf headerOf
-cut form ero gs b rest at ea eb = rw (eb, ea) (take-at (objectOf form ero gs) rest (4 + length (bodyOf form gs)) (length-object form ero gs))
+cut form ero gs b rest at ea eb = rw (eb, ea) (take-at (objectOf form ero gs) rest (4 + length (writtenBody form gs)) (length-object form ero gs))
 
 begun : (b : List ℕ) (ero : Bool) → over (headerOf ero 4) b ≡ headerOf ero 4 ++ ([] ++ drop 4 (over (headerOf ero 4) b))
 unfolding headerOf over

@@ -43,7 +43,7 @@ use Rattle.writer.specs.declared.state.Writer.{Writer}
 use Rattle.writer_rules.specs.Refusals.{unfit}
 use Rattle.writer_rules.proofs.Laws.{size-subobject}
 use Rattle.writer.specs.Writing.{headerOf}
-use Rattle.readback.specs.Runs.{Run, writeRun, Accepted, objectIn, bodyOf, objectOf, AllHeld, openSession}
+use Rattle.readback.specs.Runs.{Run, writeRun, Accepted, objectIn, writtenBody, objectOf, AllHeld, openSession}
 use Rattle.readback.specs.Runs.AllHeld.{more}
 use Rattle.readback.specs.Ignored.{ignoredAt, ignoredIn, ignoredOf}
 use Rattle.readback.proofs.Parts.{zeros-append, zeros-cons}
@@ -80,11 +80,11 @@ abbrev placesFrom : Form → ℕ → List Segment → List ℕ
 placesFrom form at [] = []
 placesFrom form at (g ∷ gs) = at ∷ placesFrom form (at + length (subobjectOf form g)) gs
 
-next-stands : (form : Form) (p : List ℕ) (g : Segment) (gs : List Segment) → Stands (p ++ (subobjectOf form g ++ bodyOf form gs)) (length p) (subobjectOf form g)
-next-stands form p g gs = record { before = p; behind = bodyOf form gs; whole = refl; place = refl }
+next-stands : (form : Form) (p : List ℕ) (g : Segment) (gs : List Segment) → Stands (p ++ (subobjectOf form g ++ writtenBody form gs)) (length p) (subobjectOf form g)
+next-stands form p g gs = record { before = p; behind = writtenBody form gs; whole = refl; place = refl }
 
 size-at : {form : Form} → Sized form → Readable form → (p : List ℕ) (g : Segment) (gs : List Segment) → Held g
-    → octetOf (p ++ (subobjectOf form g ++ bodyOf form gs)) (length p + 1) ≡ length (subobjectOf form g)
+    → octetOf (p ++ (subobjectOf form g ++ writtenBody form gs)) (length p + 1) ≡ length (subobjectOf form g)
 size-at {form} z r p g gs h = stands-octet _ (stands-four z r g (next-stands form p g gs)) 1 (omega arith) ∙ size-subobject z g h
 
 fits : (len room : ℕ) → 4 ≤ len → len % 4 ≡ 0 → len ≤ room → fitsIn len room ≡ true
@@ -92,15 +92,15 @@ unfolding fitsIn
 fits len room l f r = rw (le-ltb len 4 l, eq-eqb (len % 4) 0 f, le-leb len room r)
 
 apart-body : {form : Form} → Sized form → Readable form → (gs : List Segment) (p : List ℕ) (f : ℕ) → AllHeld gs → length gs < f
-    → apart (p ++ bodyOf form gs) (length p) f ≡ record { whole = true; places = placesFrom form (length p) gs }
+    → apart (p ++ writtenBody form gs) (length p) f ≡ record { whole = true; places = placesFrom form (length p) gs }
 unfolding apart
 apart-body z r gs p zero h k = absurd (omega arith)
 apart-body z r [] p (suc f) h k = rw (append-nil p, eq-eqb (length p) (length p) refl)
 apart-body {form} z r (g ∷ gs) p (suc f) (more hg h) k =
     let x = subobjectOf form g in
-    let s = p ++ (x ++ bodyOf form gs) in
+    let s = p ++ (x ++ writtenBody form gs) in
     let y = sub-fours z r g hg in
-    let l : length s ≡ length p + (length x + length (bodyOf form gs)) = omega (arith, length-append p (x ++ bodyOf form gs), length-append x (bodyOf form gs)) in
+    let l : length s ≡ length p + (length x + length (writtenBody form gs)) = omega (arith, length-append p (x ++ writtenBody form gs), length-append x (writtenBody form gs)) in
     let n : eqb (length p) (length s) ≡ false = ne-eqb (length p) (length s) (λ q. omega arith) in
     let e = size-at z r p g gs hg in
     let o : fitsIn (length x) (length s - length p) ≡ true = fits (length x) (length s - length p) (y .0) (y .1) (omega arith) in
@@ -235,12 +235,12 @@ pub data AllRead (form : Form) (ero : Bool) (s : List ℕ) : List ℕ → List S
   next : {p : ℕ} {ps : List ℕ} {g : Segment} {gs : List Segment} → Reads form ero s p g → AllRead form ero s ps gs → AllRead form ero s (p ∷ ps) (g ∷ gs)
 
 all-read : {form : Form} → Sized form → Readable form → (ero : Bool) (gs : List Segment) (p : List ℕ) → AllHeld gs → AllFit form ero gs
-    → AllRead form ero (p ++ bodyOf form gs) (placesFrom form (length p) gs) gs
+    → AllRead form ero (p ++ writtenBody form gs) (placesFrom form (length p) gs) gs
 all-read z r ero [] p h f = none
 all-read {form} z r ero (g ∷ gs) p (more hg h) (also fg f) =
     let ih = all-read z r ero gs (p ++ subobjectOf form g) h f in
-    let ih' : AllRead form ero (p ++ (subobjectOf form g ++ bodyOf form gs)) (placesFrom form (length p + length (subobjectOf form g)) gs) gs
-    = rw (append-assoc p (subobjectOf form g) (bodyOf form gs), length-append p (subobjectOf form g)) at ih in
+    let ih' : AllRead form ero (p ++ (subobjectOf form g ++ writtenBody form gs)) (placesFrom form (length p + length (subobjectOf form g)) gs) gs
+    = rw (append-assoc p (subobjectOf form g) (writtenBody form gs), length-append p (subobjectOf form g)) at ih in
     next (reads z r g (next-stands form p g gs) hg ero fg) ih'
 
 -- no rule is broken --------------------------------------------------------------------------------------------
@@ -383,17 +383,17 @@ module _ (form : Form) (s : List ℕ) (ero : Bool) (ps : List ℕ) (gs : List Se
 
 module _ (form : Form) (ero : Bool) (gs : List Segment) where
   -- The object's octets, as a header in front of a body.
-  object-headed : 4 + length (bodyOf form gs) ≤ 65532 → (4 + length (bodyOf form gs)) % 4 ≡ 0 → headed (objectOf form ero gs) ero ≡ true
+  object-headed : 4 + length (writtenBody form gs) ≤ 65532 → (4 + length (writtenBody form gs)) % 4 ≡ 0 → headed (objectOf form ero gs) ero ≡ true
   unfolding objectOf headerOf be16
   object-headed m f =
       let l = length-object form ero gs in
       sym (headed-last ero (objectOf form ero gs) (omega arith) refl refl (omega arith)) ∙ eq-eqb (length (objectOf form ero gs) % 4) 0 (rw l f)
 
-long-enough : {form : Form} → Sized form → Readable form → (gs : List Segment) → AllHeld gs → length gs ≤ length (bodyOf form gs)
+long-enough : {form : Form} → Sized form → Readable form → (gs : List Segment) → AllHeld gs → length gs ≤ length (writtenBody form gs)
 long-enough z r [] h = omega arith
 long-enough {form} z r (g ∷ gs) (more hg h) =
     let ih = long-enough z r gs h in
-    let l = length-append (subobjectOf form g) (bodyOf form gs) in
+    let l = length-append (subobjectOf form g) (writtenBody form gs) in
     let y = sub-fours z r g hg in
     omega arith
 
@@ -401,14 +401,14 @@ object-apart : {form : Form} → Sized form → Readable form → (ero : Bool) (
     → apartOf (objectOf form ero gs) ≡ record { whole = true; places = placesFrom form 4 gs }
 unfolding apartOf objectOf headerOf
 object-apart {form} z r ero gs h =
-    apart-body z r gs (headerOf ero (4 + length (bodyOf form gs))) (suc (length (objectOf form ero gs))) h (omega (arith, long-enough z r gs h))
+    apart-body z r gs (headerOf ero (4 + length (writtenBody form gs))) (suc (length (objectOf form ero gs))) h (omega (arith, long-enough z r gs h))
 
 object-read : {form : Form} → Sized form → Readable form → (ero : Bool) (gs : List Segment) → AllHeld gs → AllFit form ero gs
     → AllRead form ero (objectOf form ero gs) (placesFrom form 4 gs) gs
 unfolding objectOf headerOf
-object-read {form} z r ero gs h f = all-read z r ero gs (headerOf ero (4 + length (bodyOf form gs))) h f
+object-read {form} z r ero gs h f = all-read z r ero gs (headerOf ero (4 + length (writtenBody form gs))) h f
 
-some-there : (form : Form) (gs : List Segment) → (length (bodyOf form gs) ≡ 0 → ⊥) → length gs ≡ 0 → ⊥
+some-there : (form : Form) (gs : List Segment) → (length (writtenBody form gs) ≡ 0 → ⊥) → length gs ≡ 0 → ⊥
 some-there form [] h e = h refl
 some-there form (g ∷ gs) h e = absurd (omega arith)
 

@@ -34,7 +34,7 @@ use Rattle.writer_layout.proofs.Forms.{readable-by}
 use Rattle.writer.specs.declared.state.Writer.{Writer}
 use Rattle.writer_rules.specs.Refusals.{mostOctets, addNumber, finishNumber, unfit, noRoom, badPlace, passes}
 use Rattle.writer.specs.Writing.{headerOf, beginNumber}
-use Rattle.readback.specs.Runs.{Run, onward, beginRun, addRun, finishRun, addsRun, writeRun, Accepted, objectIn, bodyOf, objectOf, AllHeld}
+use Rattle.readback.specs.Runs.{Run, onward, beginRun, addRun, finishRun, addsRun, writeRun, Accepted, objectIn, writtenBody, objectOf, AllHeld}
 use Rattle.readback.specs.Runs.AllHeld.{none as held-none, more}
 use Rattle.readback.specs.Ignored.{Octets, ignoredAt, ignoredIn, ignoredOf, askedFrom, segmentsRead}
 use Rattle.readback.proofs.Images.{Fit, AllFit, Image, image, length-object, finish-number, add-number, begin-number, add-onward, begin-onward}
@@ -163,26 +163,26 @@ module _ {form : Form} (z : Sized form) (r : Readable form) {ero : Bool} {s : Li
   all-fit (next d a) = also (fit z r d) (all-fit a)
 
   -- As many octets are written as were read.
-  body-length : {at : ℕ} {ps : List ℕ} → Chain s at ps → AllSound form ero s ps → at + length (bodyOf form (segmentsAt form ero s ps)) ≡ length s
+  body-length : {at : ℕ} {ps : List ℕ} → Chain s at ps → AllSound form ero s ps → at + length (writtenBody form (segmentsAt form ero s ps)) ≡ length s
   body-length {at} (ends e) none = omega arith
   body-length {at} (links {ps = ps} l i c) (next d a) =
       let ih = body-length c a in
       let n = length-written z r d in
-      let m = length-append (subobjectOf form (segmentAt form s ero at)) (bodyOf form (segmentsAt form ero s ps)) in
+      let m = length-append (subobjectOf form (segmentAt form s ero at)) (writtenBody form (segmentsAt form ero s ps)) in
       omega arith
 
   -- The same octets exactly if the ignored bits are 0, in all subobjects.
-  body-same : {ps : List ℕ} → AllSound form ero s ps → zeros (ignoredIn form s ero ps) ≡ true → bodyOf form (segmentsAt form ero s ps) ≡ partsOf s ps
+  body-same : {ps : List ℕ} → AllSound form ero s ps → zeros (ignoredIn form s ero ps) ≡ true → writtenBody form (segmentsAt form ero s ps) ≡ partsOf s ps
   body-same none e = refl
   body-same (next {p} {ps} d a) e =
       let y = zeros-split (ignoredAt form s ero p) (ignoredIn form s ero ps) e in
       rw (same-octets z r d (y .0), body-same a (y .1))
 
-  body-back : {ps : List ℕ} → AllSound form ero s ps → bodyOf form (segmentsAt form ero s ps) ≡ partsOf s ps → zeros (ignoredIn form s ero ps) ≡ true
+  body-back : {ps : List ℕ} → AllSound form ero s ps → writtenBody form (segmentsAt form ero s ps) ≡ partsOf s ps → zeros (ignoredIn form s ero ps) ≡ true
   body-back none e = refl
   body-back (next {p} {ps} d a) e =
       let l = length-written z r d ∙ sym (length-part s p (octetOf s (p + 1)) (d .inside)) in
-      let q = append-same (subobjectOf form (segmentAt form s ero p)) (part s p (octetOf s (p + 1))) (bodyOf form (segmentsAt form ero s ps)) (partsOf s ps) l e in
+      let q = append-same (subobjectOf form (segmentAt form s ero p)) (part s p (octetOf s (p + 1))) (writtenBody form (segmentsAt form ero s ps)) (partsOf s ps) l e in
       zeros-append (ignoredAt form s ero p) (ignoredIn form s ero ps) (ignored-zero z r d (q .0)) (body-back a (q .1))
 
 -- a run that is accepted ---------------------------------------------------------------------------------------
@@ -215,15 +215,15 @@ unfolding finishNumber
 finish-taken room w l f h k = rw (proper (w .at) room (omega arith) f h k, ne-eqb (w .at) 4 (λ z. omega arith))
 
 adds-taken : (gs : List Segment) (b : List ℕ) (w : Writer) → AllHeld gs → AllFit (formOf (w .form)) (w .ero) gs → 4 ≤ w .at → w .at % 4 ≡ 0
-    → 4 < w .at + length (bodyOf (formOf (w .form)) gs) → w .at + length (bodyOf (formOf (w .form)) gs) ≤ length b
-    → w .at + length (bodyOf (formOf (w .form)) gs) ≤ 65532 → Accepted (addsRun b w gs)
+    → 4 < w .at + length (writtenBody (formOf (w .form)) gs) → w .at + length (writtenBody (formOf (w .form)) gs) ≤ length b
+    → w .at + length (writtenBody (formOf (w .form)) gs) ≤ 65532 → Accepted (addsRun b w gs)
 unfolding addsRun
 adds-taken [] b w h t l f m r k = finish-number b w ∙ finish-taken (length b) w (omega arith) f (omega arith) (omega arith)
 adds-taken (g ∷ gs) b w (more hg h) (also tg t) l f m r k =
     let form = formOf (w .form) in
     let x = subobjectOf form g in
     let z = sub-fours (sized-by (w .form)) (readable-by (w .form)) g hg in
-    let n = length-append x (bodyOf form gs) in
+    let n = length-append x (writtenBody form gs) in
     let a = add-taken form (w .ero) (length b) (w .at) g tg l f (omega arith) (omega arith) in
     let o = length-placed b (w .at) x (omega arith) in
     rw (add-onward b w g (λ b′ w′. addsRun b′ w′ gs) a)
@@ -240,12 +240,12 @@ header-long ero n = refl
 
 -- The same of a state that names a form.
 adds-in : (form : Form) (gs : List Segment) (b : List ℕ) (w : Writer) → formOf (w .form) ≡ form → AllHeld gs → AllFit form (w .ero) gs → 4 ≤ w .at
-    → w .at % 4 ≡ 0 → 4 < w .at + length (bodyOf form gs) → w .at + length (bodyOf form gs) ≤ length b → w .at + length (bodyOf form gs) ≤ 65532
+    → w .at % 4 ≡ 0 → 4 < w .at + length (writtenBody form gs) → w .at + length (writtenBody form gs) ≤ length b → w .at + length (writtenBody form gs) ≤ 65532
     → Accepted (addsRun b w gs)
 adds-in form gs b w e h t l f m r k = adds-taken gs b w h (rw (← e) at t) l f (rw (← e) at m) (rw (← e) at r) (rw (← e) at k)
 
-write-taken : (ero : Bool) (pst : ℕ) (gs : List Segment) (b : List ℕ) (w : Writer) → AllHeld gs → AllFit (formOf pst) ero gs → 0 < length (bodyOf (formOf pst) gs)
-    → 4 + length (bodyOf (formOf pst) gs) ≤ length b → 4 + length (bodyOf (formOf pst) gs) ≤ 65532 → Accepted (writeRun b w ero pst gs)
+write-taken : (ero : Bool) (pst : ℕ) (gs : List Segment) (b : List ℕ) (w : Writer) → AllHeld gs → AllFit (formOf pst) ero gs → 0 < length (writtenBody (formOf pst) gs)
+    → 4 + length (writtenBody (formOf pst) gs) ≤ length b → 4 + length (writtenBody (formOf pst) gs) ≤ 65532 → Accepted (writeRun b w ero pst gs)
 unfolding writeRun
 write-taken ero pst gs b w h t m r k =
     let y = header-long ero 4 in
@@ -377,7 +377,7 @@ module _ (s : List ℕ) (ero : Bool) (session : Session) (pst : ℕ) (octets : O
   abbrev segments : List Segment
   segments = segmentsAt (formOf pst) ero s (placesOf s)
 
-  length-same : 4 + length (bodyOf (formOf pst) segments) ≡ length s
+  length-same : 4 + length (writtenBody (formOf pst) segments) ≡ length s
   length-same = body-length (sized-by pst) (readable-by pst) chain sound
 
   short : length s ≤ 65532
@@ -389,7 +389,7 @@ module _ (s : List ℕ) (ero : Bool) (session : Session) (pst : ℕ) (octets : O
       let f = headed-sized ero s (accepted-frame (formOf pst) s ero session pst accepted .0) .four in
       omega arith
 
-  some : 0 < length (bodyOf (formOf pst) segments)
+  some : 0 < length (writtenBody (formOf pst) segments)
   unfolding rule5
   some =
       let n = not-filled chain (λ z. eqb-false (length (placesOf s)) 0 (no-check .1 .0) z) in
@@ -408,8 +408,8 @@ module _ (s : List ℕ) (ero : Bool) (session : Session) (pst : ℕ) (octets : O
   object-back : objectOf (formOf pst) ero segments ≡ s → zeros (ignoredOf (formOf pst) s ero) ≡ true
   unfolding objectOf
   object-back e =
-      let x : headerOf ero (length s) ++ bodyOf (formOf pst) segments ≡ take 4 s ++ partsOf s (placesOf s) = (rw length-same at e) ∙ split in
-      let q = append-same (headerOf ero (length s)) (take 4 s) (bodyOf (formOf pst) segments) (partsOf s (placesOf s))
+      let x : headerOf ero (length s) ++ writtenBody (formOf pst) segments ≡ take 4 s ++ partsOf s (placesOf s) = (rw length-same at e) ∙ split in
+      let q = append-same (headerOf ero (length s)) (take 4 s) (writtenBody (formOf pst) segments) (partsOf s (placesOf s))
       (header-long ero (length s) ∙ sym (length-take-le 4 s (header .low))) x in
       zeros-cons (octetOf s 1 % 16) (ignoredIn (formOf pst) s ero (placesOf s)) (header-back header octets (q .0))
       (body-back (sized-by pst) (readable-by pst) sound (q .1))

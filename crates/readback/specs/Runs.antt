@@ -83,12 +83,12 @@ takenIn b w ero pst cs = takenFrom (beginBuffer b w ero) (beginAnswer b w ero ps
 -- what stands in it --------------------------------------------------------------------------------------------
 
 -- The octets of segments of a form, one behind the other, and the object that holds them.
-abbrev pub bodyOf : Form → List Segment → List ℕ
-bodyOf form [] = []
-bodyOf form (g ∷ gs) = subobjectOf form g ++ bodyOf form gs
+abbrev pub writtenBody : Form → List Segment → List ℕ
+writtenBody form [] = []
+writtenBody form (g ∷ gs) = subobjectOf form g ++ writtenBody form gs
 
 unfoldable pub objectOf : Form → Bool → List Segment → List ℕ
-objectOf form ero gs = headerOf ero (header + length (bodyOf form gs)) ++ bodyOf form gs
+objectOf form ero gs = headerOf ero (header + length (writtenBody form gs)) ++ writtenBody form gs
 
 -- Segments as the code holds them.
 pub data AllHeld : List Segment → Type 0 where

@@ -7,6 +7,7 @@ use lib.ListN.{length, getD}
 use lib.Dec.{eqb, ltb}
 use native.Mathlib.Omega.{arith}
 use borrow.Author.Tests.{eqb-true}
+use Rattle.octets.proofs.Said.{and-false}
 use Rattle.answers.specs.declared.verdict.Verdict.{Verdict}
 use Rattle.answers.specs.Verdicts.{carryingBoth}
 use Rattle.octets.specs.Octets.{octetOf}
@@ -70,10 +71,6 @@ knows-alone nt = rw (nai-alone nt) (go (eqb nt 0) (eqb nt 2) (eqb nt 4) (eqb nt 
 
 by-one : (a : ℕ) → a / 1 ≡ a
 by-one a = omega arith
-
-pub and-false : (b : Bool) → (b && false) ≡ false
-and-false true = refl
-and-false false = refl
 
 pub or-false : (a b : Bool) → (a || (b || false)) ≡ (a || b)
 or-false true b = refl

@@ -1,5 +1,5 @@
--- The answer by its parts: the frame's, 13's, the walk's, 12's, 15's; and what an acceptance says of the octets. The checks of a route are a list, so
--- each part is a law of lists: a broken check in it answers, an unbroken part hands on to what follows (frame/proofs/Checks). Assumes nothing.
+-- The answer by its parts: what one pass settles, 15's; and what an acceptance says of the octets. The frame's, 13's, the walk's and 12's parts stand in
+-- route_ordered/proofs/Ordered. Assumes nothing.
 use Prim.Native.Nat.{ℕ, zero, suc, _+_, _-_, _%_, _≤_, _<_}
 use mathlib.Core.Path.{_≡_, refl, sym, _∙_, ap}
 use mathlib.Core.List.{List, [], _∷_, _++_}
@@ -35,66 +35,17 @@ use Rattle.frame.specs.Frames.{headed, fitsIn, Apart, ended, unfilled, from, ap
 use Rattle.frame.proofs.Checks.{first-append, None, Numbered, none-first, none-append, none-split, numbered-append, first-none, first-some}
 use Rattle.frame.proofs.Laws.{Sized, headed-sized, fits-true}
 use Rattle.route.specs.declared.picking.Picked.{Picked}
-use Rattle.route_walk.specs.Walk.{checksAt, subobjectChecks, walkOf}
+use Rattle.route_walk.specs.Walk.{checksAt, subobjectChecks}
 use Rattle.route_walk.proofs.Laws.{head-size}
 use Rattle.route_glance.specs.Settled.{Settled}
-use Rattle.route.specs.Parts.{limitedOf, nothingWith}
+use Rattle.route.specs.Parts.{nothingWith}
 use Rattle.route.specs.Routes.{rule13, wholeChecks, lastChecks, checksOf, countOf, strayCount, acceptanceOf, judgeAs, rule15, pickOf, segmentAs}
+pub use Rattle.route_ordered.proofs.Ordered.{numbered-subobjects, numbered-frame, numbered-all, frame-sound, frame-bounds, frame-stops, frame-none, frame-count}
+pub use Rattle.route_ordered.proofs.Ordered.{agreed-stops, after-whole, walk-then-limit}
 
--- every check has a number -------------------------------------------------------------------------------------
+-- the pass -----------------------------------------------------------------------------------------------------
 
-pub numbered-subobjects : (form : Form) (s : List ℕ) (ero n : Bool) (ps : List ℕ) → Numbered (subobjectChecks form s ero n ps)
-numbered-subobjects form s ero n [] = tt
-numbered-subobjects form s ero n (p ∷ ps) =
-    (omega arith, (omega arith, (omega arith, (omega arith, (omega arith, (omega arith, (omega arith, numbered-subobjects form s ero n ps)))))))
-
-pub numbered-frame : (form : Form) (ero : Bool) (s : List ℕ) → Numbered (frameChecks s ero (form .kind))
-numbered-frame form ero s = (omega arith, (omega arith, (omega arith, (omega arith, tt))))
-
-pub numbered-all : (form : Form) (s : List ℕ) (ero : Bool) (session : Session) (pst : ℕ) → Numbered (checksOf form s ero session pst)
-numbered-all form s ero session pst =
-    let rest =
-    numbered-append (subobjectChecks form s ero (session .n) (placesOf s)) (lastChecks (placesOf s) ero (session .limit) (countOf s))
-    (numbered-subobjects form s ero (session .n) (placesOf s)) (omega arith, tt) in
-    (omega arith, (omega arith, (omega arith, (omega arith, (omega arith, rest)))))
-
--- the frame ----------------------------------------------------------------------------------------------------
-
--- An unbroken 4: the header is sound, and the subobjects fill the object.
-pub frame-sound : (ero : Bool) (s : List ℕ) → rule4 s ero ≡ false → (headed s ero ≡ true) × (apartOf s .whole ≡ true)
-unfolding rule4
-frame-sound ero s e = both-true (headed s ero) (apartOf s .whole) (not-false _ e)
-
--- The octets' number is that of two octets.
-pub frame-bounds : (ero : Bool) (s : List ℕ) → rule4 s ero ≡ false → getD s 2 0 < 256 → getD s 3 0 < 256
-    → (header ≤ length s) × (length s < 65536) × (apartOf s .whole ≡ true)
-unfolding be16
-frame-bounds ero s e h l =
-    let f = frame-sound ero s e in
-    let n = headed-sized ero s (f .0) in
-    (n .low, omega (arith, n .read), f .1)
-
-module _ (form : Form) (s : List ℕ) (ero : Bool) (session : Session) (pst : ℕ) (f : Verdict) (e : f ≡ frameOf s ero (form .kind)) where
-  pub frame-stops : (f .number ≡ 0 → ⊥) → f ≡ judgeAs form s ero session pst
-  unfolding frameOf judgeAs
-  frame-stops n =
-      e
-      ∙ first-some (frameChecks s ero (form .kind)) (acceptedWith (countOf s))
-      (firstBroken
-      (check notAgreed 0 (rule13 form (session .agreed) pst)
-      ∷ (subobjectChecks form s ero (session .n) (placesOf s) ++ lastChecks (placesOf s) ero (session .limit) (countOf s)))
-      (acceptanceOf form s ero))
-      refl (λ z. n (rw e z))
-
-  pub frame-none : f .number ≡ 0 → None (frameChecks s ero (form .kind))
-  unfolding frameOf
-  frame-none z = first-none (frameChecks s ero (form .kind)) (acceptedWith (countOf s)) (numbered-frame form ero s) (rw e at z)
-
-  pub frame-count : f .number ≡ 0 → f .count ≡ countOf s
-  unfolding frameOf
-  frame-count z = ap (λ (v : Verdict). v .count) (e ∙ none-first (frameChecks s ero (form .kind)) (acceptedWith (countOf s)) (frame-none z))
-
--- What one pass has settled says so too.
+-- What one pass has settled says that no rule of the frame is broken, and how many subobjects there are.
 module _ (form : Form) (s : List ℕ) (ero n : Bool) {count stray : ℕ} (x : Settled form s ero n count stray) where
   pub settled-none : None (frameChecks s ero (form .kind))
   unfolding frameOf
@@ -104,77 +55,6 @@ module _ (form : Form) (s : List ℕ) (ero n : Bool) {count stray : ℕ} (x : Se
   unfolding frameOf
   settled-count =
       sym (ap (λ (v : Verdict). v .count) (sym (none-first (frameChecks s ero (form .kind)) (acceptedWith (countOf s)) settled-none) ∙ x .frame))
-
--- the rest of the answer ---------------------------------------------------------------------------------------
-
-module _ (form : Form) (s : List ℕ) (ero : Bool) (session : Session) (pst : ℕ) (h : None (frameChecks s ero (form .kind))) where
-  pub agreed-stops : rule13 form (session .agreed) pst ≡ true → refusedBy notAgreed 0 ≡ judgeAs form s ero session pst
-  unfolding judgeAs
-  agreed-stops e =
-      sym
-      (none-first (frameChecks s ero (form .kind))
-      (firstBroken
-      (check notAgreed 0 (rule13 form (session .agreed) pst)
-      ∷ (subobjectChecks form s ero (session .n) (placesOf s) ++ lastChecks (placesOf s) ero (session .limit) (countOf s)))
-      (acceptanceOf form s ero))
-      h
-      ∙ rw e)
-
-  pub after-whole : rule13 form (session .agreed) pst ≡ false
-      → firstBroken (subobjectChecks form s ero (session .n) (placesOf s))
-      (firstBroken (lastChecks (placesOf s) ero (session .limit) (countOf s)) (acceptanceOf form s ero))
-      ≡ judgeAs form s ero session pst
-  unfolding judgeAs
-  after-whole e =
-      sym
-      (none-first (frameChecks s ero (form .kind))
-      (firstBroken
-      (check notAgreed 0 (rule13 form (session .agreed) pst)
-      ∷ (subobjectChecks form s ero (session .n) (placesOf s) ++ lastChecks (placesOf s) ero (session .limit) (countOf s)))
-      (acceptanceOf form s ero))
-      h
-      ∙ rw e
-      (first-append (subobjectChecks form s ero (session .n) (placesOf s)) (lastChecks (placesOf s) ero (session .limit) (countOf s)) (acceptanceOf form s ero)))
-
-  -- The walk's answer if it refuses,
-  walk-stops : (w : Verdict) (count : ℕ) → rule13 form (session .agreed) pst ≡ false → w ≡ walkOf form s ero (session .n) count → (w .number ≡ 0 → ⊥)
-      → w ≡ judgeAs form s ero session pst
-  unfolding walkOf
-  walk-stops w count e q n =
-      q
-      ∙ first-some (subobjectChecks form s ero (session .n) (placesOf s)) (carryingBoth count (strayCount form s ero))
-      (firstBroken (lastChecks (placesOf s) ero (session .limit) (countOf s)) (acceptanceOf form s ero)) refl (λ z. n (rw q z))
-      ∙ after-whole e
-
-  -- else 12's: "last 12".
-  limit-ends : (w : Verdict) (count : ℕ) → rule13 form (session .agreed) pst ≡ false → w ≡ walkOf form s ero (session .n) count → w .number ≡ 0 → count ≡ countOf s
-      → firstBroken (lastChecks (placesOf s) ero (session .limit) (w .count)) w ≡ judgeAs form s ero session pst
-  unfolding walkOf
-  limit-ends w count e q z c =
-      let passed =
-      first-none (subobjectChecks form s ero (session .n) (placesOf s)) (carryingBoth count (strayCount form s ero))
-      (numbered-subobjects form s ero (session .n) (placesOf s)) (rw q at z) in
-      let v : w ≡ acceptanceOf form s ero =
-      q ∙ none-first (subobjectChecks form s ero (session .n) (placesOf s)) (carryingBoth count (strayCount form s ero)) passed ∙ ap (λ (x : ℕ). carryingBoth x (strayCount form s ero)) c in
-      rw v
-      (sym
-      (none-first (subobjectChecks form s ero (session .n) (placesOf s))
-      (firstBroken (lastChecks (placesOf s) ero (session .limit) (countOf s)) (acceptanceOf form s ero)) passed)
-      ∙ after-whole e)
-
-  pub walk-then-limit : (w r : Verdict) (count : ℕ) → rule13 form (session .agreed) pst ≡ false → w ≡ walkOf form s ero (session .n) count → count ≡ countOf s
-      → r ≡ limitedOf s ero (session .limit) w → r ≡ judgeAs form s ero session pst
-  unfolding limitedOf
-  walk-then-limit w r count e q c p = p ∙ go (eqb (w .number) 0) refl
-    where
-      go : (b : Bool) → eqb (w .number) 0 ≡ b → cond b (firstBroken (lastChecks (placesOf s) ero (session .limit) (w .count)) w) w ≡ judgeAs form s ero session pst
-      go true z = limit-ends w count e q (eqb-true (w .number) 0 z) c
-      go false z = walk-stops w count e q (eqb-false (w .number) 0 z)
-
--- 12 where there is no limit.
-pub never-past : (ero : Bool) → (ero && false) ≡ false
-never-past true = refl
-never-past false = refl
 
 -- an acceptance ------------------------------------------------------------------------------------------------
 

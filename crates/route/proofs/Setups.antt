@@ -13,6 +13,8 @@ use Rattle.forms.specs.declared.Form.{Form}
 use Rattle.forms.specs.Forms.{srv6Form, mplsForm, formOf}
 use Rattle.forms.proofs.Laws.{form-mpls, form-srv6, srv6-shortest, mpls-shortest}
 use Rattle.answers.specs.declared.verdict.Verdict.{Verdict}
+use Rattle.msd.specs.Msd.{absent}
+use Rattle.session.specs.declared.Limit.{Limit}
 use Rattle.session.specs.declared.Session.{Session}
 use Rattle.route.specs.declared.picking.Picked.{Picked}
 use Rattle.route.specs.Routes.{rule13, judgeAs, segmentAs, judgeOf, segmentOf}
@@ -83,3 +85,9 @@ module _ (s : List ℕ) (ero : Bool) (session : Session) (pst : ℕ) (z : judgeO
 pub judge-low : (s : List ℕ) (ero : Bool) (session : Session) (pst : ℕ) → numbers.Apart (judgeOf s ero session pst .number)
 unfolding judgeOf
 judge-low s ero session pst = numbers.judge-low (formOf pst) s ero session pst
+
+-- Of a session judging looks at three parts: agreed or not, N and the limit.
+pub judge-parts : (s : List ℕ) (ero : Bool) (session : Session) (pst : ℕ) (limit : Limit) → session .limit ≡ limit
+    → judgeOf s ero (record { agreed = session .agreed; n = session .n; limit = limit; a = false; r = false; v = absent; m = absent }) pst ≡ judgeOf s ero session pst
+unfolding judgeOf judgeAs
+judge-parts s ero session pst limit e = rw (← e)

@@ -2,7 +2,7 @@
 use Prim.Native.Nat.{ℕ}
 use mathlib.Core.Path.{_≡_, refl, sym, ap, _∙_}
 use mathlib.Core.List.{List}
-use mathlib.Core.Bool.{Bool, true, false, _||_, false≢true}
+use mathlib.Core.Bool.{Bool, true, false, _||_}
 use Rattle.answers.specs.declared.verdict.Verdict.{Verdict}
 use Rattle.answers.specs.Numbers.{notUsable}
 use Rattle.answers.specs.Verdicts.{refusedBy}
@@ -11,14 +11,11 @@ use Rattle.subobject.specs.Segments.{noSegment}
 use Rattle.subobject_strays.specs.Strays.{noStrays}
 use Rattle.route.specs.declared.picking.Picked.{Picked}
 use Rattle.route.specs.Routes.{judgeOf, segmentOf}
+use Rattle.octets.proofs.Said.{either-false}
 use Rattle.head_end.specs.Addresses.{usableList}
 use Rattle.route_limit.specs.FirstOff.{underLimit, sessionFor}
 use Rattle.route_limit.proofs.Laws.{by-none}
 use Rattle.route_call.specs.Called.{rule28, judgedIn, segmentIn}
-
-neither : (a b : Bool) → (a || b) ≡ false → (a ≡ false) × (b ≡ false)
-neither true b e = absurd (false≢true (sym e))
-neither false b e = (refl, e)
 
 module _ (s : List ℕ) (ero : Bool) (session : Session) (pst : ℕ) (addresses : List ℕ) where
   pub judged-28 : {b : Bool} {v : Verdict} → b ≡ usableList addresses → b ≡ false → v ≡ refusedBy notUsable 0 → v ≡ judgedIn s ero session pst addresses
@@ -34,7 +31,7 @@ module _ (s : List ℕ) (ero : Bool) (session : Session) (pst : ℕ) (addresses 
       → v ≡ judgeOf s ero own pst → v ≡ judgedIn s ero session pst addresses
   unfolding judgedIn rule28
   judged-own {b} {c} {own} e f o g h k =
-      let n = neither (own .a) (own .r) (sym g ∙ h) in
+      let n = either-false (own .a) (own .r) (sym g ∙ h) in
       let a : session .a ≡ false = ap (λ (x : Session). x .a) (sym o) ∙ n .0 in
       let r : session .r ≡ false = ap (λ (x : Session). x .r) (sym o) ∙ n .1 in
       k ∙ ap (λ (x : Session). judgeOf s ero x pst) (o ∙ sym (own-session a r)) ∙ rw (sym e ∙ f)

@@ -4,7 +4,6 @@
 mod over_mpls;
 mod over_srv6;
 mod seen;
-mod sound;
 
 pub use over_mpls::see_mpls;
 pub use over_srv6::see_srv6;

@@ -6,6 +6,7 @@ use mathlib.Core.List.{List, []}
 use mathlib.Core.Bool.{Bool, true, false, cond, _&&_, _||_}
 use lib.ListN.{length, take, drop, length-take, length-drop}
 use lib.Dec.{eqb}
+use Rattle.octets.proofs.Said.{and-false}
 use Rattle.answers.proofs.Determined.{determined}
 use Rattle.octets.specs.Octets.{octetOf, part}
 use Rattle.objects.specs.Objects.{header}
@@ -22,10 +23,6 @@ use Rattle.head_end.proofs.Laws.{short-is-none, none-in-none}
 use Rattle.route_limit.specs.FirstOff.{isAdjacency, firstHead, localAddress, ownAdjacency, staysOff, withOneMore, limitFor, sessionFor}
 
 -- the first segment ----------------------------------------------------------------------------------------------
-
-and-false : (a : Bool) → (a && false) ≡ false
-and-false true = refl
-and-false false = refl
 
 or-true : (a : Bool) → (a || true) ≡ true
 or-true true = refl

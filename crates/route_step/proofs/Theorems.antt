@@ -27,8 +27,11 @@ use Rattle.route.specs.declared.picking.Picked.{Picked}
 use Rattle.route.specs.Routes.{judgeAs, judgeOf, segmentOf, countOf}
 use Rattle.route.proofs.Answer.{accepted-none, accepted-count, accepted-frame, accepted-subobject, pick-there}
 use Rattle.route_step.specs.declared.stepping.Stepped.{Stepped}
-use Rattle.route_step.specs.Steps.{outside, stepVerdict, stepAs, stepOf, stepsFrom}
-use Rattle.route_step.proofs.Laws.{Sound, sound-accepted, stops-15}
+use Rattle.route_step_tests.specs.Places.{outside}
+use Rattle.route_step_rules.specs.StepRules.{stepVerdict}
+use Rattle.route_step_rules.proofs.Laws.{stops-15}
+use Rattle.route_step.specs.Steps.{stepAs, stepOf, stepsFrom}
+use Rattle.route_step.proofs.Laws.{Sound, sound-accepted}
 
 -- ---- one type for all
 all-same : (kinds : ℕ → ℕ) (k : ℕ) (ps : List ℕ) → ((j : ℕ) → j < length ps → 0 < getD ps j 0) → otherThan kinds k ps ≡ 0 → (j : ℕ) → j < length ps

@@ -1,53 +1,14 @@
--- A step through a route: the subobject at a place, looked at by itself. The rules are document 01's, without those that hang on the whole route or
--- on a session: 5, 6, 13, 10, 12.
-use Prim.Native.Nat.{ℕ, zero, suc, _+_, _-_, _%_}
-use mathlib.Core.List.{List, [], _∷_}
-use mathlib.Core.Bool.{Bool, cond, not, _||_}
-use lib.Dec.{eqb, ltb, leb}
-use lib.ListN.{length}
-use Rattle.answers.specs.declared.verdict.Verdict.{Verdict}
-use Rattle.answers.specs.Numbers.{frameBroken, lengthWrong, naiUnknown, nothingThere, structureTooLong, noSrv6, noSuchSegment, labelValue, labelFormat}
-use Rattle.answers.specs.Verdicts.{acceptedWith}
+-- A step through a route: the subobject at a place, looked at by itself. Its rules stand in route_step_rules/specs/StepRules.
+use Prim.Native.Nat.{ℕ, zero, suc, _+_}
+use mathlib.Core.List.{List}
+use mathlib.Core.Bool.{Bool, cond}
+use lib.Dec.{eqb}
 use Rattle.octets.specs.Octets.{octetOf}
-use Rattle.objects.specs.Objects.{header, unit}
 use Rattle.forms.specs.declared.Form.{Form}
 use Rattle.forms.specs.Forms.{formOf}
-use Rattle.subobject.specs.declared.head.Head.{Head}
-use Rattle.subobject.specs.Layout.{sidPlace, headAt}
-use Rattle.subobject.specs.Rules.{rule7, rule8, rule9, rule11, rule29, rule30, bitsAt, labelAt, timeAt}
 use Rattle.subobject.specs.Segments.{segmentAt, noSegment}
-use Rattle.frame.specs.Checks.{Check, check, firstBroken}
-use Rattle.frame.specs.Frames.{fitsIn}
+use Rattle.route_step_rules.specs.StepRules.{stepVerdict}
 use Rattle.route_step.specs.declared.stepping.Stepped.{Stepped}
-
--- No subobject begins there: in the header, at no multiple of 4, at or past the end.
-unfoldable pub outside : List ℕ → ℕ → Bool
-outside s at = ltb at header || (not (eqb (at % unit) 0) || leb (length s) at)
-
--- 14, then 8, 9, 7, 11, 29, 30, of the subobject at a place by the head found there. As in judging, 29 and 30 name no place.
-abbrev pub headChecks : Form → List ℕ → ℕ → Head → List Check
-headChecks form s at h =
-    check noSrv6 0 (not (eqb (h .kind) (form .kind)))
-    ∷ check naiUnknown at (rule8 form h)
-    ∷ check nothingThere at (rule9 h)
-    ∷ check lengthWrong at (rule7 form h)
-    ∷ check structureTooLong at (rule11 h (bitsAt form s at h))
-    ∷ check labelValue 0 (rule29 h (labelAt s (sidPlace form at)))
-    ∷ check labelFormat 0 (rule30 h (timeAt s (sidPlace form at)))
-    ∷ []
-
--- Before them 15 and 4.
-abbrev pub stepChecks : Form → List ℕ → Bool → ℕ → List Check
-stepChecks form s ero at =
-    check noSuchSegment 0 (outside s at)
-    ∷ check frameBroken 0 (not (fitsIn (octetOf s (at + 1)) (length s - at)))
-    ∷ headChecks form s at (headAt form s ero at)
-
-unfoldable pub headVerdict : Form → List ℕ → ℕ → Head → Verdict
-headVerdict form s at h = firstBroken (headChecks form s at h) (acceptedWith 0)
-
-unfoldable pub stepVerdict : Form → List ℕ → Bool → ℕ → Verdict
-stepVerdict form s ero at = firstBroken (stepChecks form s ero at) (acceptedWith 0)
 
 -- What is handed out: the segment there and the place behind it; after a refusal no segment, and the place asked for.
 unfoldable pub stepAs : Form → List ℕ → Bool → ℕ → Stepped

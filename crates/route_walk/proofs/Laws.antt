@@ -9,7 +9,7 @@ use lib.ListN.{length, getD, drop}
 use lib.Seq.{drop-cons}
 use lib.Dec.{eqb}
 use native.Mathlib.Omega.{arith}
-use borrow.Author.Tests.{eqb-true, eqb-false, ne-eqb}
+use borrow.Author.Tests.{eqb-true, eqb-false}
 use native.Mathlib.Nat.{zero-add}
 use native.Mathlib.Numerals.{add-one}
 use Rattle.answers.specs.declared.verdict.Verdict.{Verdict}
@@ -17,10 +17,9 @@ use Rattle.answers.specs.Verdicts.{refusedBy, carryingBoth}
 use Rattle.octets.specs.Octets.{octetOf}
 use Rattle.objects.specs.Objects.{header}
 use Rattle.forms.specs.declared.Form.{Form}
-use Rattle.forms.specs.Forms.{naiLength}
 use Rattle.subobject.specs.declared.head.Head.{Head}
 use Rattle.subobject.specs.Layout.{headOf, headAt, expectedLength}
-use Rattle.subobject.specs.Rules.{sumAt, bitsAt, rule11, subjectBy, subjectAt, Row, rules, ruleCount, brokenBy, placeBy}
+use Rattle.subobject.specs.Rules.{subjectBy, subjectAt, Row, rules, ruleCount, brokenBy, placeBy}
 use Rattle.subobject_strays.specs.Strays.{straysBy, straysAt, strayOne, strayIn}
 use Rattle.subobject_strays.specs.Four.{markedAt, endingMarked}
 use Rattle.subobject.proofs.Laws.{sound-length}
@@ -158,19 +157,3 @@ asked form ero n s at number h b e q = rw (← e) (sym q)
 -- A refusal with the place that its number names.
 pub refused-at : (v : Verdict) (number at place : ℕ) → v ≡ refusedBy number place → place ≡ placeBy number at → v ≡ refusedBy number (placeBy number at)
 refused-at v number at place e p = e ∙ ap (λ (x : ℕ). refusedBy number x) p
-
--- No other number names a place.
-pub unplaced : (number at : ℕ) → (number ≡ 8 → ⊥) → (number ≡ 9 → ⊥) → (number ≡ 7 → ⊥) → (number ≡ 10 → ⊥) → (number ≡ 11 → ⊥) → 0 ≡ placeBy number at
-unfolding placeBy
-unplaced number at a b c d e =
-    rw (ne-eqb number 8 a, ne-eqb number 9 b, ne-eqb number 7 c, ne-eqb number 10 d, ne-eqb number 11 e) (go (eqb number 29) (eqb number 30))
-  where
-    go : (x y : Bool) → _≡_ {A = ℕ} 0 (cond x 0 (cond y 0 0))
-    go true y = refl
-    go false true = refl
-    go false false = refl
-
--- 11, from the sum where the code looks for it.
-pub eleven-made : (form : Form) (h : Head) (s : List ℕ) (at fixed sid nai sum : ℕ) (r : Bool) → fixed ≡ form .fixed → sid ≡ form .sid → nai ≡ naiLength form (h .nt)
-    → sum ≡ sumAt s (at + fixed + sid + nai) → r ≡ rule11 h sum → r ≡ rule11 h (bitsAt form s at h)
-eleven-made form h s at fixed sid nai sum r ef es en em er = er ∙ ap (λ (x : ℕ). rule11 h x) (em ∙ rw (ef, es, en))

@@ -8,7 +8,7 @@ ghost use Rattle.objects.specs.Objects.{header};
 ghost use Rattle.frame.specs.Frames.{apartOf};
 ghost use Rattle.forms.specs.Sized.{Sized};
 ghost use Rattle.route_walk.specs.Walk.{walkOf};
-use super::numbered;
+use super::order;
 use answers::Verdict;
 use forms::Form;
 
@@ -27,10 +27,10 @@ pub fn walk(form: Form, s: &[u8], ero: bool, n: bool, count: usize) -> Verdict
         let h = subobject::head_at(form, s, at, ero);
         let next = at + h.size;
         let mut k: usize = 0;
-        while k < numbered::RULES {
-            let number = numbered::ORDER[k];
-            if numbered::breaks(form, s, at, h, ero, n, number) {
-                break 'walk answers::refused(number, numbered::place(number, at));
+        while k < order::RULES {
+            let number = order::ORDER[k];
+            if subobject_numbered::breaks(form, s, at, h, ero, n, number) {
+                break 'walk answers::refused(number, subobject_numbered::place(number, at));
             }
             k = k + 1;
         }

@@ -8,8 +8,8 @@ use lib.ListN.{getD, drop}
 use Rattle.positions.specs.declared.Setup.{Setup}
 use Rattle.session.specs.declared.Opened.{Opened}
 use Rattle.session.specs.Sessions.{openRefused, withoutSrv6, sessionsOf}
-use Rattle.capability.specs.Mpls.{mplsBeside}
-use Rattle.open.specs.Open.{mplsOf, srv6Of, mplsListed, listed, breaks28, saidBy, carriesSrv6, besideBy, carriesOf, Rule, openRules, firstBroken, openOf}
+use Rattle.capability_mpls.specs.Mpls.{mplsBeside}
+use Rattle.open.specs.Open.{mplsOf, srv6Of, mplsListed, listed, breaks28, saidBy, carriesSrv6, besideBy, carriesOf, Rule, openRules, firstRule, openOf}
 use Rattle.open.proofs.Rules.{limit-of-depths}
 use Rattle.route_call.specs.Called.{judgedFor, flaggedOpen, withA, withR}
 use Rattle.route_call.proofs.Theorems.{flags-never-refuse}
@@ -70,11 +70,11 @@ positions-tell-flags p q s e f = rw (e, f) (
     beside true none u v h = h
     beside true (some w) u v h = ap (λ (x : Opened). unflagged (mplsBeside w x)) h
 
-    refused : (rs : List Rule) (u v : Opened) → unflagged u ≡ unflagged v → unflagged (firstBroken rs u) ≡ unflagged (firstBroken rs v)
+    refused : (rs : List Rule) (u v : Opened) → unflagged u ≡ unflagged v → unflagged (firstRule rs u) ≡ unflagged (firstRule rs v)
     refused [] u v h = h
     refused (r ∷ rs) u v h = first (r .broken) (refused rs u v h)
       where
-        first : (b : Bool) → unflagged (firstBroken rs u) ≡ unflagged (firstBroken rs v)
-            → unflagged (cond b (openRefused (r .number) (r .form)) (firstBroken rs u)) ≡ unflagged (cond b (openRefused (r .number) (r .form)) (firstBroken rs v))
+        first : (b : Bool) → unflagged (firstRule rs u) ≡ unflagged (firstRule rs v)
+            → unflagged (cond b (openRefused (r .number) (r .form)) (firstRule rs u)) ≡ unflagged (cond b (openRefused (r .number) (r .form)) (firstRule rs v))
         first true k = refl
         first false k = k

@@ -1,4 +1,2 @@
 pub mod Determined
 pub mod Laws
-pub mod Nais
-pub mod Pieces

@@ -2,10 +2,8 @@
 ghost use mathlib.Core.Path.{_≡_};
 ghost use Prim.Native.Nat.{_+_, _≤_};
 ghost use lib.ListN.{length};
-ghost use mathlib.Core.Bool.{cond};
-ghost use Rattle.octets.specs.Octets.{be16, partOf};
 ghost use Rattle.forms.specs.Sized.{Sized};
-ghost use Rattle.subobject.specs.Layout.{behaviourPlace, bitLengths, expectedAt};
+ghost use Rattle.subobject.specs.Layout.{expectedAt};
 ghost use Rattle.subobject.specs.Segments.{segmentAt, noSegment};
 use forms::Form;
 use subobject::Segment;
@@ -29,28 +27,6 @@ pub fn no_segment() -> Segment
     }
 }
 
-// The endpoint behaviour of the subobject at `at`, 0 where the form has none.
-pub fn behaviour_at(form: Form, s: &[u8], at: usize) -> u16
-    requires { ⌜ (at + form .fixed ≤ length (now s)) × Sized form ⌝ }
-    ensures behaviour { λ r. ⌜ r ≡ cond (form .behaves) (be16 (now (s .entry)) (at + behaviourPlace)) 0 ⌝ }
-{
-    if form.behaves {
-        return octets::read16(s, at + subobject::BEHAVIOUR_PLACE) as u16;
-    }
-    0
-}
-
-// The bit lengths of the SID structure at a place, if there is one.
-pub fn structure_at(s: &[u8], at: usize, there: bool) -> [u8; 4]
-    requires { ⌜ at + cond there bitLengths 0 ≤ length (now s) ⌝ }
-    ensures part { λ r. ⌜ r ≡ partOf (now (s .entry)) at (cond there bitLengths 0) bitLengths ⌝ }
-{
-    if there {
-        return octets::part4(s, at, subobject::BIT_LENGTHS);
-    }
-    [0u8; 4]
-}
-
 // What the octets of the subobject at `at` say.
 pub fn segment_at(form: Form, s: &[u8], at: usize, ero: bool) -> Segment
     requires { ⌜ (at + expectedAt form (now s) ero at ≤ length (now s)) × Sized form ⌝ }
@@ -61,7 +37,7 @@ pub fn segment_at(form: Form, s: &[u8], at: usize, ero: bool) -> Segment
     let fixed = octets::wide(form.fixed);
     let k = octets::pick(h.s == 0, octets::wide(form.sid), 0);
     let n = forms::nai_length(form, h.nt);
-    let behaviour = behaviour_at(form, s, at);
+    let behaviour = subobject_parts::behaviour_at(form, s, at);
     let nt = h.nt as u8;
     let sid = octets::part16(s, at + fixed, k);
     let nai = octets::part40(s, at + fixed + k, n);

@@ -62,14 +62,5 @@ pub fn sum_at(s: &[u8], at: usize) -> usize
     requires { ⌜ at < length (now s) + 128 ⌝ }
     ensures sum { λ r. ⌜ (r ≡ sumAt (now (s .entry)) at) × (r < 1024) ⌝ }
 {
-    if at + 4 <= s.len() {
-        return octets::wide(s[at])
-            + octets::wide(s[at + 1])
-            + octets::wide(s[at + 2])
-            + octets::wide(s[at + 3]);
-    }
-    octets::octet(s, at)
-        + octets::octet(s, at + 1)
-        + octets::octet(s, at + 2)
-        + octets::octet(s, at + 3)
+    octet_sums::sum_four(s, at)
 }

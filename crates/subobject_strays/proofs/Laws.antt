@@ -17,7 +17,8 @@ use Rattle.subobject_strays.specs.declared.Strays.{Strays}
 use Rattle.subobject.specs.Layout.{structureSize, bitLengths, expectedLength}
 use Rattle.subobject.specs.Rules.{hasStructure}
 use Rattle.subobject_strays.specs.Strays.{reservedPlace, strayFlags, structureReserved, structureFlags, reservedOctets, anySet, straysBy, isStray, strayOne}
-use Rattle.subobject_strays.specs.Four.{straysWith, fourOf, fourAt, markedAt, endingMarked}
+use Rattle.octet_sums.specs.Sums.{sumThree, fourOf, fourAt}
+use Rattle.subobject_strays.specs.Four.{straysWith, markedAt, endingMarked}
 use Rattle.subobject.proofs.Laws.{there-sid}
 
 -- where things lie ---------------------------------------------------------------------------------------------
@@ -134,6 +135,14 @@ module _ (form : Form) (h : Head) (s : List ℕ) (at flags fixed : ℕ) (eg : fl
       let q : not (eqb fixed 0) ≡ anySet (reservedTwo form s at ++ []) =
       rw (ef, set-fixed form s at) (sym (set-append (reservedTwo form s at) [] ∙ or-none (anySet (reservedTwo form s at)))) in
       rw e (λ i. record { flags = eg i; structure = 0; reserved = q i })
+
+-- The strays with a structure, from the sum of its reserved octets.
+pub with-made : (s : List ℕ) (p flags fixed more : ℕ) (r : Bool) → more ≡ sumThree s p → r ≡ (not (eqb fixed 0) || not (eqb more 0))
+    → _≡_ {A = Strays} (record { flags = flags; structure = octetOf s (p + 3); reserved = r }) (straysWith s p flags fixed)
+unfolding straysWith sumThree
+with-made s p flags fixed more r em er =
+    let q : r ≡ (not (eqb fixed 0) || not (eqb (sumThree s p) 0)) = er ∙ ap (λ (x : ℕ). not (eqb fixed 0) || not (eqb x 0)) em in
+    (λ i. record { flags = flags; structure = octetOf s (p + 3); reserved = q i })
 
 -- The marks of the fixed part, as the code asks for them.
 pub marked-two : (form : Form) (s : List ℕ) (at : ℕ) → markedAt form s at ≡ (not (eqb (strayFlags form s at) 0) || not (eqb (fixedTwo form s at) 0))

@@ -11,7 +11,8 @@ use borrow.Author.Tests.{eq-eqb, ne-eqb, eqb-true, eqb-false}
 use Rattle.octets.specs.Octets.{octetOf, be16}
 use Rattle.forms.specs.Forms.{srv6Form}
 use Rattle.subobject_strays.specs.Strays.{strayFlags, anySet}
-use Rattle.subobject_strays.specs.Four.{fourOf, fourAt, markedAt}
+use Rattle.octet_sums.specs.Sums.{fourOf, fourAt}
+use Rattle.subobject_strays.specs.Four.{markedAt}
 use Rattle.subobject_strays.proofs.Laws.{set-sum, set-worth, or-none, set-two}
 
 -- Octets 2 to 5: the unassigned flags, and the reserved two.

@@ -1,10 +1,11 @@
 -- What a walk over many subobjects looks at to tell that nothing is stray. No promise rests on it: contracts of inner functions cite it, and
 -- proofs turn it into Strays.
-use Prim.Native.Nat.{ℕ, _+_, _-_, _*_}
+use Prim.Native.Nat.{ℕ, _+_, _-_}
 use mathlib.Core.Bool.{Bool, false, cond, not, _&&_, _||_}
 use mathlib.Core.List.{List}
 use lib.Dec.{eqb}
 use Rattle.octets.specs.Octets.{octetOf, be16}
+use Rattle.octet_sums.specs.Sums.{fourAt}
 use Rattle.forms.specs.declared.Form.{Form}
 use Rattle.subobject.specs.declared.head.Head.{Head}
 use Rattle.subobject_strays.specs.declared.Strays.{Strays}
@@ -23,13 +24,6 @@ straysWith s p flags fixed =
       structure = octetOf s (p + 3);
       reserved = not (eqb fixed 0) || not (eqb (octetOf s p + octetOf s (p + 1) + octetOf s (p + 2)) 0);
     }
-
--- Four octets as one number, the first the lowest.
-abbrev pub fourOf : ℕ → ℕ → ℕ → ℕ → ℕ
-fourOf a b c d = a + b * 256 + c * 65536 + d * 16777216
-
-unfoldable pub fourAt : List ℕ → ℕ → ℕ
-fourAt s at = fourOf (octetOf s at) (octetOf s (at + 1)) (octetOf s (at + 2)) (octetOf s (at + 3))
 
 -- The last four octets of a structure, which end a subobject of the expected length.
 unfoldable pub endingMarked : Head → List ℕ → ℕ → Bool

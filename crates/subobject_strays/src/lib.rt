@@ -8,7 +8,7 @@ ghost use Rattle.octets.specs.Octets.{be16};
 ghost use Rattle.forms.specs.Forms.{srv6Form};
 ghost use Rattle.forms.specs.Sized.{Sized};
 ghost use Rattle.subobject.specs.Layout.{expectedLength};
-ghost use Rattle.subobject_strays.specs.Four.{straysWith, fourAt, markedAt, endingMarked};
+ghost use Rattle.subobject_strays.specs.Four.{straysWith, markedAt, endingMarked};
 ghost use Rattle.subobject_strays.specs.Strays.{reservedPlace, strayFlags, straysBy, noStrays, strayOne};
 use forms::Form;
 use subobject::Head;
@@ -66,7 +66,7 @@ fn with_structure(s: &[u8], p: usize, flags: usize, fixed: usize) -> Strays
     requires { ⌜ (p + 4 ≤ length (now s)) × (flags < 4096) ⌝ }
     ensures strays { λ r. ⌜ r ≡ straysWith (now (s .entry)) p flags fixed ⌝ }
 {
-    let more = octets::wide(s[p]) + octets::wide(s[p + 1]) + octets::wide(s[p + 2]);
+    let more = octet_sums::sum_three(s, p);
     Strays {
         flags: flags as u16,
         structure: s[p + 3],
@@ -97,17 +97,6 @@ pub fn strays_at(form: Form, s: &[u8], at: usize, h: Head) -> Strays
     }
 }
 
-// Four octets as one number, the first the lowest: the compiler reads them at once.
-fn four(s: &[u8], at: usize) -> usize
-    requires { ⌜ at + 4 ≤ length (now s) ⌝ }
-    ensures four { λ r. ⌜ r ≡ fourAt (now (s .entry)) at ⌝ }
-{
-    octets::wide(s[at])
-        + octets::wide(s[at + 1]) * 256
-        + octets::wide(s[at + 2]) * 65536
-        + octets::wide(s[at + 3]) * 16777216
-}
-
 // Whether an unassigned flag or a reserved octet is set in the fixed part.
 fn marked(form: Form, s: &[u8], at: usize) -> bool
     requires { ⌜ (at + form .fixed ≤ length (now s)) × Sized form ⌝ }
@@ -124,7 +113,7 @@ fn marked_srv6(s: &[u8], at: usize) -> bool
     requires { ⌜ at + srv6Form .fixed ≤ length (now s) ⌝ }
     ensures marked { λ r. ⌜ r ≡ markedAt srv6Form (now (s .entry)) at ⌝ }
 {
-    four(s, at + FLAGS_PLACE) & SRV6_STRAY_BITS != 0
+    octet_sums::four(s, at + FLAGS_PLACE) & SRV6_STRAY_BITS != 0
 }
 
 // Whether one of the last four octets of a structure is set. They end a subobject of the expected length.
@@ -133,7 +122,7 @@ fn ending_marked(form: Form, s: &[u8], at: usize, h: Head) -> bool
     ensures marked { λ r. ⌜ r ≡ endingMarked h (now (s .entry)) at ⌝ }
 {
     if subobject::structured(h) {
-        return four(s, at + h.size - 4) != 0;
+        return octet_sums::four(s, at + h.size - 4) != 0;
     }
     false
 }

@@ -8,14 +8,14 @@ use lib.Dec.{eqb}
 use Rattle.octets.specs.Octets.{part}
 use Rattle.answers.proofs.Determined.{determined}
 use Rattle.tlvs.specs.declared.span.Span.{Span}
-use Rattle.tlvs.specs.Tlvs.{absent}
+use Rattle.tlvs.specs.Tlvs.{notThere}
 use Rattle.tlvs.specs.Places.{nowhere, missingOf, keepOf, valueAt, Inside, orElse}
 
 -- A value that was not found is absent.
-pub absent-missing : (s : List ℕ) (p : Span) → absent (valueAt s p) ≡ missingOf p
+pub absent-missing : (s : List ℕ) (p : Span) → notThere (valueAt s p) ≡ missingOf p
 absent-missing s p = go (missingOf p) refl
   where
-    go : (b : Bool) → missingOf p ≡ b → absent (valueAt s p) ≡ missingOf p
+    go : (b : Bool) → missingOf p ≡ b → notThere (valueAt s p) ≡ missingOf p
     go true e = rw e
     go false e = rw e
 

@@ -61,6 +61,6 @@ firstTlv want tlvsCut = none
 firstTlv want (tlv kind value rest) = cond (eqb kind want) (some value) (firstTlv want rest)
 
 -- There is none.
-abbrev pub absent : Option (List ℕ) → Bool
-absent none = true
-absent (some value) = false
+abbrev pub notThere : Option (List ℕ) → Bool
+notThere none = true
+notThere (some value) = false

@@ -1,6 +1,6 @@
 -- What a call answers and leaves, from its refusal or acceptance; octets stored one by one. Assumes nothing.
 use Prim.Native.Nat.{ℕ, _≤_}
-use mathlib.Core.Path.{_≡_, refl, sym, _∙_, ap, subst}
+use mathlib.Core.Path.{_≡_, refl, sym, _∙_, ap}
 use mathlib.Core.Bool.{Bool}
 use mathlib.Core.List.{List, [], _∷_, append-assoc}
 use lib.ListN.{length, set}
@@ -10,9 +10,8 @@ use Rattle.answers.specs.Verdicts.{kept}
 use Rattle.octets.specs.Octets.{over, placed}
 use Rattle.objects.specs.Objects.{header, classPlace, typePlace, lengthPlace}
 use Rattle.forms.specs.declared.Form.{Form}
-use Rattle.forms.specs.Forms.{srv6Form, formOf, naiLength}
-use Rattle.forms.proofs.Laws.{of-both, form-mpls, form-srv6}
-use Rattle.writer_spare.specs.Steps.{Known}
+use Rattle.forms.specs.Forms.{formOf}
+use Rattle.forms.proofs.Laws.{form-mpls, form-srv6}
 use Rattle.frame.specs.Frames.{classOf}
 use Rattle.writer.specs.declared.state.Writer.{Writer}
 use Rattle.writer.specs.declared.state.Written.{Written}
@@ -54,13 +53,3 @@ kept-mpls n e = ap (λ (form : Form). form .setup) (form-mpls n e)
 
 pub kept-srv6 : (n : ℕ) → (n ≡ 1 → ⊥) → 3 ≡ formOf n .setup
 kept-srv6 n e = ap (λ (form : Form). form .setup) (form-srv6 n e)
-
--- What both forms have alike: an NAI of no octets for NT 0, and the longest for NT 6.
-pub nai-none : (form : Form) → Known form → 0 ≡ naiLength form 0
-unfolding naiLength
-nai-none form k = subst (λ (f : Form). 0 ≡ naiLength f 0) k (of-both (λ (f : Form). 0 ≡ naiLength f 0) refl refl (form .setup))
-
-pub nai-longest : (form : Form) → Known form → naiLength srv6Form 6 ≡ naiLength form 6
-unfolding naiLength
-nai-longest form k =
-    subst (λ (f : Form). naiLength srv6Form 6 ≡ naiLength f 6) k (of-both (λ (f : Form). naiLength srv6Form 6 ≡ naiLength f 6) refl refl (form .setup))

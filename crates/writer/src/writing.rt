@@ -1,12 +1,10 @@
 // Begin, add and finish. An object starts with its class, its type in the high 4 bits of the next octet,
 // and a length of 2 octets that counts the 4 octets of the header.
 ghost use mathlib.Core.Path.{_≡_};
-ghost use Prim.Native.Nat.{_≤_};
-ghost use Rattle.forms.specs.Forms.{formOf, naiLength};
+ghost use Rattle.forms.specs.Forms.{formOf};
 ghost use Rattle.forms.specs.Sized.{Sized};
 ghost use Rattle.subobject.specs.Segments.{segmentWith};
 ghost use Rattle.writer_spare.specs.Held.{Held};
-ghost use Rattle.writer_spare.specs.Steps.{Known};
 ghost use Rattle.writer_layout.specs.Readable.{Readable};
 ghost use Rattle.writer.specs.Writing.{beginAnswer, beginBuffer, addAnswerIn, addBufferIn, addAnswer, addBuffer, finishAnswer, finishBuffer};
 use super::state;
@@ -53,20 +51,6 @@ pub fn begin(buf: &mut [u8], writer: Writer, ero: bool, pst: u64) -> Written
     })
 }
 
-// The octets of the NAI for an NT. Those that both forms have alike, for none and the longest, come before the look into the form.
-fn nai_octets(form: Form, nt: usize) -> usize
-    requires { ⌜ Known form ⌝ }
-    ensures octets { λ r. ⌜ (r ≡ naiLength form nt) × (r ≤ 255) ⌝ }
-{
-    if nt == subobject::NO_NAI {
-        return 0;
-    }
-    if nt == subobject::LINK_LOCAL {
-        return forms::nai_length(forms::srv6(), subobject::LINK_LOCAL);
-    }
-    forms::nai_length(form, nt)
-}
-
 // Writes a segment of a form into the rest of the buffer from the present place on. The segment's octets are lent: to hand them on by
 // value takes longer than to write them.
 fn add_in(
@@ -83,8 +67,8 @@ fn add_in(
     ensures buffer { λ _. ⌜ now (buf .exit) ≡ addBufferIn form (now (buf .entry)) writer (segmentWith o (now (sid .entry)) (now (nai .entry)) (now (bits .entry))) ⌝ }
 {
     let h = subobject::head_of(form, o);
-    let n = nai_octets(form, h.nt);
-    let front = writer_rules::front(form, o, sid);
+    let n = writer_front::nai_octets(form, h.nt);
+    let front = writer_front::front(form, o, sid);
     let size = front + n + octets::pick(o.structured, subobject::STRUCTURE_LENGTH, 0);
     let number = writer_rules::adding(
         form,

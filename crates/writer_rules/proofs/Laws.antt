@@ -5,26 +5,28 @@ use mathlib.Core.Bool.{Bool, true, false, cond, not, _&&_, _||_}
 use mathlib.Core.List.{List}
 use lib.Dec.{eqb, ltb}
 use lib.ListN.{length, drop}
-use borrow.Author.Tests.{eq-eqb, ne-eqb, lt-ltb, ltb-true, eqb-true, eqb-false, ltb-false, not-false}
+use borrow.Author.Tests.{eq-eqb, ne-eqb, eqb-true, eqb-false, ltb-false, not-false}
 use native.Mathlib.Omega.{arith}
 use Rattle.octets.proofs.Said.{either-false, both-true, cond-most}
 use Rattle.objects.specs.Objects.{header, unit}
 use Rattle.forms.specs.declared.Form.{Form}
-use Rattle.forms.specs.Forms.{srv6Form, mplsForm, naiLength, knows}
+use Rattle.forms.specs.Forms.{naiLength, knows}
 use Rattle.forms.specs.Sized.{Sized}
 use Rattle.subobject.specs.declared.head.Head.{Head}
 use Rattle.subobject.specs.declared.segment.Outline.{Outline}
 use Rattle.subobject.specs.declared.segment.Segment.{Segment}
 use Rattle.subobject.specs.Layout.{bitLengths, structureSize, sidLength, structureThere, expectedLength}
-use Rattle.subobject.specs.Rules.{rule8, rule9, malformed, hasStructure, mostBits, sumAt, rule11, labelAt, timeAt, hasLabel, rule29, rule30}
+use Rattle.subobject.specs.Rules.{rule8, rule9, malformed, hasStructure, mostBits, sumAt, rule11, labelAt, timeAt, rule29, rule30}
 use Rattle.subobject.specs.Segments.{outlineOf, headOfOutline, headOfSegment, subobjectOf, bitsOf, bit}
 use Rattle.writer_spare.specs.Held.{Held}
 use Rattle.writer_spare.specs.Spare.{zeros, tidyOf}
 use Rattle.writer_spare.proofs.Laws.{tidy-parts}
-use Rattle.writer_layout.specs.Small.{Parts}
-use Rattle.writer_layout.proofs.Laws.{length-subobject, fixed-least, fixed-most}
+use Rattle.writer_fixed.proofs.Laws.{fixed-least, fixed-most}
+use Rattle.writer_layout.specs.Parts.{Parts}
+use Rattle.writer_layout.proofs.Laws.{length-subobject}
 use Rattle.writer_rules.specs.Refusals.{mostOctets, passes, badPlace, foreign, unfit, noRoom, addNumber, finishNumber}
-use Rattle.writer_rules.specs.Front.{strayed, barred, lead, frontOf}
+use Rattle.writer_front.specs.Front.{strayed, barred, lead, frontOf}
+use Rattle.writer_front.proofs.Laws.{cond-no}
 
 -- tests --------------------------------------------------------------------------------------------------------
 
@@ -105,95 +107,6 @@ done room at e =
     record { place = proper at room (e16 .0); filled = eqb-false at header (e5 .0) }
 
 -- the octets before an NAI --------------------------------------------------------------------------------------
-
-cond-yes : {A : Type 0} (b : Bool) (x y : A) → b ≡ true → x ≡ cond b x y
-cond-yes b x y e = rw e
-
-cond-no : {A : Type 0} (b : Bool) (x y : A) → b ≡ false → y ≡ cond b x y
-cond-no b x y e = rw e
-
-module _ (form : Form) (o : Outline) (sid : List ℕ) where
-  strayed-sid : o .hassid ≡ true → (b : Bool) → zeros (drop (form .sid) sid) ≡ b → strayed form o sid ≡ not b
-  unfolding strayed
-  strayed-sid t b e = rw (t, e) (go (o .structured))
-    where
-      go : (x : Bool) → ((x && false) || not b) ≡ not b
-      go true = refl
-      go false = refl
-
-  pub before-stray : o .hassid ≡ true → zeros (drop (form .sid) sid) ≡ false → 0 ≡ cond (strayed form o sid) 0 (lead form o)
-  before-stray t e = cond-yes _ _ _ (strayed-sid t false e)
-
-  pub before-sid : {w k : ℕ} → o .hassid ≡ true → zeros (drop (form .sid) sid) ≡ true → w ≡ form .fixed → k ≡ form .sid
-      → w + k ≡ cond (strayed form o sid) 0 (lead form o)
-  before-sid {w} {k} t e ew ek =
-      let q : w + k ≡ lead form o = rw (t, ew, ek) in q ∙ cond-no (strayed form o sid) 0 (lead form o) (strayed-sid t true e)
-
-  pub before-structure : o .hassid ≡ false → o .structured ≡ true → 0 ≡ cond (strayed form o sid) 0 (lead form o)
-  unfolding strayed
-  before-structure t e = rw (t, e)
-
-  pub before-spare : o .hassid ≡ false → o .structured ≡ false → zeros sid ≡ false → 0 ≡ cond (strayed form o sid) 0 (lead form o)
-  unfolding strayed
-  before-spare t s e = rw (t, s, e)
-
-  pub before-none : {w : ℕ} → o .hassid ≡ false → o .structured ≡ false → zeros sid ≡ true → w ≡ form .fixed → w ≡ cond (strayed form o sid) 0 (lead form o)
-  unfolding strayed
-  before-none {w} t s e ew = rw (t, s, e) (omega arith)
-
--- Malformed flags by M first.
-ill-by : (form : Form) (o : Outline) → cond (o .labelled) (not (o .hassid)) (o .complete) ≡ malformed (headOfOutline form o)
-unfolding malformed
-ill-by form o = go (o .labelled) (o .hassid) (o .complete)
-  where
-    go : (l a c : Bool) → cond l (not a) c ≡ ((eqb (bit (not a)) 1 && (eqb (bit l) 1 || eqb (bit c) 1)) || (eqb (bit c) 1 && not (eqb (bit l) 1)))
-    go true true true = refl
-    go true true false = refl
-    go true false true = refl
-    go true false false = refl
-    go false true true = refl
-    go false true false = refl
-    go false false true = refl
-    go false false false = refl
-
-pub ill-labelled : (form : Form) (o : Outline) → o .labelled ≡ true → not (o .hassid) ≡ malformed (headOfOutline form o)
-ill-labelled form o e = cond-yes (o .labelled) (not (o .hassid)) (o .complete) e ∙ ill-by form o
-
-pub ill-other : (form : Form) (o : Outline) → o .labelled ≡ false → o .complete ≡ malformed (headOfOutline form o)
-ill-other form o e = cond-no (o .labelled) (not (o .hassid)) (o .complete) e ∙ ill-by form o
-
--- What bars a segment of either form.
-pub srv6-barred : (o : Outline) (sid : List ℕ) → barred srv6Form o sid ≡ cond (o .labelled) true (cond (o .complete) true (strayed srv6Form o sid))
-unfolding barred foreign malformed
-srv6-barred o sid = go (o .labelled) (o .complete) (o .hassid) (strayed srv6Form o sid)
-  where
-    go : (l c a x : Bool)
-        → (((l || (c || false)) || ((eqb (bit (not a)) 1 && (eqb (bit l) 1 || eqb (bit c) 1)) || (eqb (bit c) 1 && not (eqb (bit l) 1)))) || x)
-        ≡ cond l true (cond c true x)
-    go true c a x = refl
-    go false true a x = refl
-    go false false true x = refl
-    go false false false x = refl
-
-pub mpls-barred : (o : Outline) (sid : List ℕ) → barred mplsForm o sid
-    ≡ cond (o .structured) true (cond (not (eqb (o .behaviour) 0)) true (cond (malformed (headOfOutline mplsForm o)) true (strayed mplsForm o sid)))
-unfolding barred foreign
-mpls-barred o sid = go (o .structured) (not (eqb (o .behaviour) 0)) (malformed (headOfOutline mplsForm o)) (strayed mplsForm o sid)
-  where
-    go : (s b m x : Bool) → (((s || b) || m) || x) ≡ cond s true (cond b true (cond m true x))
-    go true b m x = refl
-    go false true m x = refl
-    go false false true x = refl
-    go false false false x = refl
-
-module _ (form : Form) (o : Outline) (sid : List ℕ) where
-  pub front-barred : barred form o sid ≡ true → 0 ≡ frontOf form o sid
-  unfolding frontOf
-  front-barred e = rw e
-
-  pub front-before : {r : ℕ} → barred form o sid ≡ strayed form o sid → r ≡ cond (strayed form o sid) 0 (lead form o) → r ≡ frontOf form o sid
-  unfolding frontOf
-  front-before e q = q ∙ rw e
 
 -- A front of no octets is that of a segment that is barred.
 front-zero : {form : Form} → Sized form → (o : Outline) (sid : List ℕ) (front : ℕ) → front ≡ frontOf form o sid → eqb front 0 ≡ barred form o sid
@@ -303,45 +216,3 @@ pub overlong-eleven : (form : Form) (g : Segment) (u : Bool) → g .structured �
     → u ≡ (g .structured && ltb mostBits (sumAt (g .structure) 0)) → u ≡ rule11 (headOfSegment form g) (bitsOf g)
 unfolding rule11 bitsOf
 overlong-eleven form g u t e = e ∙ ap (λ (x : Bool). x && ltb mostBits (sumAt (g .structure) 0)) t
-
--- 29 and 30 only where there is a label.
-pub no-label : (h : Head) (labelled : Bool) → h .m ≡ bit labelled → labelled ≡ false → hasLabel h ≡ false
-unfolding hasLabel
-no-label h labelled e t = let q : h .m ≡ 0 = e ∙ rw t in rw q (go (eqb (h .s) 0))
-  where
-    go : (x : Bool) → (x && false) ≡ false
-    go true = refl
-    go false = refl
-
--- 16: a place that is past the end is one from which the segment passes it.
-module _ (at size room : ℕ) where
-  pub crowd-low : (r : Bool) → r ≡ (ltb at header || ltb mostOctets at) → r ≡ true → true ≡ (badPlace at room || passes (at + size) room)
-  unfolding badPlace passes
-  crowd-low r e t = go (ltb at header) (ltb mostOctets at) (not (eqb (at % unit) 0)) (ltb room at) (sym e ∙ t)
-    where
-      go : (a d b c : Bool) → (a || d) ≡ true → true ≡ ((a || (b || (c || d))) || (ltb room (at + size) || ltb mostOctets (at + size)))
-      go true d b c q = refl
-      go false true true c q = refl
-      go false true false true q = refl
-      go false true false false q = refl
-      go false false b c q = absurd (let x : _≡_ {A = ℕ} 0 1 = cc in omega arith)
-
-  pub crowd-odd : (at % unit ≡ 0 → ⊥) → true ≡ (badPlace at room || passes (at + size) room)
-  unfolding badPlace
-  crowd-odd h = rw (ne-eqb (at % unit) 0 h) (go (ltb at header))
-    where
-      go : (a : Bool) → true ≡ ((a || true) || passes (at + size) room)
-      go true = refl
-      go false = refl
-
-  pub crowd-end : (e r : Bool) → e ≡ (ltb at header || ltb mostOctets at) → e ≡ false → at % unit ≡ 0 → r ≡ passes (at + size) room
-      → r ≡ (badPlace at room || passes (at + size) room)
-  unfolding badPlace passes
-  crowd-end e r q f m p =
-      let k = either-false (ltb at header) (ltb mostOctets at) (sym q ∙ f) in
-      p ∙ rw (k .0, k .1, eq-eqb (at % unit) 0 m) (go (ltb room at) refl)
-    where
-      go : (c : Bool) → ltb room at ≡ c
-          → (ltb room (at + size) || ltb mostOctets (at + size)) ≡ ((c || false) || (ltb room (at + size) || ltb mostOctets (at + size)))
-      go false h = refl
-      go true h = let l = ltb-true room at h in rw (lt-ltb room (at + size) (omega arith))

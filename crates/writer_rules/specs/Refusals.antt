@@ -1,38 +1,20 @@
 -- What adding to a route object and finishing it refuse (document 01, "Writing a route"; document 02, C-16).
-use Prim.Native.Nat.{ℕ, _+_, _%_}
+use Prim.Native.Nat.{ℕ, _+_}
 use mathlib.Core.Bool.{Bool, cond, not, _&&_, _||_}
-use lib.Dec.{eqb, ltb}
+use lib.Dec.{eqb}
 use lib.ListN.{length}
 use Rattle.answers.specs.Numbers.{routeEmpty, lengthWrong, naiUnknown, nothingThere, structureTooLong, bufferFull, labelValue, labelFormat}
-use Rattle.objects.specs.Objects.{header, unit}
+use Rattle.objects.specs.Objects.{header}
 use Rattle.forms.specs.declared.Form.{Form}
-use Rattle.subobject.specs.declared.segment.Outline.{Outline}
 use Rattle.subobject.specs.declared.segment.Segment.{Segment}
 use Rattle.subobject.specs.Rules.{rule8, rule9, malformed, rule11, labelAt, timeAt, rule29, rule30}
 use Rattle.subobject.specs.Segments.{outlineOf, headOfSegment, subobjectOf, bitsOf}
 use Rattle.writer_spare.specs.Spare.{tidyOf}
-
--- the place ----------------------------------------------------------------------------------------------------
-
--- The most octets of an object.
-abbrev pub mostOctets : ℕ
-mostOctets = 65532
-
--- "if the object would pass the lent buffer's end or 65,532 octets"
-unfoldable pub passes : ℕ → ℕ → Bool
-passes end room = ltb room end || ltb mostOctets end
-
--- "a place under 4, no multiple of 4 or past that end"
-unfoldable pub badPlace : ℕ → ℕ → Bool
-badPlace at room = ltb at header || (not (eqb (at % unit) 0) || passes at room)
+unfoldable pub use Rattle.writer_front.specs.Foreign.{foreign}
+unfoldable pub use Rattle.writer_tests.specs.Places.{passes, badPlace}
+pub use Rattle.writer_tests.specs.Places.{mostOctets}
 
 -- add ----------------------------------------------------------------------------------------------------------
-
--- "For SRv6 M and C must be 0, for MPLS behaviour .. must be 0 and there is no structure": what the form has no flag and no place for.
-unfoldable pub foreign : Form → Outline → Bool
-foreign form o =
-    (eqb (form .m) 0 && o .labelled)
-    || ((eqb (form .c) 0 && o .complete) || ((eqb (form .t) 0 && o .structured) || (not (form .behaves) && not (eqb (o .behaviour) 0))))
 
 -- 7: "structure without a SID, L or V in an RRO, such octets not 0"; what is foreign to the form, and flags that are malformed, as in reading.
 unfoldable pub unfit : Form → Bool → Segment → Bool

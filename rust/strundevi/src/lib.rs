@@ -1,7 +1,7 @@
 //! Boxes beside a tram line: read OPEN objects, judge and write SRv6 and MPLS routes, keep a board of paths that other boxes follow.
 //!
 //! Every answer comes from the proved library; this crate lends it slices and turns its numbers into `Result`s. A refusal is a number and a
-//! place, and leaves everything as it was. Nothing is allocated, no call recurses, and none needs more than 2,048 octets of stack.
+//! place, and leaves everything as it was. Nothing is allocated, and no call needs more than 2,048 octets of stack.
 //!
 //! ```
 //! use strundevi::{judge, read_open, Form, Kind, Segment, Session, Setup, Writer, PST_SRV6};

@@ -7,7 +7,7 @@ compact-requires : tie.Need-compact-requires
 compact-requires c κs = search needs
 
 returns : tie.Need-returns
-returns c = search compact-back
+returns c = compact-back _ _ _ _ _ (c .compact .ensures)
 
 pub compact-spec : {M : Type 1} → statement M
 compact-spec = tie.close (tie.spec compact-requires returns)

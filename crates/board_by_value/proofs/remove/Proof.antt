@@ -7,7 +7,7 @@ remove-requires : tie.Need-remove-requires
 remove-requires c κs = search needs
 
 returns : tie.Need-returns
-returns c = search remove-back
+returns c = remove-back _ _ _ _ _ (c .remove .ensures)
 
 pub remove-spec : {M : Type 1} → statement M
 remove-spec = tie.close (tie.spec remove-requires returns)

@@ -1,7 +1,7 @@
 use native.Mathlib.Omega.{arith}
 use Rattle.board_record.specs.Table.{tableOf}
 use Rattle.board_record.specs.Record.{withRows}
-use Rattle.board_look.proofs.Looks.{body-here, body-taken}
+use Rattle.board_body.proofs.Bodies.{body-here, body-taken}
 use Rattle.border_looks.proofs.Laws.{part-none, part-here}
 use borrow.Author.Needs.{needs}
 use Rattle.border_looks.proofs.body.Statement.{statement}

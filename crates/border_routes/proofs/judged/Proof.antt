@@ -25,13 +25,13 @@ returns c =
 plain-under-requires : tie.Need-plain-under-requires
 plain-under-requires c κs = search needs
 
-judge-in-requires-2 : tie.Need-judge-in-requires-2
-judge-in-requires-2 c κs = search needs
+judge-plain-requires : tie.Need-judge-plain-requires
+judge-plain-requires c κs = (ap (λ (x : Session). x .a) (c .plain-under .ensures), ap (λ (x : Session). x .r) (c .plain-under .ensures))
 
 returns-2 : tie.Need-returns-2
 returns-2 c =
     let args = c .before .before .before .before .before .before .args in
-    c .judge-in2 .ensures
+    c .judge-plain .ensures
     ∙ ap (λ (x : Session). judgedIn (args .octets .now) (args .kind) x (args .pst) (args .addresses .now)) (c .before .plain-under .ensures)
     ∙ plain-judged (args .octets .now) (args .kind) (sessionUnder (sessionsIn (args .session)) (args .pst)) (args .pst) (args .addresses .now)
     (sym (c .before .before .before .flagged .ensures) ∙ c .before .before .if1 .left)
@@ -45,5 +45,5 @@ judged-spec =
     judge-in-requires
     returns
     plain-under-requires
-    judge-in-requires-2
+    judge-plain-requires
     returns-2)

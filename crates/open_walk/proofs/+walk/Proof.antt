@@ -5,7 +5,7 @@ use Rattle.open_walk.proofs.Laws
 use Rattle.open_walk.specs.Walk.{Sight, torn, Listed, sightOf, insideOf, openOnward, openWalk}
 use Rattle.tlvs.specs.declared.span.Span.{Span}
 use Rattle.tlvs.proofs.Spans.{absent-missing, value-missing, value-there, value-kept, kept-inside}
-use Rattle.capability.specs.SetupTypes.{pathSetup, listSize, holdsList}
+use Rattle.setup_types.specs.SetupTypes.{pathSetup, listSize, holdsList}
 use Rattle.tlvs.specs.declared.Item.the-variants.{One}
 use Rattle.tlvs.specs.Places.{Within, nowhere, valueAt, missingOf, keepOf, Inside}
 use Rattle.tlvs.specs.Tlvs.{Tlvs, tlv, tlvsWhole}
@@ -27,7 +27,7 @@ use borrow.Fn.PlainCycle.{Measures, is, falls, and}
 use Rattle.open_walk.proofs.walk.Reads as walk
 use Rattle.open_walk.proofs.walk.Kinds as walk-kinds
 use Rattle.open_walk.proofs.+walk.Lts-walk as walk-lts
-use Rattle.capability.proofs.list_size.Reads as list-size-reads
+use Rattle.setup_types.proofs.list_size.Reads as list-size-reads
 use Rattle.tlvs.proofs.item_at.Reads as item-at-reads
 use Rattle.octets.proofs.both.Reads as both-reads
 use Rattle.tlvs.proofs.keep.Reads as keep-reads

@@ -1,3 +1,4 @@
+-- What is read lies inside the expected length. With a structure the last four of its octets are taken to the strays, without one the flags and the two reserved octets are.
 use Prim.Native.Nat.{_+_}
 use mathlib.Core.Path.{sym, _∙_}
 use native.Mathlib.Omega.{arith}

@@ -1,6 +1,6 @@
 use native.Mathlib.Omega.{arith}
 use Rattle.console_state.proofs.Laws.{spelled}
-use Rattle.board_by_value.specs.ByValue.{reportOn, reportStoreOn}
+use Rattle.board_report_by_value.specs.ByValue.{reportOn, reportStoreOn}
 use mathlib.Core.Path.{_∙_}
 use borrow.Author.Needs.{needs}
 use Rattle.console_board.proofs.change.reported.Statement.{statement}

@@ -1,8 +1,8 @@
-use Rattle.board_by_value.proofs.Inside.{body-inside}
+use Rattle.board_look_by_value.proofs.Inside.{body-inside}
 use Rattle.console_board.specs.Boarding.{bodyLine}
 use Rattle.console_state.proofs.Laws.{told-refused, told-accepted}
 use Rattle.console_lines.specs.Lines.{formLine}
-use Rattle.board_by_value.specs.ByValue.{bodyOn, bodyFormOn}
+use Rattle.board_look_by_value.specs.ByValue.{bodyOn, bodyFormOn}
 use lib.ListN.{length}
 use mathlib.Core.Path.{ap}
 use native.Mathlib.Omega.{arith}

@@ -1,6 +1,6 @@
 -- One case for each thing that next hands out; the octets of a path lie in the store (`path-inside`).
 use Rattle.board_rules.proofs.Inside.{length-part-most}
-use Rattle.board_by_value.proofs.Inside.{path-inside}
+use Rattle.board_look_by_value.proofs.Inside.{path-inside}
 use Rattle.console_board.specs.Boarding.{nextLine}
 use Prim.Native.Nat.{_*_}
 use lib.ListN.{length}

@@ -7,8 +7,8 @@ use borrow.Author.Needs.{needs}
 use Rattle.console_input.proofs.heard.answer.Statement.{statement}
 use Rattle.console_input.proofs.heard.answer.Tie as tie
 
-wrapping-add-u64-requires : tie.Need-wrapping-add-u64-requires
-wrapping-add-u64-requires c κs = search needs
+numbered-requires : tie.Need-numbered-requires
+numbered-requires c κs = search needs
 
 slice-aggregate-answered : tie.Need-slice-aggregate-answered
 slice-aggregate-answered c =
@@ -45,14 +45,14 @@ returns c =
     let before9 = c .before .before .before .before .before .before .before .before .before in
     let a = before9 .before .before .before .before .before .before .before .before .before .before .before .before .before .args in
     let g = heardOf (a .h) (a .line .now) (a .store .now) (a .memory .now) in
-    let e = before9 .before .before .before .before .before .before .before .wrapping-add-u64 .ensures in
+    let e = before9 .before .before .before .before .before .before .before .numbered .ensures in
     (ended-made g e (before9 .answered .ensures .console), (turn-told g e (before9 .answered .ensures .told), refl))
 
 pub answer-spec : {M : Type 1} → statement M
 answer-spec =
     tie.close
     (tie.spec
-    wrapping-add-u64-requires
+    numbered-requires
     slice-aggregate-answered
     answered-requires
     same-length

@@ -3,7 +3,7 @@ use native.Mathlib.Omega.{arith}
 use mathlib.Core.Path.{_≡_, sym, _∙_}
 use borrow.Author.Tests.{eq-eqb, ne-eqb, not-false}
 use Rattle.octets.specs.Octets.{be16}
-use Rattle.answers.specs.Numbers.{frameBroken, routeEmpty, kindsMixed, noSrv6}
+use Rattle.answers.specs.Numbers.{frameBroken, routeEmpty, kindsMixed, noneOfForm}
 use Rattle.answers.specs.Verdicts.{refusedBy, acceptedWith}
 use Rattle.frame.proofs.Laws.{headed-sized}
 use Rattle.frame_rules.proofs.Laws.{header-broken, frame-by, byFacts}
@@ -88,7 +88,7 @@ refused-requires-5 c κs = search needs
 returns-5 : tie.Need-returns-5
 returns-5 c =
     let before8 = c .before .before .before .before .before .before .before .before in
-    let e : refusedBy noSrv6 0 ≡ byFacts (before8 .before .before .look .result) = rw (
+    let e : refusedBy noneOfForm 0 ≡ byFacts (before8 .before .before .look .result) = rw (
       before8 .if2 .left,
       ne-eqb _ _ (c .before .before .before .before .before .before .if3 .left),
       ← c .before .before .before .before .both .ensures,

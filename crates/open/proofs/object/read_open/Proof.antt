@@ -1,7 +1,9 @@
-use Rattle.open.proofs.Laws.{long-framed, part-rest, unusable, unframed, answered}
+-- 28 and the frame's part of 1 refuse at once. What the walk over the TLVs has seen is then taken to what either form carries, and these, 26's before 27's, to the answer.
+use Rattle.open_frame.proofs.Laws.{long-framed}
+use Rattle.open.proofs.Laws.{part-rest, unusable, unframed, answered}
 use Rattle.open.specs.Open.{tlvsAt, framed}
 use Rattle.open_walk.specs.Walk.{sightOf, openWalk}
-use Rattle.capability.specs.Mpls.{mplsCapability}
+use Rattle.capability_mpls.specs.Mpls.{mplsCapability}
 use Rattle.capability.specs.Srv6.{srv6Capability}
 use Rattle.positions.specs.Positions.{usableSetup}
 use lib.ListN.{drop}

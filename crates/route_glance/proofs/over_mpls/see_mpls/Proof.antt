@@ -14,7 +14,7 @@ use Rattle.subobject_strays.specs.Strays.{strayOne, straysBy}
 use Rattle.subobject.proofs.Laws.{sound-length}
 use Rattle.frame.proofs.Laws.{headed-sized}
 use Rattle.route_glance.specs.Settled.{Settled}
-use Rattle.route_glance.proofs.Laws.{fours-of}
+use Rattle.route_glance.proofs.Laws.{fours-of, rules-of, head-of, s-bit}
 use Rattle.route_glance.proofs.Pass.{Gone, gone-starts, gone-on, good-made, fits-made, settled, unsettled-settles}
 use Rattle.route_glance.proofs.over_mpls.see_mpls.Statement.{statement}
 use Rattle.route_glance.proofs.over_mpls.see_mpls.Tie as tie
@@ -49,8 +49,16 @@ unsettled-requires c κs = search needs
 returns : tie.Need-returns Inv-loop μ-loop
 returns c = unsettled-settles (c .unsettled .ensures)
 
-head-sound-requires : tie.Need-head-sound-requires Inv-loop μ-loop
-head-sound-requires c κs = search needs
+mpls-head-sound-requires : tie.Need-mpls-head-sound-requires Inv-loop μ-loop
+mpls-head-sound-requires c κs =
+    let read = c .before .before .head-at in
+    let start = c .before .before .before .before in
+    let sized = headed-sized _ _ (start .before .before .before .before .pre .0) in
+    let inv = start .loop .inv in (
+      omega (arith, sized .four, inv .1, inv .2, c .before .before .before .loop-test .taken),
+      read .ensures .0 ∙ head-of (start .before .before .mpls .ensures) _ _ _,
+      read .ensures .1 .0,
+    )
 
 unsettled-requires-2 : tie.Need-unsettled-requires-2 Inv-loop μ-loop
 unsettled-requires-2 c κs = search needs
@@ -70,7 +78,8 @@ returns-3 c = unsettled-settles (c .unsettled3 .ensures)
 structure-sound-requires : tie.Need-structure-sound-requires Inv-loop μ-loop
 structure-sound-requires c κs =
     let head = c .before .before .before in
-    let rules = head .head-sound .ensures (not-false _ (c .before .before .if2 .left)) in
+    let known = head .before .before .before .before .before .before .before .mpls .ensures in
+    let rules = rules-of known _ _ _ (head .mpls-head-sound .ensures (not-false _ (c .before .before .if2 .left))) in
     (sound-length _ _ (rules .2), omega (arith, c .if3 .left, head .before .before .before .before .before .loop .inv .1))
 
 unsettled-requires-4 : tie.Need-unsettled-requires-4 Inv-loop μ-loop
@@ -79,15 +88,17 @@ unsettled-requires-4 c κs = search needs
 returns-4 : tie.Need-returns-4 Inv-loop μ-loop
 returns-4 c = unsettled-settles (c .unsettled4 .ensures)
 
-label-sound-requires : tie.Need-label-sound-requires Inv-loop μ-loop
-label-sound-requires c κs =
+mpls-label-sound-requires : tie.Need-mpls-label-sound-requires Inv-loop μ-loop
+mpls-label-sound-requires c κs =
     let room = c .before .before in
     let head = room .before .before .before in
-    let rules = head .head-sound .ensures (not-false _ (room .before .before .if2 .left)) in
-    let start = head .before .before .before .before .before in (
+    let rules = head .mpls-head-sound .ensures (not-false _ (room .before .before .if2 .left)) in
+    let start = head .before .before .before .before .before in
+    let read = head .before .before .before .head-at in (
       sound-length _ _ (rules .2),
       omega (arith, room .if3 .left, start .loop .inv .1),
-      rw (start .before .before .mpls .ensures) (omega arith),
+      rules .2,
+      s-bit _ _ _ _ _ (read .ensures .0),
     )
 
 unsettled-requires-5 : tie.Need-unsettled-requires-5 Inv-loop μ-loop
@@ -100,10 +111,10 @@ stray-of-requires : tie.Need-stray-of-requires Inv-loop μ-loop
 stray-of-requires c κs =
     let room = c .before .before .before .before in
     let head = room .before .before .before in
-    let rules = head .head-sound .ensures (not-false _ (room .before .before .if2 .left)) in
+    let known = head .before .before .before .before .before .before .before .mpls .ensures in
+    let rules = rules-of known _ _ _ (head .mpls-head-sound .ensures (not-false _ (room .before .before .if2 .left))) in
     let start = head .before .before .before .before .before in
     let h = head .before .before .before .head-at .result in
-    let known = start .before .before .mpls .ensures in
     let fours = fours-of mplsForm known (h .nt) (h .s) (h .t) refl (omega arith) refl (mpls-fours (h .nt)) in
     let size = sound-length _ _ (rules .2) in (
       rw known (omega (arith, size, fours .1, room .if3 .left, start .loop .inv .1)),
@@ -131,9 +142,9 @@ loop-less c =
     let room = c .before .before .before .before .before .before in
     let head = room .before .before .before in
     let start = head .before .before .before .before .before in
-    let rules = head .head-sound .ensures (not-false _ (room .before .before .if2 .left)) in
+    let known = head .before .before .before .before .before .before .before .mpls .ensures in
+    let rules = rules-of known _ _ _ (head .mpls-head-sound .ensures (not-false _ (room .before .before .if2 .left))) in
     let h = head .before .before .before .head-at .result in
-    let known = start .before .before .mpls .ensures in
     let fours = fours-of mplsForm known (h .nt) (h .s) (h .t) refl (omega arith) refl (mpls-fours (h .nt)) in
     let size = sound-length _ _ (rules .2) in
     omega (arith, size, fours .1, room .if3 .left, start .loop .inv .1)
@@ -144,15 +155,15 @@ loop-again c =
     let head = room .before .before .before in
     let start = head .before .before .before .before .before in
     let inv = start .loop .inv in
-    let rules = head .head-sound .ensures (not-false _ (room .before .before .if2 .left)) in
+    let known = head .before .before .before .before .before .before .before .mpls .ensures in
+    let rules = rules-of known _ _ _ (head .mpls-head-sound .ensures (not-false _ (room .before .before .if2 .left))) in
     let read = head .before .before .before .head-at in
     let h = read .result in
-    let known = start .before .before .mpls .ensures in
     let fours = fours-of mplsForm known (h .nt) (h .s) (h .t) refl (omega arith) refl (mpls-fours (h .nt)) in
     let size = sound-length _ _ (rules .2) in
-    let labels = c .before .before .before .label-sound .ensures (not-false _ (c .before .before .if5 .left)) in
+    let labels = c .before .before .before .mpls-label-sound .ensures (not-false _ (c .before .before .if5 .left)) in
     let good = good-made _ _ _ _ _ _ (read .ensures .0) (head .before .if1 .left ∙ start .before .wide .ensures .0) (rules .0) (rules .1) (rules .2) (rules .3)
-    (c .before .before .before .before .before .structure-sound .ensures (not-false _ (c .before .before .before .before .if4 .left))) (labels .0) (labels .1) in
+    (c .before .before .before .before .before .structure-sound .ensures (not-false _ (c .before .before .before .before .if4 .left))) (rw known (labels .0)) (rw known (labels .1)) in
     let room-left = length (start .before .before .before .before .args .s .now) - start .loop .at in
     let fits = fits-made (h .size) room-left (omega (arith, size, fours .1)) (omega (arith, size, fours .0)) (omega (arith, room .if3 .left, inv .1)) in (
       omega (arith, inv .0),
@@ -182,7 +193,7 @@ see-mpls-spec =
     head-at-requires
     unsettled-requires
     returns
-    head-sound-requires
+    mpls-head-sound-requires
     unsettled-requires-2
     returns-2
     sub-if3
@@ -191,7 +202,7 @@ see-mpls-spec =
     structure-sound-requires
     unsettled-requires-4
     returns-4
-    label-sound-requires
+    mpls-label-sound-requires
     unsettled-requires-5
     returns-5
     stray-of-requires

@@ -1,3 +1,4 @@
+-- Four octets are read, and each part of the head is one of them, a quotient or a flag of it: the head is made of what the calls say of each.
 use native.Mathlib.Omega.{arith}
 use Rattle.octets.specs.Octets.{octetOf}
 use Rattle.subobject.proofs.Laws.{head-made}

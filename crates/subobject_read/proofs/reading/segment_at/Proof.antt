@@ -5,7 +5,7 @@ use Rattle.forms.proofs.Laws.{nai-most}
 use Rattle.subobject.specs.Layout.{sidLength}
 use Rattle.subobject.specs.Rules.{hasStructure}
 use Rattle.subobject_strays.proofs.Laws.{fixed-least}
-use Rattle.subobject_read.proofs.Laws.{fixed-here, sid-most, parts-room, bits-room, segment-made}
+use Rattle.subobject_parts.proofs.Made.{fixed-here, sid-most, parts-room, bits-room, segment-made}
 use borrow.Author.Needs.{needs}
 use Rattle.subobject_read.proofs.reading.segment_at.Statement.{statement}
 use Rattle.subobject_read.proofs.reading.segment_at.Tie as tie

@@ -13,7 +13,8 @@ use Rattle.subobject.specs.declared.segment.Segment.{Segment}
 use Rattle.subobject.specs.Layout.{sidLength}
 use Rattle.subobject.specs.Rules.{hasStructure}
 use Rattle.subobject.specs.Segments.{headOfSegment, segmentWith}
-use Rattle.writer_layout.proofs.Laws.{small-head, room, written-subobject, fixed-most}
+use Rattle.writer_fixed.proofs.Laws.{fixed-most}
+use Rattle.writer_layout.proofs.Laws.{small-head, room, written-subobject}
 use borrow.Author.Needs.{needs}
 use Rattle.writer_layout.proofs.image.write.Statement.{statement}
 use Rattle.writer_layout.proofs.image.write.Tie as tie

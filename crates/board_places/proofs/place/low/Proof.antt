@@ -1,0 +1,61 @@
+use Prim.Native.Nat.{ℕ, _≤_, _-_}
+use native.Mathlib.Omega.{arith}
+use borrow.Author.Needs.{needs}
+use mathlib.Core.Path.{_≡_}
+use mathlib.Core.Bool.{not}
+use lib.ListN.{getD}
+use lib.Dec.{leb}
+use Rattle.board_record.specs.Sizes.{places, keyMost}
+use Rattle.board_record.specs.Lists.{countBelow}
+use Rattle.board_places.proofs.Loops.{count-none, count-more, count-small, count-end, none-fails}
+use Rattle.board_places.proofs.place.low.Statement.{statement}
+use Rattle.board_places.proofs.place.low.Tie as tie
+
+abbrev Inv-loop : tie.InvT-loop
+Inv-loop keys n₀ i₀ n i = (i ≤ places) × (n ≡ countBelow (λ j. not (leb (getD keys j 0) keyMost)) i)
+
+abbrev μ-loop : tie.MeasureT-loop
+μ-loop keys n₀ i₀ n i = places - i
+
+loop-holds : tie.Need-loop-holds Inv-loop μ-loop
+loop-holds c = (omega arith, count-none _)
+
+mul-above : tie.Need-mul-above Inv-loop μ-loop
+mul-above c = omega arith
+
+element-copy-out-above : tie.Need-element-copy-out-above Inv-loop μ-loop
+element-copy-out-above c = omega arith
+
+above-requires : tie.Need-above-requires Inv-loop μ-loop
+above-requires c κs = search needs
+
+add-n : tie.Need-add-n Inv-loop μ-loop
+add-n c = omega (arith, count-small _ _ _ _ (c .before .before .loop-test .taken) (c .before .before .before .loop .inv .1) (c .above .ensures))
+
+add-i : tie.Need-add-i Inv-loop μ-loop
+add-i c = omega arith
+
+loop-less : tie.Need-loop-less Inv-loop μ-loop
+loop-less c = omega arith
+
+loop-again : tie.Need-loop-again Inv-loop μ-loop
+loop-again c = (omega (arith, c .before .before .loop-test .taken), count-more _ _ _ _ (c .before .before .before .loop .inv .1) (c .above .ensures))
+
+returns : tie.Need-returns Inv-loop μ-loop
+returns c = none-fails _ _ _ (count-end _ _ _ (c .before .loop .inv .0) (c .loop-test .left) (c .before .loop .inv .1))
+
+pub low-spec : {M : Type 1} → statement M
+low-spec =
+    tie.close
+    (tie.spec
+    Inv-loop
+    μ-loop
+    loop-holds
+    mul-above
+    element-copy-out-above
+    above-requires
+    add-n
+    add-i
+    loop-less
+    loop-again
+    returns)

@@ -1,0 +1,83 @@
+// What the order does not name: places that must be empty, and numbers that must be 0, as many of each. Neither loop has a way out, so that the
+// compiler can take many places at a time.
+ghost use mathlib.Core.Path.{_≡_};
+ghost use Prim.Native.Nat.{_-_, _≤_};
+ghost use mathlib.Core.Bool.{cond, _&&_};
+ghost use lib.ListN.{getD};
+ghost use lib.Dec.{eqb};
+ghost use Rattle.board_record.specs.Sizes.{places};
+ghost use Rattle.board_record.specs.Lists.{countBelow};
+ghost use Rattle.board_places.specs.Places.{emptyB};
+use board_record::PLACES;
+use octets::both;
+use octets::wide;
+
+// 1 for an empty place with all numbers 0, else 0.
+fn empty_one(k: u32, v: u64, l: u16, form: u8) -> u8
+    ensures one { λ r. ⌜ r ≡ cond (eqb k 0 && eqb v 0 && eqb l 0 && eqb form 0) 1 0 ⌝ }
+{
+    if both(both(both(k == 0, v == 0), l == 0), form == 0) {
+        1
+    } else {
+        0
+    }
+}
+
+// How many places are empty, with all their numbers 0.
+fn empties<'a>(
+    keys: &'a [u32; 128],
+    versions: &'a [u64; 128],
+    lengths: &'a [u16; 128],
+    forms: &'a [u8; 128],
+) -> usize
+    ensures count { λ r. ⌜ r ≡ countBelow (emptyB (now (keys .entry)) (now (versions .entry)) (now (lengths .entry)) (now (forms .entry))) places ⌝ }
+{
+    let mut none: u8 = 0;
+    let mut i: usize = 0;
+    while i < PLACES {
+        none += empty_one(keys[i], versions[i], lengths[i], forms[i]);
+        i += 1;
+    }
+    wide(none)
+}
+
+// 1 for 0, else 0.
+fn zero_one(n: u8) -> u8
+    ensures one { λ r. ⌜ r ≡ cond (eqb n 0) 1 0 ⌝ }
+{
+    if n == 0 { 1 } else { 0 }
+}
+
+// How many numbers of the order are 0.
+fn zeros(order: &[u8; 128]) -> usize
+    ensures count { λ r. ⌜ r ≡ countBelow (λ j. eqb (getD (now (order .entry)) j 0) 0) places ⌝ }
+{
+    let mut none: u8 = 0;
+    let mut i: usize = 0;
+    while i < PLACES {
+        none += zero_one(order[i]);
+        i += 1;
+    }
+    wide(none)
+}
+
+// Whether all places but i are empty, and all numbers but i are 0.
+pub fn closed<'a>(
+    keys: &'a [u32; 128],
+    versions: &'a [u64; 128],
+    lengths: &'a [u16; 128],
+    order: &'a [u8; 128],
+    forms: &'a [u8; 128],
+    i: usize,
+) -> bool
+    requires { ⌜ i ≤ places ⌝ }
+    ensures closed { λ r.
+        let empty = countBelow (emptyB (now (keys .entry)) (now (versions .entry)) (now (lengths .entry)) (now (forms .entry))) places in
+        let zero = countBelow (λ j. eqb (getD (now (order .entry)) j 0) 0) places in
+        ⌜ r ≡ (eqb empty (places - i) && eqb zero (places - i)) ⌝ }
+{
+    if empties(keys, versions, lengths, forms) != PLACES - i {
+        return false;
+    }
+    zeros(order) == PLACES - i
+}

@@ -1,0 +1,14 @@
+-- What report answers where the record of a board goes by value: as where its parts are lent, and it hands it back.
+use Prim.Native.Nat.{ℕ}
+use mathlib.Core.List.{List}
+use Rattle.session.specs.declared.Sessions.{Sessions}
+use Rattle.board_record.specs.declared.record.Board.{Board}
+use Rattle.report_call.specs.Reported as called
+use Rattle.board_by_value.specs.declared.answer.Answer.{Answer}
+use Rattle.board_by_value.specs.ByValue.{answerOf}
+
+unfoldable pub reportOn : Board → List ℕ → ℕ → List ℕ → Sessions → ℕ → List ℕ → Answer
+reportOn b store k ero both pst addresses = answerOf (called.reportForOn b store k ero both pst addresses)
+
+abbrev pub reportStoreOn : Board → List ℕ → ℕ → List ℕ → Sessions → ℕ → List ℕ → List ℕ
+reportStoreOn b store k ero both pst addresses = called.reportStoreForOn b store k ero both pst addresses

@@ -1,0 +1,44 @@
+-- The segment that a line `add L V NT BEHAVIOUR SID NAI STRUCTURE M C` names (console.md).
+use Prim.Native.Nat.{ℕ, _≤_}
+use mathlib.Core.Bool.{not}
+use mathlib.Core.List.{List}
+use lib.Dec.{eqb}
+use lib.ListN.{length, replicate}
+use Rattle.octets.specs.Octets.{over}
+use Rattle.subobject.specs.declared.segment.Segment.{Segment}
+use Rattle.words.specs.Words.{space, wordOf}
+use Rattle.decimal.specs.Decimal.{isNone, structureOf}
+use Rattle.command.specs.declared.Command.{Command}
+use Rattle.command.specs.Commands.{numberAt}
+use Rattle.console_state.specs.Spelled.{octetsIn}
+
+-- "SID 1 to 16 octets, kept in 16 with 0 behind, or `-`"
+unfoldable pub sidIn : List ℕ → List ℕ
+sidIn line = over (octetsIn line 5) (replicate 16 0)
+
+-- "NAI 0 to 40 octets, kept in 40 with 0 behind"
+unfoldable pub naiIn : List ℕ → List ℕ
+naiIn line = over (octetsIn line 6) (replicate 40 0)
+
+-- "L, V 0 or 1, NT 0 to 255, BEHAVIOUR 0 to 65,535, SID .., NAI .., STRUCTURE"; "M, C 0 or 1"
+unfoldable pub segmentIn : Command → List ℕ → Segment
+segmentIn c line = record {
+  loose = eqb (c .one) 1;
+  verify = eqb (c .two) 1;
+  nt = c .three;
+  behaviour = c .four;
+  hassid = not (isNone (wordOf space line 5));
+  sid = sidIn line;
+  nai = naiIn line;
+  structured = not (isNone (wordOf space line 7));
+  structure = structureOf (wordOf space line 7);
+  labelled = eqb (numberAt line 8) 1;
+  complete = eqb (numberAt line 9) 1;
+}
+
+-- what the form of an `add` says of its words
+pub record AddForm (c : Command) (line : List ℕ) : Type 0 where
+  pub nt : c .three ≤ 255
+  pub behaviour : c .four ≤ 65535
+  pub sid : length (octetsIn line 5) ≤ 16
+  pub nai : length (octetsIn line 6) ≤ 40

@@ -1,0 +1,56 @@
+// The segment of a line `add L V NT BEHAVIOUR SID NAI STRUCTURE M C`.
+ghost use Prim.Native.Nat.{_≤_};
+ghost use mathlib.Core.Path.{_≡_};
+ghost use lib.ListN.{length};
+ghost use Rattle.console_state.specs.Spelled.{octetsIn};
+ghost use Rattle.console_state.specs.Rooms.{Spells};
+ghost use Rattle.console_add.specs.Added.{sidIn, naiIn, segmentIn, AddForm};
+use command::Command;
+use command::number_at;
+use command::octets_at;
+use subobject::Segment;
+use words::SPACE;
+use words::word;
+
+fn sid_in(line: &[u8], room: &mut [u8]) -> [u8; 16]
+    requires { ⌜ Spells (now line) (now room) × (length (octetsIn (now line) 5) ≤ 16) ⌝ }
+    ensures sid { λ r. ⌜ r ≡ sidIn (now (line .entry)) ⌝ }
+    ensures room { λ _. ⌜ length (now (room .exit)) ≡ length (now (room .entry)) ⌝ }
+{
+    let n = octets_at(line, 5, room);
+    octets::part16(room, 0, n)
+}
+
+fn nai_in(line: &[u8], room: &mut [u8]) -> [u8; 40]
+    requires { ⌜ Spells (now line) (now room) × (length (octetsIn (now line) 6) ≤ 40) ⌝ }
+    ensures nai { λ r. ⌜ r ≡ naiIn (now (line .entry)) ⌝ }
+    ensures room { λ _. ⌜ length (now (room .exit)) ≡ length (now (room .entry)) ⌝ }
+{
+    let n = octets_at(line, 6, room);
+    octets::part40(room, 0, n)
+}
+
+pub fn segment_in(line: &[u8], c: Command, room: &mut [u8]) -> Segment
+    requires { ⌜ Spells (now line) (now room) × AddForm c (now line) ⌝ }
+    ensures segment { λ r. ⌜ r ≡ segmentIn c (now (line .entry)) ⌝ }
+    ensures room { λ _. ⌜ length (now (room .exit)) ≡ length (now (room .entry)) ⌝ }
+{
+    let labelled = number_at(line, 8) == 1;
+    let complete = number_at(line, 9) == 1;
+    let sid = sid_in(line, room);
+    let nai = nai_in(line, room);
+    let structure = decimal::structure(word(line, SPACE, 7));
+    Segment {
+        loose: c.one == 1,
+        verify: c.two == 1,
+        nt: c.three as u8,
+        behaviour: c.four as u16,
+        hassid: !decimal::is_none(word(line, SPACE, 5)),
+        sid: sid,
+        nai: nai,
+        structured: !decimal::is_none(word(line, SPACE, 7)),
+        structure: structure,
+        labelled: labelled,
+        complete: complete,
+    }
+}

@@ -1,0 +1,62 @@
+// The rows of the console's table about the board (console.md): report, remove, compact, which may change it; body,
+// next, moved, mark, board, chain, which look at it.
+ghost use Prim.Native.Nat.{_+_, _*_, _≤_};
+ghost use mathlib.Core.Path.{_≡_};
+ghost use lib.ListN.{length};
+ghost use Rattle.printing.specs.Text.{Behind};
+ghost use Rattle.board_record.specs.Sizes.{places};
+ghost use Rattle.console_state.specs.Standing.{listIn};
+ghost use Rattle.console_board_rows.specs.Boarded.{changedTurn, lookedLine};
+use board_record::Board;
+use command::Command;
+use command_rows::Changing;
+use command_rows::Looking;
+use console_board::Boarded;
+use console_board::body;
+use console_board::chain;
+use console_board::compacted;
+use console_board::mark;
+use console_board::moved;
+use console_board::next;
+use console_board::numbers;
+use console_board::removed;
+use console_board::reported;
+use session::Sessions;
+
+pub fn changed(
+    row: Changing,
+    b: Board,
+    line: &[u8],
+    c: Command,
+    both: Sessions,
+    store: &mut [u8],
+    memory: &[u8],
+    given: usize,
+    room: &mut [u8],
+    out: &mut [u8],
+) -> Boarded
+    requires { ⌜ (length (now line) ≤ 2 * length (now room)) × (128 ≤ length (now out)) ⌝ }
+    ensures board { λ r. ⌜ r .board ≡ changedTurn row b (now (store .entry)) both (listIn given (now (memory .entry))) c (now (line .entry)) .board ⌝ }
+    ensures store { λ r. ⌜ now (store .exit) ≡ changedTurn row b (now (store .entry)) both (listIn given (now (memory .entry))) c (now (line .entry)) .store ⌝ }
+    ensures told { λ r. ⌜ Behind (now (out .entry)) (now (out .exit)) 0 (r .end) (changedTurn row b (now (store .entry)) both (listIn given (now (memory .entry))) c (now (line .entry)) .answer) ⌝ }
+{
+    match row {
+        Changing::Report => reported(b, line, c, both, store, memory, given, room, out),
+        Changing::Remove => removed(b, c, store, out),
+        Changing::Compact => compacted(b, c, store, out),
+    }
+}
+
+pub fn looked(row: Looking, b: Board, c: Command, store: &[u8], out: &mut [u8]) -> usize
+    requires { ⌜ (2 * length (now store) + 128 ≤ length (now out)) × (21 * places + 128 ≤ length (now out)) ⌝ }
+    ensures told { λ r. ⌜ Behind (now (out .entry)) (now (out .exit)) 0 r (lookedLine row b (now (store .entry)) c) ⌝ }
+{
+    match row {
+        Looking::Body => body(b, c, store, out),
+        Looking::Next => next(b, c, store, out),
+        Looking::Moved => moved(b, c, store, out),
+        Looking::Mark => mark(b, out),
+        Looking::Board => numbers(b, out),
+        Looking::Chain => chain(b, out),
+    }
+}

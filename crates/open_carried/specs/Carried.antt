@@ -1,0 +1,40 @@
+-- No promise to a caller rests on this file: what the values that the walks found carry, by the order in which the code asks. That it is the
+-- answer of open/specs/Open is proved (open/proofs/Laws, `answered`).
+use Prim.Native.Nat.{ℕ}
+use mathlib.Core.List.{List}
+use mathlib.Core.Bool.{Bool, cond, not, _&&_}
+use mathlib.Core.Option.{Option, none, some}
+use lib.Dec.{eqb, ltb}
+use Rattle.objects.specs.Objects.{mplsSetup, srv6Setup}
+use Rattle.answers.specs.Numbers.{capabilityMissing}
+use Rattle.positions.specs.declared.Setup.{Setup}
+use Rattle.session.specs.declared.Opened.{Opened}
+use Rattle.session.specs.Sessions.{openRefused, withoutSrv6, withMpls}
+use Rattle.setup_types.specs.SetupTypes.{listsType}
+use Rattle.capability_mpls.specs.Mpls.{mplsAnnouncedOf}
+use Rattle.capability.specs.Srv6.{announcedOf}
+
+-- SRv6's half, of the values of TLV 34 and of sub-TLV 27.
+abbrev pub announcedBy : Setup → Option (List ℕ) → Opened
+announcedBy p none = openRefused capabilityMissing srv6Setup
+announcedBy p (some w) = announcedOf p w
+
+abbrev pub srv6By : Setup → Option (List ℕ) → Option (List ℕ) → Opened
+srv6By p none sub = withoutSrv6
+srv6By p (some v) sub = cond (listsType srv6Setup v) (announcedBy p sub) withoutSrv6
+
+-- MPLS's half, of the values of TLV 34 and of sub-TLV 26.
+abbrev pub mplsAnnouncedBy : Option (List ℕ) → Opened
+mplsAnnouncedBy none = openRefused capabilityMissing mplsSetup
+mplsAnnouncedBy (some w) = mplsAnnouncedOf w
+
+abbrev pub mplsBy : Option (List ℕ) → Option (List ℕ) → Opened
+mplsBy none sub = withoutSrv6
+mplsBy (some v) sub = cond (listsType mplsSetup v) (mplsAnnouncedBy sub) withoutSrv6
+
+-- Both in one answer: of two refusals that by the smaller number, MPLS's where they are equal.
+abbrev pub goesFirst : Opened → Opened → Bool
+goesFirst m o = not (eqb (m .number) 0) && not (not (eqb (o .number) 0) && ltb (o .number) (m .number))
+
+abbrev pub joinedOf : Opened → Opened → Opened
+joinedOf m o = cond (goesFirst m o) m (cond (m .mpls && eqb (o .number) 0) (withMpls o (m .mplsn) (m .mplslimit)) o)

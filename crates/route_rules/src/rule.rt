@@ -1,0 +1,46 @@
+// 13 and 12.
+ghost use mathlib.Core.Path.{_≡_};
+ghost use mathlib.Core.Bool.{true, _&&_};
+ghost use Prim.Native.Nat.{_≤_, _<_};
+ghost use lib.Dec.{ltb};
+ghost use lib.ListN.{length};
+ghost use Rattle.frame.specs.Frames.{apartOf};
+ghost use Rattle.objects.specs.Objects.{header};
+ghost use Rattle.route_rules.specs.Parts.{limitedOf};
+ghost use Rattle.route_rules.specs.SessionRules.{rule13};
+use answers::Verdict;
+use forms::Form;
+use session::Limit;
+
+// 13: PST isn't the form's or the form isn't agreed.
+pub fn not_agreed(form: Form, agreed: bool, pst: u64) -> bool
+    ensures broken { λ r. ⌜ r ≡ rule13 form agreed pst ⌝ }
+{
+    !octets::both(pst == form.setup as u64, agreed)
+}
+
+// Whether there are more segments than `most`; not asked in RRO.
+fn past(ero: bool, most: usize, count: usize) -> bool
+    ensures past { λ r. ⌜ r ≡ (ero && ltb most count) ⌝ }
+{
+    octets::both(ero, most < count)
+}
+
+// Last 12: of an acceptance of more segments than the limit.
+pub fn limited(s: &[u8], ero: bool, limit: Limit, w: Verdict) -> Verdict
+    requires { ⌜ (header ≤ length (now s)) × (length (now s) < 65536) × (apartOf (now s) .whole ≡ true) ⌝ }
+    ensures limited { λ r. ⌜ r ≡ limitedOf (now (s .entry)) ero limit w ⌝ }
+{
+    if w.number != 0 {
+        return w;
+    }
+    match limit {
+        Limit::Free => w,
+        Limit::Most(most) => {
+            if past(ero, most, w.count) {
+                return answers::refused(answers::TOO_MANY_SEGMENTS, frame::nth(s, most));
+            }
+            w
+        }
+    }
+}

@@ -1,0 +1,43 @@
+-- The rules of a step through a route: the subobject at a place, looked at by itself. The rules are document 01's, without those that hang on the whole route or
+-- on a session: 5, 6, 13, 10, 12.
+use Prim.Native.Nat.{ℕ, _+_, _-_}
+use mathlib.Core.List.{List, [], _∷_}
+use mathlib.Core.Bool.{Bool, not}
+use lib.Dec.{eqb}
+use lib.ListN.{length}
+use Rattle.answers.specs.declared.verdict.Verdict.{Verdict}
+use Rattle.answers.specs.Numbers.{frameBroken, lengthWrong, naiUnknown, nothingThere, structureTooLong, noneOfForm, noSuchSegment, labelValue, labelFormat}
+use Rattle.answers.specs.Verdicts.{acceptedWith}
+use Rattle.octets.specs.Octets.{octetOf}
+use Rattle.forms.specs.declared.Form.{Form}
+use Rattle.subobject.specs.declared.head.Head.{Head}
+use Rattle.subobject.specs.Layout.{sidPlace, headAt}
+use Rattle.subobject.specs.Rules.{rule7, rule8, rule9, rule11, rule29, rule30, bitsAt, labelAt, timeAt}
+use Rattle.frame.specs.Checks.{Check, check, firstBroken}
+use Rattle.frame.specs.Frames.{fitsIn}
+use Rattle.route_step_tests.specs.Places.{outside}
+
+-- 14, then 8, 9, 7, 11, 29, 30, of the subobject at a place by the head found there. As in judging, 29 and 30 name no place.
+abbrev pub headChecks : Form → List ℕ → ℕ → Head → List Check
+headChecks form s at h =
+    check noneOfForm 0 (not (eqb (h .kind) (form .kind)))
+    ∷ check naiUnknown at (rule8 form h)
+    ∷ check nothingThere at (rule9 h)
+    ∷ check lengthWrong at (rule7 form h)
+    ∷ check structureTooLong at (rule11 h (bitsAt form s at h))
+    ∷ check labelValue 0 (rule29 h (labelAt s (sidPlace form at)))
+    ∷ check labelFormat 0 (rule30 h (timeAt s (sidPlace form at)))
+    ∷ []
+
+-- Before them 15 and 4.
+abbrev pub stepChecks : Form → List ℕ → Bool → ℕ → List Check
+stepChecks form s ero at =
+    check noSuchSegment 0 (outside s at)
+    ∷ check frameBroken 0 (not (fitsIn (octetOf s (at + 1)) (length s - at)))
+    ∷ headChecks form s at (headAt form s ero at)
+
+unfoldable pub headVerdict : Form → List ℕ → ℕ → Head → Verdict
+headVerdict form s at h = firstBroken (headChecks form s at h) (acceptedWith 0)
+
+unfoldable pub stepVerdict : Form → List ℕ → Bool → ℕ → Verdict
+stepVerdict form s ero at = firstBroken (stepChecks form s ero at) (acceptedWith 0)

@@ -1,0 +1,39 @@
+// A segment of SRv6 out of octets, by the head found there. The compiler knows the form's numbers here.
+ghost use mathlib.Core.Path.{_≡_};
+ghost use mathlib.Core.Bool.{true};
+ghost use Prim.Native.Nat.{_+_, _≤_, _<_};
+ghost use lib.ListN.{length};
+ghost use Rattle.forms.specs.Forms.{srv6Form, knows};
+ghost use Rattle.subobject.specs.Layout.{expectedLength};
+ghost use Rattle.subobject.specs.Segments.{segmentBy};
+use subobject::Head;
+use subobject::Segment;
+
+// What the octets of the subobject at `at` say, by its head.
+pub fn segment_srv6(s: &[u8], at: usize, h: Head) -> Segment
+    requires { ⌜ (at + expectedLength srv6Form (h .nt) (h .s) (h .t) ≤ length (now s)) × (knows srv6Form (h .nt) ≡ true) × (h .nt < 16) ⌝ }
+    ensures segment { λ r. ⌜ r ≡ segmentBy srv6Form h (now (s .entry)) at ⌝ }
+{
+    let form = forms::srv6();
+    let there = subobject::structured(h);
+    let fixed = octets::wide(form.fixed);
+    let k = octets::pick(h.s == 0, octets::wide(form.sid), 0);
+    let n = forms::nai_length(form, h.nt);
+    let behaviour = subobject_parts::behaviour_at(form, s, at);
+    let sid = subobject_parts::sid_srv6(s, at + fixed, h.s == 0);
+    let nai = subobject_parts::nai_srv6(s, at + fixed + k, h.nt);
+    let structure = subobject_parts::structure_at(s, at + fixed + k + n, there);
+    Segment {
+        loose: h.l == 1,
+        verify: h.v == 1,
+        nt: h.nt as u8,
+        behaviour: behaviour,
+        hassid: h.s == 0,
+        sid: sid,
+        nai: nai,
+        structured: there,
+        structure: structure,
+        labelled: h.m == 1,
+        complete: h.c == 1,
+    }
+}

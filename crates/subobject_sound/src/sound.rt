@@ -1,0 +1,119 @@
+// Whether one subobject breaks no rule. The rules are not told apart here.
+ghost use mathlib.Core.Path.{_≡_};
+ghost use mathlib.Core.Bool.{true, false, not, _&&_};
+ghost use Prim.Native.Nat.{_+_, _≤_};
+ghost use lib.Dec.{eqb, ltb};
+ghost use lib.ListN.{length};
+ghost use Rattle.forms.specs.Forms.{mplsForm, naiLength};
+ghost use Rattle.subobject.specs.Layout.{expectedLength, sidPlace};
+ghost use Rattle.subobject.specs.Rules.{rule7, rule8, rule9, rule10, rule11, rule29, rule30, bitsAt, labelAt, timeAt, sumAt, firstFree, goodLabel};
+use forms::Form;
+use subobject::Head;
+
+// The expected length, from the octets of the NAI.
+fn expected(form: Form, h: Head, nai: usize) -> usize
+    requires { ⌜ nai ≤ 255 ⌝ }
+    ensures length { λ r. ⌜ (nai ≡ naiLength form (h .nt) → r ≡ expectedLength form (h .nt) (h .s) (h .t)) ⌝ }
+{
+    let fixed = octets::wide(form.fixed);
+    let sid = octets::pick(h.s == 0, octets::wide(form.sid), 0);
+    let structure = octets::pick(subobject::structured(h), subobject::STRUCTURE_LENGTH, 0);
+    fixed + sid + nai + structure
+}
+
+// 8, 9, 7 and 10, over the head.
+pub fn head_sound(form: Form, h: Head, ero: bool, n: bool) -> bool
+    ensures sound { λ r. ⌜ (r ≡ true → (rule8 form h ≡ false) × (rule9 h ≡ false) × (rule7 form h ≡ false) × (rule10 h ero n ≡ false)) ⌝ }
+{
+    let nai = forms::nai_length(form, h.nt);
+    let bare = h.nt == subobject::NO_NAI;
+    if octets::both(!bare, nai == 0) {
+        return false;
+    }
+    if subobject_rules::nine(h) {
+        return false;
+    }
+    if h.f != octets::pick(bare, 1, 0) {
+        return false;
+    }
+    if subobject_rules::is_malformed(h) {
+        return false;
+    }
+    if h.size != expected(form, h, nai) {
+        return false;
+    }
+    !subobject_rules::ten(h, ero, n)
+}
+
+// The sum of four octets.
+fn sum_in(s: &[u8], at: usize) -> usize
+    requires { ⌜ at + 4 ≤ length (now s) ⌝ }
+    ensures sum { λ r. ⌜ r ≡ sumAt (now (s .entry)) at ⌝ }
+{
+    octets::wide(s[at])
+        + octets::wide(s[at + 1])
+        + octets::wide(s[at + 2])
+        + octets::wide(s[at + 3])
+}
+
+// 11. A structure ends a subobject of the expected length.
+pub fn structure_sound(form: Form, s: &[u8], at: usize, h: Head) -> bool
+    requires { ⌜ (h .size ≡ expectedLength form (h .nt) (h .s) (h .t)) × (at + h .size ≤ length (now s)) ⌝ }
+    ensures sound { λ r. ⌜ (r ≡ true → rule11 h (bitsAt form (now (s .entry)) at h) ≡ false) ⌝ }
+{
+    if subobject::structured(h) {
+        return sum_in(s, at + h.size - subobject::STRUCTURE_LENGTH) <= subobject::MOST_BITS;
+    }
+    true
+}
+
+// The label of the label stack entry at a place.
+fn label_in(s: &[u8], at: usize) -> usize
+    requires { ⌜ at + 4 ≤ length (now s) ⌝ }
+    ensures label { λ r. ⌜ r ≡ labelAt (now (s .entry)) at ⌝ }
+{
+    octets::wide(s[at]) * 4096 + octets::wide(s[at + 1]) * 16 + octets::wide(s[at + 2]) / 16
+}
+
+// 29 and 30.
+pub fn label_sound(form: Form, s: &[u8], at: usize, h: Head) -> bool
+    requires { ⌜ (h .size ≡ expectedLength form (h .nt) (h .s) (h .t)) × (at + h .size ≤ length (now s)) × (4 ≤ form .sid) ⌝ }
+    ensures sound { λ r. ⌜ (r ≡ true → (rule29 h (labelAt (now (s .entry)) (sidPlace form at)) ≡ false) × (rule30 h (timeAt (now (s .entry)) (sidPlace form at)) ≡ false)) ⌝ }
+{
+    if label_rules::labelled(h) {
+        let p = at + octets::wide(form.fixed);
+        if label_rules::twenty_nine(h, label_in(s, p)) {
+            return false;
+        }
+        return !label_rules::thirty(h, octets::wide(s[p + 3]));
+    }
+    true
+}
+
+// Of the labels below 16 only 7 may stand in a route: the label of the label stack entry at a place is above them if one of its first 16 bits is set.
+fn label_good(s: &[u8], at: usize) -> bool
+    requires { ⌜ at + 4 ≤ length (now s) ⌝ }
+    ensures good { λ r. ⌜ (r ≡ true → (ltb (labelAt (now (s .entry)) at) firstFree && not (eqb (labelAt (now (s .entry)) at) goodLabel)) ≡ false) ⌝ }
+{
+    if octets::read16(s, at) != 0 {
+        return true;
+    }
+    octets::wide(s[at + 2]) / 16 == label_rules::GOOD_LABEL
+}
+
+// 29 and 30 of an MPLS subobject that breaks no rule before them: M is 1 only where there is a SID.
+pub fn mpls_label_sound(s: &[u8], at: usize, h: Head) -> bool
+    requires { ⌜ (h .size ≡ expectedLength mplsForm (h .nt) (h .s) (h .t)) × (at + h .size ≤ length (now s)) × (rule7 mplsForm h ≡ false) × (h .s ≤ 1) ⌝ }
+    ensures sound { λ r. ⌜ (r ≡ true → (rule29 h (labelAt (now (s .entry)) (sidPlace mplsForm at)) ≡ false) × (rule30 h (timeAt (now (s .entry)) (sidPlace mplsForm at)) ≡ false)) ⌝ }
+{
+    if h.m != 1 {
+        return true;
+    }
+    if !label_good(s, at + 4) {
+        return false;
+    }
+    if h.c != 1 {
+        return true;
+    }
+    octets::wide(s[at + 7]) != 0
+}
