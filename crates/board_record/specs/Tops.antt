@@ -20,7 +20,7 @@ pub record Top (versions : List ℕ) (g m : ℕ) : Type 0 where
   pub most : (j : ℕ) → j < group → inGroup versions g j ≤ m
   pub is : (m ≡ 0) ⊎ ((j : ℕ) × (j < group) × (inGroup versions g j ≡ m))
 
--- ---- the same as a function; the crate board_tops shows that its number is that of the record, and no other is
+-- ---- the same as a function; proofs/ shows that its number is that of the record, and no other is
 unfoldable pub topOf : List ℕ → ℕ → ℕ
 topOf versions g = maxBelow (inGroup versions g) group
 

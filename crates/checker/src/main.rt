@@ -1,5 +1,5 @@
 // The checking program: reads PCC OPEN, PCE OPEN and ERO from the first 65,536 octets of standard input and prints
-// one line: number, place and count of the first refusal, or of the ERO's answer (document 01, the last
+// one line: number, place, count and stray segments of the first refusal, or of the ERO's answer (document 01, the last
 // paragraph of "Examples on either side"). What it answers is `checker_verdict::check`.
 fn main() {
     let mut input = io::large_buffer();

@@ -22,7 +22,7 @@ Octets (x ∷ xs) = (x < 256) × Octets xs
 
 -- ignored bits -------------------------------------------------------------------------------------------------
 
--- Strays (document 02, C-18; subobject/specs/Strays): what is unassigned or reserved in the fixed part,
+-- Strays (document 02, C-18; subobject_strays/specs/Strays): what is unassigned or reserved in the fixed part,
 abbrev pub unassignedAt : Form → List ℕ → ℕ → List ℕ
 unassignedAt form s at =
     -- "12 flags; the last four are V, T, F, S": the other eight are unassigned; for MPLS, whose last five are V, F, S, C, M, the other seven

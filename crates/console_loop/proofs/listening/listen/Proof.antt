@@ -1,4 +1,4 @@
--- Either something was read and `take_all` takes it in, or the input has lineEnded and its last line is answered; either way some input leaves the console so.
+-- Either something was read and `take_all` takes it in, or the input has ended and its last line is answered; either way some input leaves the console so.
 use Rattle.console_loop.proofs.Laws.{reached-more, reached-ended}
 use Rattle.console_input.proofs.Laws.{text-within}
 use lib.Seq.{length-take-le}
