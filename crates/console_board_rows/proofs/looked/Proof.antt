@@ -1,3 +1,4 @@
+-- One arm for each row that looks at the board: the row says which line the definition gives, the call laid that line, and `by-look` puts both together.
 use Rattle.console_board_rows.proofs.Laws.{by-look}
 use Rattle.command_rows.specs.declared.Looking.{Looking}
 use Rattle.console_board_rows.specs.Boarded.{lookedLine}

@@ -1,3 +1,4 @@
+-- One arm for each row that asks about a route: the row says which line the definition gives, the call laid that line, and `by-row` puts both together.
 use Rattle.console_route_rows.proofs.Laws.{by-row}
 use Rattle.command_rows.specs.declared.Asking.{Asking}
 use Rattle.console_state.specs.Standing.{listIn}

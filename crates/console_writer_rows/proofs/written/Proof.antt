@@ -1,3 +1,4 @@
+-- One arm for each row about the writer: the row says what the definition leaves, the call left it, and the law of the group puts both together. What a call requires of its words the form says.
 use Rattle.console_writer_rows.proofs.Laws.{by-row}
 use Rattle.console_writer_rows.proofs.Formed.{begin-size, add-form}
 use Rattle.console_writer_rows.specs.Written.{writtenTurn}

@@ -1,3 +1,4 @@
+-- One arm for each row that sets something: the call's line and the state that it leaves are those of the definition (`does`), with the parts that stay as they were.
 use Rattle.console_turn.proofs.Laws.{does, parts, part-stays}
 use Rattle.console_fields.specs.Shown.{openedLine}
 use Rattle.command_forms.specs.declared.verb.Verb.the-variants as v
