@@ -26,11 +26,11 @@ use Rattle.board_rules.specs.Remove.{removeRules, removeVerdict, removeA
 use Rattle.board_rules.specs.Compact.{compactRules, compactVerdict, compactAnswer}
 use Rattle.board_rules.specs.Body.{bodyRules, bodyNumber}
 use Rattle.board_rules.specs.Next.{nextRules, nextVerdict, nextAnswer}
-use Rattle.board_rules.proofs.Verdicts.{Whole, board-whole, whole-board}
+use Rattle.board_rules.proofs.Verdicts.{IsBoard, board-whole, whole-board}
 
 -- no board: the store is short or the record not proper
 abbrev pub NoBoard : Table → ℕ → Type 0
-NoBoard b n = Whole b n → ⊥
+NoBoard b n = IsBoard b n → ⊥
 
 pub no-board : (b : Table) (n : ℕ) → NoBoard b n → isBoard b n ≡ false
 no-board b n f = go (isBoard b n) refl

@@ -21,7 +21,7 @@ use Rattle.board_rules.specs.declared.answer.Handed.the-variants.{Refuse
 use Rattle.board_rules.specs.Rules.{isBoard}
 use Rattle.board_rules.specs.Body.{bodyNumber, bodyOf, octetsAt}
 use Rattle.board_rules.specs.Next.{nextRules, nextVerdict, nextAnswer, handedAt, changeAt, numberIn}
-use Rattle.board_rules.proofs.Verdicts.{Whole, board-whole, rule-passed}
+use Rattle.board_rules.proofs.Verdicts.{IsBoard, board-whole, rule-passed}
 
 -- ---- body
 
@@ -66,7 +66,7 @@ module _ {change : Change} {path : Octets} where
       let p = chosen (ltb i places) _ (Level (b .version)) (no-level (b .version)) e in
       record { here = ltb-true i places (p .0); same = told-path (eqb (lengthAt b i) 0) _ _ (p .1) }
 
-next-whole : (b : Table) (store : List ℕ) (s w : ℕ) → nextVerdict b store s w .number ≡ 0 → Whole b (length store)
+next-whole : (b : Table) (store : List ℕ) (s w : ℕ) → nextVerdict b store s w .number ≡ 0 → IsBoard b (length store)
 unfolding nextVerdict nextRules
 next-whole b store s w e = board-whole b (length store) (not-false _ (rule-passed (not (isBoard b (length store))) 16 0 _ e .0))
 

@@ -17,7 +17,7 @@ use Rattle.board_record.proofs.Logic.{from?}
 use Rattle.board_record.proofs.Ranges.{moved-where, where-moved, none-between}
 use Rattle.board_rules.specs.Rules.{isBoard}
 use Rattle.board_rules.specs.Moved.{movedRules, movedVerdict, movedAnswer}
-use Rattle.board_rules.proofs.Verdicts.{Whole, whole-board, kept-old}
+use Rattle.board_rules.proofs.Verdicts.{IsBoard, whole-board, kept-old}
 use Rattle.board_rules.proofs.Exact.{NoBoard, no-board}
 
 -- yes and no, as verdicts
@@ -33,7 +33,7 @@ module _ (b : Table) (store : List ℕ) (from to v : ℕ) where
   moved-17-then f = rw (no-board b (length store) f)
 
   -- on a board: 24, 23, then the look
-  rest : Whole b (length store) → movedAnswer b store from to v
+  rest : IsBoard b (length store) → movedAnswer b store from to v
       ≡ cond (ltb (b .version) v) (refusedBy markAhead 0)
       (cond (ltb v (b .floor)) (refusedBy markTooOld 0) (acceptedWith (cond (movedIn (b .keys) (b .versions) from to v) 1 0)))
   unfolding movedAnswer movedVerdict movedRules
@@ -56,7 +56,7 @@ module _ (b : Table) (store : List ℕ) (from to v : ℕ) where
       go false true z = omega arith
       go false false z = omega arith
 
-  module _ (w : Whole b (length store)) where
+  module _ (w : IsBoard b (length store)) where
     -- "24 if v is above the version"
     pub moved-ahead : b .version < v → movedAnswer b store from to v ≡ refusedBy markAhead 0
     moved-ahead l = rest w ∙ rw (lt-ltb (b .version) v l)

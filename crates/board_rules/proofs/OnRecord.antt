@@ -32,7 +32,7 @@ use Rattle.board_rules.specs.Body.{bodyNumber, bodyOf, bodyForm}
 use Rattle.board_rules.specs.Next.{nextVerdict, nextAnswer, numberIn}
 use Rattle.board_rules.specs.Moved.{movedAnswer}
 use Rattle.board_rules.specs.OnRecord.{isRecord, verdictOn, Result, resultOf, resultOn, reportOn, reportStoreOn, removeOn, compactOn, bodyNumberOn, bodyOn, bodyFormOn, nextOn, movedOn}
-use Rattle.board_rules.proofs.Verdicts.{Whole, board-whole, whole-board, kept-old, kept-new}
+use Rattle.board_rules.proofs.Verdicts.{IsBoard, board-whole, whole-board, kept-old, kept-new}
 use Rattle.board_rules.proofs.Inside.{next-number}
 use Rattle.board_rules.proofs.Exact.{NoBoard, report-17-then, report-17-only, remove-17-then, remove-17-only, body-17-then, body-17-only}
 use Rattle.board_rules.proofs.Moves.{moved-17-then, moved-17-only}
@@ -138,7 +138,7 @@ module _ (b : Board) (store : List ℕ) (from to v : ℕ) where
 
 -- ---- 17 on a record: exactly if the store is shorter than 49,152 octets, or the table isn't proper, or the row isn't its chain, or a group's number isn't its largest version
 pub record WholeOn (b : Board) (n : ℕ) : Type 0 where
-  pub whole : Whole (tableIn b) n
+  pub whole : IsBoard (tableIn b) n
   pub chained : Chained (tableIn b) (b .order)
   pub topped : (g : ℕ) → g < groups → Top (b .versions) g (getD (b .tops) g 0)
 
@@ -146,7 +146,7 @@ abbrev pub NoRecord : Board → ℕ → Type 0
 NoRecord b n = WholeOn b n → ⊥
 
 module _ (b : Board) (n : ℕ) where
-  tidy-whole : Whole (tableIn b) n → tidy b ≡ true → WholeOn b n
+  tidy-whole : IsBoard (tableIn b) n → tidy b ≡ true → WholeOn b n
   tidy-whole w e =
       record {
         whole = w;

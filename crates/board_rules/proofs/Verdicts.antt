@@ -56,23 +56,23 @@ range-passed k e =
     (leb-true keyLeast k (p .0), leb-true k keyMost (p .1))
 
 -- ---- 17: "exactly if the store is shorter than 49,152 octets or the record isn't proper"
-pub record Whole (b : Table) (n : ℕ) : Type 0 where
+pub record IsBoard (b : Table) (n : ℕ) : Type 0 where
   pub store : storeSize ≤ n
   pub proper : Proper b
 
-pub board-whole : (b : Table) (n : ℕ) → isBoard b n ≡ true → Whole b n
+pub board-whole : (b : Table) (n : ℕ) → isBoard b n ≡ true → IsBoard b n
 unfolding isBoard
 board-whole b n e =
     let p = both-true (leb storeSize n) (properB b) e in
     record { store = leb-true storeSize n (p .0); proper = proper-is b (p .1) }
 
-pub whole-board : (b : Table) (n : ℕ) → Whole b n → isBoard b n ≡ true
+pub whole-board : (b : Table) (n : ℕ) → IsBoard b n → isBoard b n ≡ true
 unfolding isBoard
 whole-board b n w = rw (le-leb storeSize n (w .store), is-proper b (w .proper))
 
 -- ---- report
 pub record ReportPassed (b : Table) (store : List ℕ) (k : ℕ) (ero : List ℕ) (route : Verdict) : Type 0 where
-  pub whole : Whole b (length store)
+  pub whole : IsBoard b (length store)
   pub key-least : keyLeast ≤ k
   pub key-most : k ≤ keyMost
   pub route-taken : route .number ≡ 0
@@ -132,7 +132,7 @@ reported-otherwise b store k ero route r n =
 
 -- ---- remove
 pub record RemovePassed (b : Table) (store : List ℕ) (k : ℕ) : Type 0 where
-  pub whole : Whole b (length store)
+  pub whole : IsBoard b (length store)
   pub key-least : keyLeast ≤ k
   pub key-most : k ≤ keyMost
   pub place : KeyPlace b k (placeOf b k)
@@ -163,7 +163,7 @@ remove-passed b store k z =
 
 -- ---- compact
 pub record CompactPassed (b : Table) (store : List ℕ) (m : ℕ) : Type 0 where
-  pub whole : Whole b (length store)
+  pub whole : IsBoard b (length store)
   pub reached : m ≤ b .version
 
 pub compact-passed : (b : Table) (store : List ℕ) (m : ℕ) → compactVerdict b store m .number ≡ 0 → CompactPassed b store m

@@ -23,7 +23,7 @@ use Rattle.board_rules.specs.Report.{bodyIn, reported}
 use Rattle.board_rules.specs.Remove.{removed}
 use Rattle.board_rules.specs.Body.{bodyRules, bodyNumber, octetsAt, bodyOf, bodyForm}
 use Rattle.board_rules.specs.Next.{nextVerdict, changeAt, handedAt, nextAnswer}
-use Rattle.board_rules.proofs.Verdicts.{Whole, whole-board, kept-new}
+use Rattle.board_rules.proofs.Verdicts.{IsBoard, whole-board, kept-new}
 
 -- ---- report: "A key on the table, path or removal, keeps its place"; "A new key takes the lowest empty place; with none, that of the oldest removal"
 no-place-full : (b : Table) (k i : ℕ) → Full b k → ReportPlace b k i → ⊥
@@ -50,7 +50,7 @@ unfolding removed
 remove-marks b p k i z x = rw (key-place-found b p k i z x)
 
 -- ---- body: "The path's octets are handed back"
-module _ (b : Table) (store : List ℕ) (k i : ℕ) (w : Whole b (length store)) (low : keyLeast ≤ k) (high : k ≤ keyMost) (x : KeyPlace b k i) (y : PathAt b i) where
+module _ (b : Table) (store : List ℕ) (k i : ℕ) (w : IsBoard b (length store)) (low : keyLeast ≤ k) (high : k ≤ keyMost) (x : KeyPlace b k i) (y : PathAt b i) where
   found : placeOf b k ≡ i
   found = key-place-found b (w .proper) k i (λ z. omega arith) x
 

@@ -11,7 +11,7 @@ use Rattle.words.specs.Words.{space, wordOf, sameOf}
 use Rattle.command_forms.specs.Forms.{theEro, verbOf, kindsOf, formed}
 use Rattle.command_forms.specs.declared.verb.Verb.{Verb}
 use Rattle.command_forms.specs.declared.verb.Verb.the-variants as v
-use Rattle.command.specs.Commands.{hash, skipped, longest, bareCommand, numberAt, commanded, commandOf}
+use Rattle.command.specs.Commands.{hash, skipped, longestLine, bareCommand, numberAt, commanded, commandOf}
 
 pub skipped-empty : (l : List ℕ) → length l ≡ 0 → true ≡ skipped l
 unfolding skipped
@@ -28,17 +28,17 @@ module _ (l : List ℕ) where
   unfolding commandOf
   read-skipped e = rw e
 
-  pub read-long : skipped l ≡ false → longest < length l → bareCommand v.Bad ≡ commandOf l
+  pub read-long : skipped l ≡ false → longestLine < length l → bareCommand v.Bad ≡ commandOf l
   unfolding commandOf
-  read-long e h = rw (e, lt-ltb longest (length l) h)
+  read-long e h = rw (e, lt-ltb longestLine (length l) h)
 
-  pub read-out-of-form : skipped l ≡ false → length l ≤ longest → formed (kindsOf (verbOf (wordOf space l 0))) l ≡ false → bareCommand v.Bad ≡ commandOf l
+  pub read-out-of-form : skipped l ≡ false → length l ≤ longestLine → formed (kindsOf (verbOf (wordOf space l 0))) l ≡ false → bareCommand v.Bad ≡ commandOf l
   unfolding commandOf
-  read-out-of-form e h f = rw (e, le-ltb longest (length l) h, f)
+  read-out-of-form e h f = rw (e, le-ltb longestLine (length l) h, f)
 
-  pub read-in-form : skipped l ≡ false → length l ≤ longest → formed (kindsOf (verbOf (wordOf space l 0))) l ≡ true → commanded l ≡ commandOf l
+  pub read-in-form : skipped l ≡ false → length l ≤ longestLine → formed (kindsOf (verbOf (wordOf space l 0))) l ≡ true → commanded l ≡ commandOf l
   unfolding commandOf
-  read-in-form e h f = rw (e, le-ltb longest (length l) h, f)
+  read-in-form e h f = rw (e, le-ltb longestLine (length l) h, f)
 
   pub made : {verb : Verb} {ero : Bool} {one two three four : ℕ} → verb ≡ verbOf (wordOf space l 0) → ero ≡ sameOf (wordOf space l 1) theEro
       → one ≡ numberAt l 1 → two ≡ numberAt l 2 → three ≡ numberAt l 3 → four ≡ numberAt l 4

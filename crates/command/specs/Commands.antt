@@ -21,8 +21,8 @@ skipped [] = true
 skipped (c ∷ cs) = eqb c hash
 
 -- the most octets of a line that is no bad line
-abbrev pub longest : ℕ
-longest = 131200
+abbrev pub longestLine : ℕ
+longestLine = 131200
 
 abbrev pub bareCommand : Verb → Command
 bareCommand verb = record { verb = verb; ero = false; one = 0; two = 0; three = 0; four = 0 }
@@ -44,5 +44,5 @@ commanded line = record {
 
 -- "Any other line that is not one of the commands, in just that form, is a bad line; so is one of more than 131,200 octets."
 unfoldable pub commandOf : List ℕ → Command
-commandOf line = cond (skipped line) (bareCommand v.Skip) (cond (ltb longest (length line)) (bareCommand v.Bad)
+commandOf line = cond (skipped line) (bareCommand v.Skip) (cond (ltb longestLine (length line)) (bareCommand v.Bad)
     (cond (formed (kindsOf (verbOf (wordOf space line 0))) line) (commanded line) (bareCommand v.Bad)))

@@ -11,7 +11,7 @@ use borrow.Author.Tests.{lt-ltb, leb-true, leb-false}
 use Rattle.words.specs.Words.{newline}
 use Rattle.command_forms.specs.declared.verb.Verb.the-variants as v
 use Rattle.command.specs.declared.Command.{Command}
-use Rattle.command.specs.Commands.{skipped, longest, bareCommand, commandOf}
+use Rattle.command.specs.Commands.{skipped, longestLine, bareCommand, commandOf}
 use Rattle.console_state.specs.Standing.{Console}
 use Rattle.console_turn.specs.Turns.{turnBy, turnOf}
 use Rattle.console_input.specs.Hearing.{Dialogue, turnNow, lineEnded, mostKept, longer, sayAll}
@@ -28,9 +28,9 @@ skipped-cut (suc m) (x ∷ xs) h = refl
 abbrev unread : Bool → Command
 unread skip = cond skip (bareCommand v.Skip) (bareCommand v.Bad)
 
-too-long : (line : List ℕ) → longest < length line → commandOf line ≡ unread (skipped line)
+too-long : (line : List ℕ) → longestLine < length line → commandOf line ≡ unread (skipped line)
 unfolding commandOf
-too-long line h = rw (lt-ltb longest (length line) h)
+too-long line h = rw (lt-ltb longestLine (length line) h)
 
 unread-turn : (skip : Bool) (k : Console) (a b : List ℕ) (n : ℕ) → turnBy (unread skip .verb) k (unread skip) a n ≡ turnBy (unread skip .verb) k (unread skip) b n
 unread-turn true k a b n = refl

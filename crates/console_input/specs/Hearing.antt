@@ -6,7 +6,7 @@ use mathlib.Core.List.{List, [], _∷_, _++_}
 use lib.Dec.{eqb}
 use lib.ListN.{length, take}
 use Rattle.words.specs.Words.{newline}
-use Rattle.command.specs.Commands.{longest}
+use Rattle.command.specs.Commands.{longestLine}
 use Rattle.console_state.specs.Rooms.{Rooms}
 use Rattle.console_state.specs.Standing.{Console, consoleOf, atStart}
 use Rattle.console_turn.specs.Turns.{Turned, turnOf}
@@ -36,7 +36,7 @@ lineEnded g = record { console = turnNow g .console; lines = nextNumber (g .line
 
 -- octets of a line that are kept: one more than the longest line may have
 abbrev pub mostKept : ℕ
-mostKept = longest + 1
+mostKept = longestLine + 1
 
 -- More of the line. What is behind the octets that are kept makes no difference: proofs/Cut.
 unfoldable pub longer : Dialogue → List ℕ → Dialogue

@@ -16,7 +16,7 @@ use Rattle.command_forms.specs.declared.verb.Verb.the-variants as v
 use Rattle.command_forms.specs.Forms.{mostSize, verbOf, Kind, fits, kindsOf, formed, fitFrom}
 use Rattle.command_forms.specs.Forms.Kind.{number, bit, octet, twoOctets, size, side, sid, nai, structure}
 use Rattle.command.specs.declared.Command.{Command}
-use Rattle.command.specs.Commands.{skipped, longest, bareCommand, commanded, commandOf}
+use Rattle.command.specs.Commands.{skipped, longestLine, bareCommand, commanded, commandOf}
 use Rattle.console_add.specs.Added.{AddForm}
 
 -- ## Words
@@ -52,7 +52,7 @@ pub in-form : (line : List ℕ) (w : Verb) → (v.Skip ≡ w → ⊥) → (v.Bad
     → Formed (commandOf line) (commanded line) (formed (kindsOf w) line)
 unfolding commandOf
 in-form line w p q e =
-    let f = chosen (skipped line) (ltb longest (length line)) (formed (kindsOf (verbOf (wordOf space line 0))) line) (commanded line) w p q e in
+    let f = chosen (skipped line) (ltb longestLine (length line)) (formed (kindsOf (verbOf (wordOf space line 0))) line) (commanded line) w p q e in
     let g : verbOf (wordOf space line 0) ≡ w = sym (ap (λ (c : Command). c .verb) (f .same)) ∙ e in
     record { same = f .same; form = rw g at (f .form) }
 

@@ -17,7 +17,7 @@ use Rattle.board_record.specs.Search.{MovedAt, movedIn}
 use Rattle.board_record.proofs.Logic.{true≢false, from?}
 use Rattle.board_record.proofs.Ranges.{moved-where, where-moved}
 use Rattle.board_rules.specs.Moved.{movedAnswer}
-use Rattle.board_rules.proofs.Verdicts.{Whole}
+use Rattle.board_rules.proofs.Verdicts.{IsBoard}
 use Rattle.board_rules.proofs.Moves.{moved-ahead, moved-too-old, moved-yes, moved-no}
 use Rattle.follow.specs.Story.{Story, version, held, last}
 use Rattle.follow.specs.Floor.{floorOf}
@@ -96,7 +96,7 @@ said-of h from to v a (still l m f e) =
 pub moved-said : (x : World) → Good x → (from to v : ℕ) → MovedSaid (x .story) from to v (movedAnswer (x .table) (x .store) from to v)
 moved-said x g from to v = said-of (x .story) from to v (movedAnswer (x .table) (x .store) from to v) (⊎-elim inside above (from? v (x .table .version)))
   where
-    whole : Whole (x .table) (length (x .store))
+    whole : IsBoard (x .table) (length (x .store))
     whole = record { store = g .stands .enough; proper = g .stands .proper }
 
     above : x .table .version < v → Told (x .story) from to v (movedAnswer (x .table) (x .store) from to v)

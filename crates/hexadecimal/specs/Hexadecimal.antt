@@ -4,6 +4,7 @@ use mathlib.Core.Bool.{Bool, true, false, cond, not, _&&_, _||_}
 use mathlib.Core.List.{List, [], _∷_}
 use lib.Dec.{eqb, ltb, leb}
 use lib.ListN.{length}
+use Rattle.objects.specs.Objects.{sidSize, naiSize}
 use Rattle.decimal.specs.Decimal.{isNone, isEmpty}
 
 -- `0` to `9`, `A` to `F`, `a` to `f`: what the digit is worth; 16 for any other octet
@@ -35,8 +36,8 @@ octetsOf (a ∷ b ∷ r) = pairOf a b ∷ octetsOf r
 
 -- A SID: "1 to 16 octets, .. or `-`"
 unfoldable pub isSid : List ℕ → Bool
-isSid w = isOctets w && leb (length (octetsOf w)) 16
+isSid w = isOctets w && leb (length (octetsOf w)) sidSize
 
 -- A NAI: "0 to 40 octets"
 unfoldable pub isNai : List ℕ → Bool
-isNai w = isOctets w && leb (length (octetsOf w)) 40
+isNai w = isOctets w && leb (length (octetsOf w)) naiSize

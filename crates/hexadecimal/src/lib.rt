@@ -6,15 +6,13 @@ ghost use lib.ListN.{length};
 ghost use Rattle.octets.specs.Octets.{over};
 ghost use Rattle.hexadecimal.specs.Hexadecimal.{hexCode, pairOf, allPairs, isOctets, octetsOf, isSid, isNai};
 use decimal::is_none;
+use objects::NAI_LENGTH;
+use objects::SID_LENGTH;
 use octets::both;
 use octets::either;
 
 // what no digit is worth
 const NO_DIGIT: u8 = 16;
-
-const SID_OCTETS: usize = 16;
-
-const NAI_OCTETS: usize = 40;
 
 // 0 to 15 for a digit, 16 for any other octet.
 fn hex_code(c: u8) -> u8
@@ -83,14 +81,14 @@ pub fn octets_in(word: &[u8]) -> usize
 pub fn is_sid(word: &[u8]) -> bool
     ensures sid { λ r. ⌜ r ≡ isSid (now (word .entry)) ⌝ }
 {
-    both(is_octets(word), octets_in(word) <= SID_OCTETS)
+    both(is_octets(word), octets_in(word) <= SID_LENGTH)
 }
 
 // `-`, or up to 40 octets
 pub fn is_nai(word: &[u8]) -> bool
     ensures nai { λ r. ⌜ r ≡ isNai (now (word .entry)) ⌝ }
 {
-    both(is_octets(word), octets_in(word) <= NAI_OCTETS)
+    both(is_octets(word), octets_in(word) <= NAI_LENGTH)
 }
 
 // The octets that a word spells, laid over the start of `out`, and their number.

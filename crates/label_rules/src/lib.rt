@@ -10,6 +10,13 @@ pub const FIRST_FREE: usize = 16;
 
 pub const GOOD_LABEL: usize = 7;
 
+// what the lowest bit of a label stack entry's first and second octet is worth in the label, and that of the third octet which is in it
+pub const FIRST_WORTH: usize = 4096;
+
+pub const SECOND_WORTH: usize = 16;
+
+pub const THIRD_PART: usize = 16;
+
 // Whether a label stands where the SID does.
 pub fn labelled(h: Head) -> bool
     ensures labelled { λ r. ⌜ r ≡ hasLabel h ⌝ }
@@ -39,7 +46,9 @@ pub fn label_at(s: &[u8], at: usize) -> usize
     requires { ⌜ at < length (now s) + 128 ⌝ }
     ensures label { λ r. ⌜ r ≡ labelAt (now (s .entry)) at ⌝ }
 {
-    octets::octet(s, at) * 4096 + octets::octet(s, at + 1) * 16 + octets::octet(s, at + 2) / 16
+    octets::octet(s, at) * FIRST_WORTH
+        + octets::octet(s, at + 1) * SECOND_WORTH
+        + octets::octet(s, at + 2) / THIRD_PART
 }
 
 // Its TTL.

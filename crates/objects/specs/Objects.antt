@@ -54,3 +54,10 @@ srv6Setup = 3
 -- The setup type of an MPLS path: "type 1", "PST 1".
 abbrev pub mplsSetup : ℕ
 mplsSetup = 1
+
+-- The octets that a segment keeps for a SID, and for an NAI.
+abbrev pub sidSize : ℕ
+sidSize = 16
+
+abbrev pub naiSize : ℕ
+naiSize = 40

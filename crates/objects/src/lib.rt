@@ -32,3 +32,8 @@ pub const SRV6_SETUP: u64 = 3;
 
 // and of an MPLS path
 pub const MPLS_SETUP: u64 = 1;
+
+// the octets that a segment keeps for a SID, and for an NAI
+pub const SID_LENGTH: usize = 16;
+
+pub const NAI_LENGTH: usize = 40;

@@ -5,6 +5,7 @@ use mathlib.Core.Bool.{Bool, cond, _&&_}
 use mathlib.Core.List.{List}
 use lib.Dec.{eqb}
 use Rattle.octets.specs.Octets.{octetOf}
+pub use Rattle.objects.specs.Objects.{sidSize, naiSize}
 use Rattle.forms.specs.declared.Form.{Form}
 use Rattle.forms.specs.Forms.{flagIn, naiLength}
 use Rattle.subobject.specs.declared.head.Head.{Head}
@@ -21,13 +22,6 @@ adjacency = 4
 
 abbrev pub linkLocal : ℕ
 linkLocal = 6
-
--- The octets that a segment keeps for an NAI, and for a SID.
-abbrev pub naiSize : ℕ
-naiSize = 40
-
-abbrev pub sidSize : ℕ
-sidSize = 16
 
 -- "6-7 endpoint behaviour", where the form has one.
 abbrev pub behaviourPlace : ℕ

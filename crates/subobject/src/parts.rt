@@ -14,9 +14,9 @@ pub const ADJACENCY: usize = 4;
 pub const LINK_LOCAL: usize = 6;
 
 // what a segment keeps for an NAI and for a SID
-pub const NAI_LENGTH: usize = 40;
+pub const NAI_LENGTH: usize = objects::NAI_LENGTH;
 
-pub const SID_LENGTH: usize = 16;
+pub const SID_LENGTH: usize = objects::SID_LENGTH;
 
 // the endpoint behaviour; the SID structure and its four bit lengths
 pub const BEHAVIOUR_PLACE: usize = 6;

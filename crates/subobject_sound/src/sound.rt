@@ -72,7 +72,9 @@ fn label_in(s: &[u8], at: usize) -> usize
     requires { ⌜ at + 4 ≤ length (now s) ⌝ }
     ensures label { λ r. ⌜ r ≡ labelAt (now (s .entry)) at ⌝ }
 {
-    octets::wide(s[at]) * 4096 + octets::wide(s[at + 1]) * 16 + octets::wide(s[at + 2]) / 16
+    octets::wide(s[at]) * label_rules::FIRST_WORTH
+        + octets::wide(s[at + 1]) * label_rules::SECOND_WORTH
+        + octets::wide(s[at + 2]) / label_rules::THIRD_PART
 }
 
 // 29 and 30.
@@ -98,7 +100,7 @@ fn label_good(s: &[u8], at: usize) -> bool
     if octets::read16(s, at) != 0 {
         return true;
     }
-    octets::wide(s[at + 2]) / 16 == label_rules::GOOD_LABEL
+    octets::wide(s[at + 2]) / label_rules::THIRD_PART == label_rules::GOOD_LABEL
 }
 
 // 29 and 30 of an MPLS subobject that breaks no rule before them: M is 1 only where there is a SID.
