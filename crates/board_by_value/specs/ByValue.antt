@@ -9,8 +9,8 @@ use Rattle.board_by_value.specs.declared.answer.Answer.{Answer}
 abbrev pub answerOf : lent.Result → Answer
 answerOf o = record { verdict = o .verdict; board = o .board }
 
-unfoldable pub removeOn : Board → List ℕ → ℕ → Answer
-removeOn b store k = answerOf (lent.removeOn b store k)
+unfoldable pub removeByValue : Board → List ℕ → ℕ → Answer
+removeByValue b store k = answerOf (lent.removeOn b store k)
 
-unfoldable pub compactOn : Board → List ℕ → ℕ → Answer
-compactOn b store c = answerOf (lent.compactOn b store c)
+unfoldable pub compactByValue : Board → List ℕ → ℕ → Answer
+compactByValue b store c = answerOf (lent.compactOn b store c)

@@ -3,13 +3,13 @@
 mod answer;
 
 ghost use mathlib.Core.Path.{_≡_};
-ghost use Rattle.board_by_value.specs.ByValue.{removeOn, compactOn};
+ghost use Rattle.board_by_value.specs.ByValue.{removeByValue, compactByValue};
 pub use answer::Answer;
 use board_record::Board;
 
 // Remove (key).
 pub fn remove(b: Board, store: &[u8], key: u64) -> Answer
-    ensures answer { λ r. ⌜ r ≡ removeOn b (now (store .entry)) key ⌝ }
+    ensures answer { λ r. ⌜ r ≡ removeByValue b (now (store .entry)) key ⌝ }
 {
     let keys = b.keys;
     let mut versions = b.versions;
@@ -48,7 +48,7 @@ pub fn remove(b: Board, store: &[u8], key: u64) -> Answer
 
 // Compact (c).
 pub fn compact(b: Board, store: &[u8], c: u64) -> Answer
-    ensures answer { λ r. ⌜ r ≡ compactOn b (now (store .entry)) c ⌝ }
+    ensures answer { λ r. ⌜ r ≡ compactByValue b (now (store .entry)) c ⌝ }
 {
     let mut keys = b.keys;
     let mut versions = b.versions;

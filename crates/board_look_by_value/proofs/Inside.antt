@@ -17,9 +17,9 @@ use Rattle.board_rules.specs.Body.{bodyOf}
 use Rattle.board_rules.specs.Next.{nextAnswer}
 use Rattle.board_rules.specs.OnRecord as lent
 use Rattle.board_rules.proofs.Inside as tables
-use Rattle.board_look_by_value.specs.ByValue.{bodyOn, nextOn}
+use Rattle.board_look_by_value.specs.ByValue.{bodyByValue, nextByValue}
 
-pub body-inside : (b : Board) (store : List ℕ) (k : ℕ) → length (bodyOn b store k) ≤ length store
+pub body-inside : (b : Board) (store : List ℕ) (k : ℕ) → length (bodyByValue b store k) ≤ length store
 unfolding lent.bodyOn
 body-inside b store k = go (tidy b)
   where
@@ -27,7 +27,7 @@ body-inside b store k = go (tidy b)
     go true = tables.body-inside (tableIn b) store k
     go false = omega arith
 
-pub path-inside : (b : Board) (store : List ℕ) (s w : ℕ) {change : Change} {path : Octets} → nextOn b store s w ≡ Path change path
+pub path-inside : (b : Board) (store : List ℕ) (s w : ℕ) {change : Change} {path : Octets} → nextByValue b store s w ≡ Path change path
     → room * path .place + path .length ≤ length store
 unfolding lent.nextOn
 path-inside b store s w {change} {path} e = go (tidy b) e

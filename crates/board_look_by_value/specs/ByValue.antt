@@ -9,20 +9,20 @@ use Rattle.board_rules.specs.declared.answer.Mark.{Mark}
 use Rattle.board_rules.specs.Next.{freshMark}
 use Rattle.board_rules.specs.OnRecord as lent
 
-abbrev pub bodyNumberOn : Board → List ℕ → ℕ → Verdict
-bodyNumberOn b store k = lent.bodyNumberOn b store k
+abbrev pub bodyNumberByValue : Board → List ℕ → ℕ → Verdict
+bodyNumberByValue b store k = lent.bodyNumberOn b store k
 
-abbrev pub bodyOn : Board → List ℕ → ℕ → List ℕ
-bodyOn b store k = lent.bodyOn b store k
+abbrev pub bodyByValue : Board → List ℕ → ℕ → List ℕ
+bodyByValue b store k = lent.bodyOn b store k
 
-abbrev pub bodyFormOn : Board → List ℕ → ℕ → ℕ
-bodyFormOn b store k = lent.bodyFormOn b store k
+abbrev pub bodyFormByValue : Board → List ℕ → ℕ → ℕ
+bodyFormByValue b store k = lent.bodyFormOn b store k
 
-abbrev pub nextOn : Board → List ℕ → ℕ → ℕ → Handed
-nextOn b store s w = lent.nextOn b store s w
+abbrev pub nextByValue : Board → List ℕ → ℕ → ℕ → Handed
+nextByValue b store s w = lent.nextOn b store s w
 
-abbrev pub movedOn : Board → List ℕ → ℕ → ℕ → ℕ → Verdict
-movedOn b store from to v = lent.movedOn b store from to v
+abbrev pub movedByValue : Board → List ℕ → ℕ → ℕ → ℕ → Verdict
+movedByValue b store from to v = lent.movedOn b store from to v
 
 abbrev pub freshMarkOn : Board → Mark
 freshMarkOn b = freshMark (tableIn b)

@@ -2,7 +2,7 @@
 // and its form by a call of its own; next hands out a change, moved says if a key of a range changed. Each lends the record's arrays
 // to the call of board_body or board_look.
 ghost use mathlib.Core.Path.{_≡_};
-ghost use Rattle.board_look_by_value.specs.ByValue.{bodyNumberOn, bodyOn, bodyFormOn, nextOn, movedOn, freshMarkOn};
+ghost use Rattle.board_look_by_value.specs.ByValue.{bodyNumberByValue, bodyByValue, bodyFormByValue, nextByValue, movedByValue, freshMarkOn};
 use answers::Verdict;
 use board_record::Board;
 use board_rules::Handed;
@@ -10,7 +10,7 @@ use board_rules::Mark;
 
 // The number of Body (key).
 pub fn body_number(b: Board, store: &[u8], key: u64) -> Verdict
-    ensures number { λ r. ⌜ r ≡ bodyNumberOn b (now (store .entry)) key ⌝ }
+    ensures number { λ r. ⌜ r ≡ bodyNumberByValue b (now (store .entry)) key ⌝ }
 {
     board_body::body_number(
         &b.keys,
@@ -28,7 +28,7 @@ pub fn body_number(b: Board, store: &[u8], key: u64) -> Verdict
 
 // Body (key): the path's octets, a part of the store; empty on refusal.
 pub fn body<'a>(b: Board, store: &'a [u8], key: u64) -> &'a [u8]
-    ensures body { λ r. ⌜ now r ≡ bodyOn b (now (store .entry)) key ⌝ }
+    ensures body { λ r. ⌜ now r ≡ bodyByValue b (now (store .entry)) key ⌝ }
 {
     board_body::body(
         &b.keys,
@@ -46,7 +46,7 @@ pub fn body<'a>(b: Board, store: &'a [u8], key: u64) -> &'a [u8]
 
 // The form of the path of Body (key), by its setup type; 0 on refusal.
 pub fn body_form(b: Board, store: &[u8], key: u64) -> usize
-    ensures form { λ r. ⌜ r ≡ bodyFormOn b (now (store .entry)) key ⌝ }
+    ensures form { λ r. ⌜ r ≡ bodyFormByValue b (now (store .entry)) key ⌝ }
 {
     board_body::body_form(
         &b.keys,
@@ -64,7 +64,7 @@ pub fn body_form(b: Board, store: &[u8], key: u64) -> usize
 
 // Next (mark s, w).
 pub fn next(b: Board, store: &[u8], s: u64, w: u64) -> Handed
-    ensures next { λ r. ⌜ r ≡ nextOn b (now (store .entry)) s w ⌝ }
+    ensures next { λ r. ⌜ r ≡ nextByValue b (now (store .entry)) s w ⌝ }
 {
     board_look::next(
         &b.keys,
@@ -83,7 +83,7 @@ pub fn next(b: Board, store: &[u8], s: u64, w: u64) -> Handed
 
 // Moved (keys from `from` to `to`, version v).
 pub fn moved(b: Board, store: &[u8], from: u64, to: u64, v: u64) -> Verdict
-    ensures moved { λ r. ⌜ r ≡ movedOn b (now (store .entry)) from to v ⌝ }
+    ensures moved { λ r. ⌜ r ≡ movedByValue b (now (store .entry)) from to v ⌝ }
 {
     board_look::moved(
         &b.keys,

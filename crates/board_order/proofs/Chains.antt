@@ -17,7 +17,7 @@ use Rattle.board_record.specs.Lists.{row, countBelow}
 use Rattle.board_record.specs.Table.{Table, keyAt, versionAt, Used, usedB}
 use Rattle.board_record.specs.Search.{firstWhere}
 use Rattle.board_record.specs.Proper.{Proper, allBelow}
-use Rattle.board_record.specs.Order.{named, placeOn, OnRow, Chained, olderOf, placeAt, numberOf, orderOf, inOrder}
+use Rattle.board_record.specs.Order.{named, placeOn, OnRow, Chained, olderOf, placeAt, orderNumber, orderOf, inOrder}
 use Rattle.octets.proofs.Said.{both-true}
 use Rattle.board_record.proofs.Logic.{true≢false, and-false, same?, from?}
 use Rattle.board_order.proofs.Names.{named-number, none-number, same-number}
@@ -183,10 +183,10 @@ module _ (b : Table) where
     order-chained = chain
       where
         numbers : List ℕ
-        numbers = row (λ i. numberOf (placeAt b i)) 128
+        numbers = row (λ i. orderNumber (placeAt b i)) 128
 
-        raw : (i : ℕ) → i < 128 → getD numbers i 0 ≡ numberOf (placeAt b i)
-        raw i l = row-at (λ j. numberOf (placeAt b j)) 128 i l
+        raw : (i : ℕ) → i < 128 → getD numbers i 0 ≡ orderNumber (placeAt b i)
+        raw i l = row-at (λ j. orderNumber (placeAt b j)) 128 i l
 
         at : (i : ℕ) → i < 128 → placeOn numbers i ≡ placeAt b i
         at i l = ap named (raw i l) ∙ named-number (placeAt b i) (at-most i)
@@ -224,11 +224,11 @@ module _ (b : Table) where
 -- ---- the test
 pub order-long : (b : Table) → length (orderOf b) ≡ places
 unfolding orderOf
-order-long b = length-row (λ i. numberOf (placeAt b i)) 128
+order-long b = length-row (λ i. orderNumber (placeAt b i)) 128
 
-pub order-at : (b : Table) (i : ℕ) → i < places → getD (orderOf b) i 0 ≡ numberOf (placeAt b i)
+pub order-at : (b : Table) (i : ℕ) → i < places → getD (orderOf b) i 0 ≡ orderNumber (placeAt b i)
 unfolding orderOf
-order-at b i l = row-at (λ j. numberOf (placeAt b j)) 128 i l
+order-at b i l = row-at (λ j. orderNumber (placeAt b j)) 128 i l
 
 on-order : (b : Table) (i : ℕ) → i < places → placeOn (orderOf b) i ≡ placeAt b i
 on-order b i l = ap named (order-at b i l) ∙ named-number (placeAt b i) (at-most b i)
@@ -241,15 +241,15 @@ pub chained-in : (b : Table) (order : List ℕ) → Chained b order → inOrder 
 unfolding inOrder
 chained-in b order x =
     let y = order-chained b (chain-apart b order x) in
-    all-of (λ i. eqb (getD order i 0) (numberOf (placeAt b i))) 128
-    (λ i l. eq-eqb (getD order i 0) (numberOf (placeAt b i))
+    all-of (λ i. eqb (getD order i 0) (orderNumber (placeAt b i))) 128
+    (λ i l. eq-eqb (getD order i 0) (orderNumber (placeAt b i))
     (same-number (getD order i 0) (getD (orderOf b) i 0) (same-row b order (orderOf b) x y 128 (omega arith) i l) (x .rest i l) (y .rest i l) ∙ order-at b i l))
 
 -- and the order of a table whose versions are distinct is a chain
 pub in-chained : (b : Table) (order : List ℕ) → Apart b → inOrder b order ≡ true → Chained b order
 unfolding inOrder
 in-chained b order apart e =
-    chained-as b (orderOf b) order (λ i l. eqb-true (getD order i 0) (numberOf (placeAt b i)) (all-at (λ j. eqb (getD order j 0) (numberOf (placeAt b j))) 128 e i l) ∙ sym (order-at b i l))
+    chained-as b (orderOf b) order (λ i l. eqb-true (getD order i 0) (orderNumber (placeAt b i)) (all-at (λ j. eqb (getD order j 0) (orderNumber (placeAt b j))) 128 e i l) ∙ sym (order-at b i l))
     (order-chained b apart)
 
 pub in-order : (b : Table) → Apart b → inOrder b (orderOf b) ≡ true
@@ -259,7 +259,7 @@ pub in-order-is : (b : Table) (order : List ℕ) → length order ≡ places →
 unfolding inOrder
 in-order-is b order n e =
     ext-getD 0 order (orderOf b) (n ∙ sym (order-long b))
-    (λ i l. eqb-true (getD order i 0) (numberOf (placeAt b i)) (all-at (λ j. eqb (getD order j 0) (numberOf (placeAt b j))) 128 e i (omega arith)) ∙ sym (order-at b i (omega arith)))
+    (λ i l. eqb-true (getD order i 0) (orderNumber (placeAt b i)) (all-at (λ j. eqb (getD order j 0) (orderNumber (placeAt b j))) 128 e i (omega arith)) ∙ sym (order-at b i (omega arith)))
 
 -- a chain has as many places as the table has used ones
 pub chained-count : (b : Table) (order : List ℕ) → Chained b order → (i : ℕ) → i < countBelow (usedB b) places → placeOn order i < places

@@ -7,7 +7,7 @@ use mathlib.Core.Logic.{_⊎_, inl, inr, ⊎-elim}
 use lib.Dec.{eqb, ltb}
 use borrow.Author.Tests.{eq-eqb, ne-eqb, lt-ltb, le-ltb}
 use Rattle.board_record.specs.Sizes.{places}
-use Rattle.board_record.specs.Order.{named, numberOf}
+use Rattle.board_record.specs.Order.{named, orderNumber}
 use Rattle.board_record.proofs.Logic.{same?, from?}
 
 pub named-none : (n : ℕ) → n ≡ 0 → named n ≡ places
@@ -25,12 +25,12 @@ named-place p = let e = named-some (p + 1) (λ z. omega arith) in omega (arith, 
 pub number-is : (n : ℕ) → named n < places → n ≡ named n + 1
 number-is n l = ⊎-elim (λ e. absurd (omega (arith, named-none n e))) (λ d. omega (arith, named-some n d, d)) (same? n 0)
 
-pub named-number : (p : ℕ) → p ≤ places → named (numberOf p) ≡ p
-unfolding numberOf
+pub named-number : (p : ℕ) → p ≤ places → named (orderNumber p) ≡ p
+unfolding orderNumber
 named-number p l = ⊎-elim (λ h. rw (le-ltb p 128 h) (named-none 0 refl ∙ omega arith)) (λ h. rw (lt-ltb p 128 h) (named-place p)) (from? 128 p)
 
-pub none-number : (p : ℕ) → places ≤ p → numberOf p ≡ 0
-unfolding numberOf
+pub none-number : (p : ℕ) → places ≤ p → orderNumber p ≡ 0
+unfolding orderNumber
 none-number p l = rw (le-ltb p 128 l)
 
 -- numbers that name one place, or are 0 where they name none, are equal

@@ -9,12 +9,12 @@ use lib.ListN.{getD, set, length, length-set}
 use lib.Seq.{getD-set-same, getD-set-other}
 use Rattle.objects.specs.Objects.{unit}
 use Rattle.board_record.specs.Sizes.{places, room, keyLeast, keyMost, versionMost, bodyLeast}
-use Rattle.board_record.specs.Table.{Table, Sized, keyAt, versionAt, lengthAt, formAt, entryAt, Entry, Used, RemovalAt, changed}
+use Rattle.board_record.specs.Table.{Table, ListsWhole, keyAt, versionAt, lengthAt, formAt, entryAt, Entry, Used, RemovalAt, changed}
 use Rattle.board_record.specs.Proper.{Proper, IsForm}
 use Rattle.board_record.proofs.Logic.{same?}
 use Rattle.board_record.proofs.Proper.{Sound, proper-sound, sound-proper}
 
-pub changed-sized : (b : Table) (i : ℕ) (e : Entry) (f : ℕ) → Sized b → Sized (changed b i e f)
+pub changed-sized : (b : Table) (i : ℕ) (e : Entry) (f : ℕ) → ListsWhole b → ListsWhole (changed b i e f)
 changed-sized b i e f s =
     record {
       keys = length-set (b .keys) i (e .key) ∙ s .keys;
@@ -43,7 +43,7 @@ pub record Fitting (b : Table) (i : ℕ) (e : Entry) (f : ℕ) : Type 0 where
   pub only : (j : ℕ) → j < places → (j ≡ i → ⊥) → keyAt b j ≡ e .key → ⊥
   pub marks : (j : ℕ) → j < places → (j ≡ i → ⊥) → RemovalAt b j → f < versionAt b j
 
-module _ (b : Table) (i : ℕ) (e : Entry) (f : ℕ) (s : Sized b) where
+module _ (b : Table) (i : ℕ) (e : Entry) (f : ℕ) (s : ListsWhole b) where
   -- the table after it
   abbrev b′ : Table
   b′ = changed b i e f

@@ -11,7 +11,7 @@ use lib.Dec.{eqb, ltb, leb}
 use borrow.Author.Tests.{eqb-true, eqb-false, leb-true, leb-false, ltb-true, ltb-false, eq-eqb, ne-eqb, lt-ltb, le-leb, not-true, not-false}
 use Rattle.objects.specs.Objects.{unit, srv6Setup, mplsSetup}
 use Rattle.board_record.specs.Sizes.{places, room, keyLeast, keyMost, versionMost, bodyLeast}
-use Rattle.board_record.specs.Table.{Table, emptyTable, Sized, Entry, keyAt, versionAt, lengthAt, formAt, entryAt, Empty, Used, RemovalAt, PathAt}
+use Rattle.board_record.specs.Table.{Table, emptyTable, ListsWhole, Entry, keyAt, versionAt, lengthAt, formAt, entryAt, Empty, Used, RemovalAt, PathAt}
 use Rattle.board_record.specs.Proper.{Proper, IsForm, allBelow, pathOk, placeOk, soundB, distinctB, properB}
 use Rattle.octets.proofs.Said.{both-true}
 use Rattle.board_record.proofs.Logic.{or-true, same?, test-is}
@@ -268,7 +268,7 @@ is-proper b p =
 zeros : (i : ℕ) → i < places → getD {A = ℕ} (replicate 128 0) i 0 ≡ 0
 zeros i l = getD-replicate 128 i 0 0 l
 
-pub empty-sized : Sized emptyTable
+pub empty-sized : ListsWhole emptyTable
 empty-sized = record { keys = length-replicate {A = ℕ} 128 0; versions = length-replicate {A = ℕ} 128 0; lengths = length-replicate {A = ℕ} 128 0; forms = length-replicate {A = ℕ} 128 0 }
 
 pub empty-proper : Proper emptyTable

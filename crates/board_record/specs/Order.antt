@@ -52,12 +52,12 @@ unfoldable pub placeAt : Table → ℕ → ℕ
 placeAt b i = firstWhere (λ p. usedB b p && eqb (olderOf b p) i) places
 
 -- the number that names a place; 0 for none
-unfoldable pub numberOf : ℕ → ℕ
-numberOf p = cond (ltb p places) (p + 1) 0
+unfoldable pub orderNumber : ℕ → ℕ
+orderNumber p = cond (ltb p places) (p + 1) 0
 
 unfoldable pub orderOf : Table → List ℕ
-orderOf b = row (λ i. numberOf (placeAt b i)) places
+orderOf b = row (λ i. orderNumber (placeAt b i)) places
 
 -- that a row is the order of the table, as a test
 unfoldable pub inOrder : Table → List ℕ → Bool
-inOrder b order = allBelow (λ i. eqb (getD order i 0) (numberOf (placeAt b i))) places
+inOrder b order = allBelow (λ i. eqb (getD order i 0) (orderNumber (placeAt b i))) places

@@ -27,7 +27,7 @@ abbrev pub emptyTable : Table
 emptyTable = tableOf (replicate places 0) (replicate places 0) (replicate places 0) 0 0 (replicate places 0)
 
 -- its lists have a number for each place; the types of the code say so
-pub record Sized (b : Table) : Type 0 where
+pub record ListsWhole (b : Table) : Type 0 where
   pub keys : length (b .keys) ≡ places
   pub versions : length (b .versions) ≡ places
   pub lengths : length (b .lengths) ≡ places

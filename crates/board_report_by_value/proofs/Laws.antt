@@ -8,11 +8,11 @@ use Rattle.board_record.specs.declared.record.Board.{Board}
 use Rattle.board_rules.specs.OnRecord as lent
 use Rattle.report_call.specs.Reported as called
 use Rattle.board_by_value.specs.ByValue.{answerOf}
-use Rattle.board_report_by_value.specs.ByValue.{reportOn}
+use Rattle.board_report_by_value.specs.ByValue.{reportByValue}
 
 module _ (b : Board) (store : List ℕ) (v : Verdict) (d : Board) where
   pub report-back : (k : ℕ) (ero : List ℕ) (both : Sessions) (pst : ℕ) (addresses : List ℕ)
       → lent.resultOf v d ≡ called.reportForOn b store k ero both pst addresses
-      → answerOf (lent.resultOf v d) ≡ reportOn b store k ero both pst addresses
-  unfolding reportOn
+      → answerOf (lent.resultOf v d) ≡ reportByValue b store k ero both pst addresses
+  unfolding reportByValue
   report-back k ero both pst addresses e = ap answerOf e

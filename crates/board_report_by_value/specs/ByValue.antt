@@ -7,8 +7,8 @@ use Rattle.report_call.specs.Reported as called
 use Rattle.board_by_value.specs.declared.answer.Answer.{Answer}
 use Rattle.board_by_value.specs.ByValue.{answerOf}
 
-unfoldable pub reportOn : Board → List ℕ → ℕ → List ℕ → Sessions → ℕ → List ℕ → Answer
-reportOn b store k ero both pst addresses = answerOf (called.reportForOn b store k ero both pst addresses)
+unfoldable pub reportByValue : Board → List ℕ → ℕ → List ℕ → Sessions → ℕ → List ℕ → Answer
+reportByValue b store k ero both pst addresses = answerOf (called.reportForOn b store k ero both pst addresses)
 
-abbrev pub reportStoreOn : Board → List ℕ → ℕ → List ℕ → Sessions → ℕ → List ℕ → List ℕ
-reportStoreOn b store k ero both pst addresses = called.reportStoreForOn b store k ero both pst addresses
+abbrev pub reportStoreByValue : Board → List ℕ → ℕ → List ℕ → Sessions → ℕ → List ℕ → List ℕ
+reportStoreByValue b store k ero both pst addresses = called.reportStoreForOn b store k ero both pst addresses

@@ -1,7 +1,7 @@
 // Report with the record by value (document 01, "The board"): it is handed back, changed or after a refusal as it was. The record's arrays
 // are lent to the call of report_call.
 ghost use mathlib.Core.Path.{_≡_};
-ghost use Rattle.board_report_by_value.specs.ByValue.{reportOn, reportStoreOn};
+ghost use Rattle.board_report_by_value.specs.ByValue.{reportByValue, reportStoreByValue};
 use board_by_value::Answer;
 use board_record::Board;
 use session::Sessions;
@@ -16,8 +16,8 @@ pub fn report(
     pst: u64,
     addresses: &[u8],
 ) -> Answer
-    ensures answer { λ r. ⌜ r ≡ reportOn b (now (store .entry)) key (now (ero .entry)) both pst (now (addresses .entry)) ⌝ }
-    ensures octets { λ r. ⌜ now (store .exit) ≡ reportStoreOn b (now (store .entry)) key (now (ero .entry)) both pst (now (addresses .entry)) ⌝ }
+    ensures answer { λ r. ⌜ r ≡ reportByValue b (now (store .entry)) key (now (ero .entry)) both pst (now (addresses .entry)) ⌝ }
+    ensures octets { λ r. ⌜ now (store .exit) ≡ reportStoreByValue b (now (store .entry)) key (now (ero .entry)) both pst (now (addresses .entry)) ⌝ }
 {
     let mut keys = b.keys;
     let mut versions = b.versions;

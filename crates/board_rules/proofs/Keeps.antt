@@ -18,7 +18,7 @@ use Rattle.route.specs.Routes.{judgeOf}
 use Rattle.route.proofs.Setups.{accepted-one, body-mpls, body-srv6}
 use Rattle.objects.specs.Objects.{unit, srv6Setup, mplsSetup}
 use Rattle.board_record.specs.Sizes.{places, room, bodyLeast, versionMost}
-use Rattle.board_record.specs.Table.{Table, tableOf, Sized, keyAt, versionAt, lengthAt, formAt, Empty, Used, RemovalAt, bearing, entryAt, changed, removalB}
+use Rattle.board_record.specs.Table.{Table, tableOf, ListsWhole, keyAt, versionAt, lengthAt, formAt, Empty, Used, RemovalAt, bearing, entryAt, changed, removalB}
 use Rattle.board_record.specs.Search.{KeyPlace, placeOf, LowestEmpty, OldestRemoval, ReportPlace, keeps, takes, drops, targetOf, floorAfter}
 use Rattle.board_record.specs.Proper.{Proper, IsForm}
 use Rattle.octets.proofs.Said.{both-true}
@@ -110,7 +110,7 @@ report-fits b p k n pst i low high size left here (drops new used x) =
     }
 
 pub reported-proper : (b : Table) (store : List ℕ) (k : ℕ) (ero : List ℕ) (route : Verdict) (pst : ℕ)
-    → Sized b
+    → ListsWhole b
     → BodyFits ero pst
     → reportVerdict b store k ero route .number ≡ 0
     → Proper (reported b k ero pst)
@@ -127,7 +127,7 @@ reported-proper b store k ero route pst s y z =
 taken? : (v : Verdict) → (v .number ≡ 0) ⊎ (v .number ≡ 0 → ⊥)
 taken? v = same? (v .number) 0
 
-pub report-proper : (b : Table) (store : List ℕ) (k : ℕ) (ero : List ℕ) (session : Session) (pst : ℕ) → Sized b → Proper b → Proper (reportAnswer b store k ero session pst .table)
+pub report-proper : (b : Table) (store : List ℕ) (k : ℕ) (ero : List ℕ) (session : Session) (pst : ℕ) → ListsWhole b → Proper b → Proper (reportAnswer b store k ero session pst .table)
 unfolding reportAnswer reportWith
 report-proper b store k ero session pst s p = ⊎-elim yes no (taken? (reportVerdict b store k ero (judgeOf ero true session pst)))
   where
@@ -141,7 +141,7 @@ report-proper b store k ero session pst s p = ⊎-elim yes no (taken? (reportVer
     no d = rw (kept-old (reportVerdict b store k ero (judgeOf ero true session pst) .number) b (reported b k ero pst) d) p
 
 -- ---- remove
-pub removed-proper : (b : Table) (store : List ℕ) (k : ℕ) → Sized b → removeVerdict b store k .number ≡ 0 → Proper (removed b k)
+pub removed-proper : (b : Table) (store : List ℕ) (k : ℕ) → ListsWhole b → removeVerdict b store k .number ≡ 0 → Proper (removed b k)
 unfolding removed
 removed-proper b store k s z =
     let g = remove-passed b store k z in
@@ -159,7 +159,7 @@ removed-proper b store k s z =
       marks = λ j l d r. p .removal-above j l r;
     })
 
-pub remove-proper : (b : Table) (store : List ℕ) (k : ℕ) → Sized b → Proper b → Proper (removeAnswer b store k .table)
+pub remove-proper : (b : Table) (store : List ℕ) (k : ℕ) → ListsWhole b → Proper b → Proper (removeAnswer b store k .table)
 unfolding removeAnswer
 remove-proper b store k s p =
     ⊎-elim (λ z. rw (kept-new (removeVerdict b store k .number) b (removed b k) z) (removed-proper b store k s z))

@@ -12,7 +12,7 @@ use Rattle.octets.proofs.Laws.{length-placed, getD-before, getD-behind, part-pl
 use Rattle.session.specs.declared.Session.{Session}
 use Rattle.route.specs.Routes.{judgeOf}
 use Rattle.board_record.specs.Sizes.{room}
-use Rattle.board_record.specs.Table.{Table, Sized, bearing}
+use Rattle.board_record.specs.Table.{Table, ListsWhole, bearing}
 use Rattle.board_record.specs.Search.{targetOf, placeOf, floorAfter}
 use Rattle.board_record.proofs.Logic.{same?}
 use Rattle.board_record.proofs.Changed.{changed-sized}
@@ -51,7 +51,7 @@ module _ (b : Table) (store : List ℕ) (k : ℕ) (ero : List ℕ) (session : Se
       (λ d. ap (λ (s : List ℕ). getD s m 0) (report-refused-writes-nothing d)) (same? (reportAnswer b store k ero session pst .verdict .number) 0)
 
   -- ---- and the record keeps its size
-  pub report-sized : Sized b → Sized (reportAnswer b store k ero session pst .table)
+  pub report-sized : ListsWhole b → ListsWhole (reportAnswer b store k ero session pst .table)
   unfolding reportAnswer reportWith reported
   report-sized s =
       ⊎-elim
@@ -60,13 +60,13 @@ module _ (b : Table) (store : List ℕ) (k : ℕ) (ero : List ℕ) (session : Se
       (λ d. rw (kept-old (reportVerdict b store k ero (judgeOf ero true session pst) .number) b (reported b k ero pst) d) s)
       (same? (reportVerdict b store k ero (judgeOf ero true session pst) .number) 0)
 
-pub remove-sized : (b : Table) (store : List ℕ) (k : ℕ) → Sized b → Sized (removeAnswer b store k .table)
+pub remove-sized : (b : Table) (store : List ℕ) (k : ℕ) → ListsWhole b → ListsWhole (removeAnswer b store k .table)
 unfolding removeAnswer removed
 remove-sized b store k s =
     ⊎-elim (λ z. rw (kept-new (removeVerdict b store k .number) b (removed b k) z) (changed-sized b (placeOf b k) (bearing b k 0 0) (b .floor) s))
     (λ d. rw (kept-old (removeVerdict b store k .number) b (removed b k) d) s) (same? (removeVerdict b store k .number) 0)
 
-pub compact-sized : (b : Table) (store : List ℕ) (m : ℕ) → Sized b → Sized (compactAnswer b store m .table)
+pub compact-sized : (b : Table) (store : List ℕ) (m : ℕ) → ListsWhole b → ListsWhole (compactAnswer b store m .table)
 unfolding compactAnswer compacted
 compact-sized b store m s =
     ⊎-elim (λ z. rw (kept-new (compactVerdict b store m .number) b (compacted b m) z) (record { keys = length-row _ 128; versions = length-row _ 128; lengths = s .lengths; forms = s .forms }))

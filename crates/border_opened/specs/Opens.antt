@@ -4,7 +4,7 @@ use mathlib.Core.Bool.{cond}
 use lib.Dec.{ltb}
 use Rattle.positions.specs.declared.Setup.{Setup}
 use Rattle.session.specs.declared.Opened.{Opened}
-use Rattle.border_records.specs.Records.{isYes, flagOf, limitIn, limitedOf, mostOf, depthFrom, thereOf, valueOf}
+use Rattle.border_records.specs.Records.{isYes, flagOf, limitIn, limitedFlag, mostOf, depthFrom, thereOf, valueOf}
 use Rattle.border_opened.specs.declared.opened.OpenedRecord.{OpenedRecord}
 use Rattle.border_opened.specs.declared.setup.SetupRecord.{SetupRecord}
 
@@ -39,7 +39,7 @@ openedOut o =
       number = o .number;
       srv6 = flagOf (o .srv6);
       n = flagOf (o .n);
-      limited = limitedOf (o .limit);
+      limited = limitedFlag (o .limit);
       limit = mostOf (o .limit);
       a = flagOf (o .a);
       r = flagOf (o .r);
@@ -49,7 +49,7 @@ openedOut o =
       m = valueOf (o .m);
       mpls = flagOf (o .mpls);
       mplsn = flagOf (o .mplsn);
-      mplslimited = limitedOf (o .mplslimit);
+      mplslimited = limitedFlag (o .mplslimit);
       form = formOut (o .form);
       mplslimit = mostOf (o .mplslimit);
     }

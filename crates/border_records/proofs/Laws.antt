@@ -15,7 +15,7 @@ use Rattle.border_records.specs.Records.{
   isYes,
   flagOf,
   limitIn,
-  limitedOf,
+  limitedFlag,
   mostOf,
   largest,
   shortOf,
@@ -29,7 +29,7 @@ pub flag-back : (b : Bool) → isYes (flagOf b) ≡ b
 flag-back true = refl
 flag-back false = refl
 
-pub limit-back : (l : Limit) → limitIn (limitedOf l) (mostOf l) ≡ l
+pub limit-back : (l : Limit) → limitIn (limitedFlag l) (mostOf l) ≡ l
 limit-back Free = refl
 limit-back (Most n) = refl
 
@@ -38,7 +38,7 @@ abbrev pub Held : Limit → Type 0
 Held Free = Unit {0}
 Held (Most n) = n ≤ largest
 
-pub short-back : (l : Limit) → Held l → limitIn (limitedOf l) (shortOf l) ≡ l
+pub short-back : (l : Limit) → Held l → limitIn (limitedFlag l) (shortOf l) ≡ l
 short-back Free h = refl
 short-back (Most n) h = ap Most (omega (arith, h))
 

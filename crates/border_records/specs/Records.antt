@@ -20,9 +20,9 @@ flagOf b = cond b 1 0
 abbrev pub limitIn : ℕ → ℕ → Limit
 limitIn limited limit = cond (eqb limited 0) Free (Most limit)
 
-abbrev pub limitedOf : Limit → ℕ
-limitedOf Free = 0
-limitedOf (Most n) = 1
+abbrev pub limitedFlag : Limit → ℕ
+limitedFlag Free = 0
+limitedFlag (Most n) = 1
 
 abbrev pub mostOf : Limit → ℕ
 mostOf Free = 0

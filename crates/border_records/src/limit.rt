@@ -1,7 +1,7 @@
 // A limit is a flag and a number. Without the flag there is none, whatever the number is. In a session the number has 16 bits.
 ghost use Prim.Native.Nat.{min};
 ghost use mathlib.Core.Path.{_≡_};
-ghost use Rattle.border_records.specs.Records.{limitIn, limitedOf, mostOf, largest, shortOf};
+ghost use Rattle.border_records.specs.Records.{limitIn, limitedFlag, mostOf, largest, shortOf};
 use session::Limit;
 
 pub fn limit_in(limited: u8, limit: usize) -> Limit
@@ -15,7 +15,7 @@ pub fn limit_in(limited: u8, limit: usize) -> Limit
 
 // Whether there is a limit.
 pub fn limited(limit: Limit) -> u8
-    ensures limited { λ r. ⌜ r ≡ limitedOf limit ⌝ }
+    ensures limited { λ r. ⌜ r ≡ limitedFlag limit ⌝ }
 {
     match limit {
         Limit::Free => 0,

@@ -4,7 +4,7 @@ use mathlib.Core.Bool.{Bool, false, _||_}
 use Rattle.msd.specs.Msd.{absent}
 use Rattle.session.specs.declared.Session.{Session}
 use Rattle.session.specs.declared.Sessions.{Sessions}
-use Rattle.border_records.specs.Records.{isYes, flagOf, limitIn, limitedOf, shortOf, depthFrom, thereOf, valueOf}
+use Rattle.border_records.specs.Records.{isYes, flagOf, limitIn, limitedFlag, shortOf, depthFrom, thereOf, valueOf}
 use Rattle.border_session.specs.declared.SessionRecord.{SessionRecord}
 
 -- The two sessions in one record. MPLS's has no A, R, v and m.
@@ -46,10 +46,10 @@ sessionsOut s =
       v = valueOf (s .srv6 .v);
       hasm = thereOf (s .srv6 .m);
       m = valueOf (s .srv6 .m);
-      limited = limitedOf (s .srv6 .limit);
+      limited = limitedFlag (s .srv6 .limit);
       mpls = flagOf (s .mpls .agreed);
       mplsn = flagOf (s .mpls .n);
-      mplslimited = limitedOf (s .mpls .limit);
+      mplslimited = limitedFlag (s .mpls .limit);
       limit = shortOf (s .srv6 .limit);
       mplslimit = shortOf (s .mpls .limit);
     }

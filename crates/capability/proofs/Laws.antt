@@ -13,8 +13,8 @@ use Rattle.session.specs.declared.Limit.the-variants.{Free}
 use Rattle.session.specs.declared.Opened.{Opened}
 use Rattle.session.specs.Sessions.{openCarries}
 use Rattle.msd.specs.declared.Gathered.{Gathered}
-use Rattle.msd.specs.Msd.{maxSegmentsLeft, maxHEncaps, wrongPairs, smallestOf, numberOf, depthIn, Stands, gatheredOf}
-use Rattle.msd_limit.specs.Limits.{limitBy, limitIn, present, onlyEnds}
+use Rattle.msd.specs.Msd.{maxSegmentsLeft, maxHEncaps, wrongPairs, smallestOf, depthNumber, depthIn, Stands, gatheredOf}
+use Rattle.msd_limit.specs.Limits.{limitBy, limitOfPairs, present, onlyEnds}
 use Rattle.msd_limit.proofs.Theorems.{free-exactly, only-ends-limit-nothing}
 use Rattle.octets.specs.Octets.{octetOf}
 use Rattle.capability.specs.Srv6.{flagsAt, sizedOf, nOf, xOf, aOf, rOf, pairsOf, wrongOf, hEncapsOf, segmentsLeftOf, limitOf, announcedOf}
@@ -33,7 +33,7 @@ module _ (w : List ℕ) where
   unfolding limitOf hEncapsOf segmentsLeftOf
   no-limit-exactly = go (xOf w)
     where
-      go : (x : Bool) → (limitIn (cond x [] (pairsOf w)) ≡ Free)
+      go : (x : Bool) → (limitOfPairs (cond x [] (pairsOf w)) ≡ Free)
           ↔ ((x ≡ true) ⊎ ((present maxHEncaps (pairsOf w) ≡ false) × (present maxSegmentsLeft (pairsOf w) ≡ false)))
       go true = (λ e. inl refl, λ h. refl)
       go false = (λ e. inr (free-exactly (pairsOf w) .0 e), λ h. ⊎-elim (λ e. absurd (false≢true e)) (λ k. free-exactly (pairsOf w) .1 k) h)
@@ -43,7 +43,7 @@ module _ (w : List ℕ) where
   unfolding limitOf hEncapsOf segmentsLeftOf
   ends-limit-nothing e = go (xOf w)
     where
-      go : (x : Bool) → limitIn (cond x [] (pairsOf w)) ≡ Free
+      go : (x : Bool) → limitOfPairs (cond x [] (pairsOf w)) ≡ Free
       go true = refl
       go false = only-ends-limit-nothing (pairsOf w) e
 
@@ -66,8 +66,8 @@ module _ (p : Setup) (w : List ℕ) where
       → o ≡ openCarries true (eqb (flags / 2 % 2) 1) l a r (g .encaps) (g .left) → o ≡ announcedOf p w
   unfolding announcedOf wrongOf limitOf hEncapsOf segmentsLeftOf
   announced-pairs flags a r g l e s x none f h k t m o =
-      let v : g .encaps ≡ numberOf (smallestOf maxHEncaps (pairsOf w)) = rw (k, none) in
-      let n : g .left ≡ numberOf (smallestOf maxSegmentsLeft (pairsOf w)) = rw (k, none) in
+      let v : g .encaps ≡ depthNumber (smallestOf maxHEncaps (pairsOf w)) = rw (k, none) in
+      let n : g .left ≡ depthNumber (smallestOf maxSegmentsLeft (pairsOf w)) = rw (k, none) in
       let limit = rw (t .0, t .1) at m in
       o ∙ rw (s, x-told flags false e x, none, n-told flags e, f, h, limit, v, n)
 

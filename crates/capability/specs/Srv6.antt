@@ -13,7 +13,7 @@ use Rattle.positions.specs.Positions.{flagAt}
 use Rattle.session.specs.declared.Limit.{Limit}
 use Rattle.session.specs.declared.Opened.{Opened}
 use Rattle.session.specs.Sessions.{openRefused, openCarries}
-use Rattle.msd.specs.Msd.{maxSegmentsLeft, maxHEncaps, Pair, pairsIn, wrongPairs, smallestOf, numberOf}
+use Rattle.msd.specs.Msd.{maxSegmentsLeft, maxHEncaps, Pair, pairsIn, wrongPairs, smallestOf, depthNumber}
 use Rattle.msd_limit.specs.Limits.{limitBy}
 
 -- The type of the sub-TLV.
@@ -74,7 +74,7 @@ limitOf w = limitBy (hEncapsOf w) (segmentsLeftOf w)
 
 -- What the value of sub-TLV 27 carries where none of its rules is broken.
 abbrev pub carriesBy : Setup → List ℕ → Opened
-carriesBy p w = openCarries true (nOf w) (limitOf w) (aOf p w) (rOf p w) (numberOf (hEncapsOf w)) (numberOf (segmentsLeftOf w))
+carriesBy p w = openCarries true (nOf w) (limitOf w) (aOf p w) (rOf p w) (depthNumber (hEncapsOf w)) (depthNumber (segmentsLeftOf w))
 
 -- What a side that lists type 3 announces by the value of sub-TLV 27, in the order 1, 3.
 unfoldable pub announcedOf : Setup → List ℕ → Opened

@@ -14,21 +14,21 @@ use Rattle.words.specs.Words.{space, newline, untilMark, behindMark, wordOf, wo
 use Rattle.words.proofs.Laws.{laterWords, allWords, all-word}
 use Rattle.command_forms.specs.declared.verb.Verb.{Verb}
 use Rattle.command_forms.specs.declared.verb.Verb.the-variants as v
-use Rattle.command_forms.specs.Forms.{Row, rows, verbNamed, verbOf, Kind, fits, kindsOf, fitFrom, formed}
+use Rattle.command_forms.specs.Forms.{CommandRow, rows, verbNamed, verbOf, Kind, fits, kindsOf, fitFrom, formed}
 use Rattle.command_forms.specs.Forms.Kind.{number, bit, octet, twoOctets, size, octets, side, sid, nai, structure}
 use Rattle.command_forms.specs.Rows.{placeNamed, verbIn, verbAt, letter, kinds, fitsAny, fitsLetter}
 
 -- ## The text of the table
 
 -- the letters of a row's form
-abbrev letters : Row → List ℕ
+abbrev letters : CommandRow → List ℕ
 letters r = map letter (kindsOf (r .verb))
 
 abbrev behind : List ℕ → List ℕ
 behind [] = []
 behind (x ∷ xs) = space ∷ x ∷ xs
 
-abbrev text : List Row → List ℕ
+abbrev text : List CommandRow → List ℕ
 text [] = []
 text (r ∷ []) = r .name ++ behind (letters r)
 text (r ∷ s ∷ rs) = (r .name ++ behind (letters r)) ++ (newline ∷ text (s ∷ rs))
@@ -40,7 +40,7 @@ pub count : wordsIn newline table ≡ length rows
 unfolding wordsIn
 count = refl
 
-first-words : map (λ (t : List ℕ). wordOf space t 0) (allWords newline table) ≡ map (λ (r : Row). r .name) rows
+first-words : map (λ (t : List ℕ). wordOf space t 0) (allWords newline table) ≡ map (λ (r : CommandRow). r .name) rows
 unfolding wordOf untilMark behindMark laterWords
 first-words = refl
 
@@ -56,10 +56,10 @@ getD-map f (x ∷ xs) zero d = refl
 getD-map f (x ∷ xs) (suc i) d = getD-map f xs i d
 
 -- no row
-abbrev none : Row
+abbrev none : CommandRow
 none = record { name = []; verb = v.Bad }
 
-abbrev rowAt : ℕ → Row
+abbrev rowAt : ℕ → CommandRow
 rowAt i = getD rows i none
 
 word-of : (k i : ℕ) → wordOf space (wordOf newline table i) k ≡ getD (map (λ (t : List ℕ). wordOf space t k) (allWords newline table)) i (wordOf space [] k)
@@ -67,12 +67,12 @@ word-of k i = sym (getD-map (λ (t : List ℕ). wordOf space t k) (allWords newl
 
 name-at : (i : ℕ) → wordOf space (wordOf newline table i) 0 ≡ rowAt i .name
 unfolding wordOf untilMark
-name-at i = word-of 0 i ∙ ap (λ (l : List (List ℕ)). getD l i []) first-words ∙ getD-map (λ (r : Row). r .name) rows i none
+name-at i = word-of 0 i ∙ ap (λ (l : List (List ℕ)). getD l i []) first-words ∙ getD-map (λ (r : CommandRow). r .name) rows i none
 
 pub name-in : (i : ℕ) {t x y : List ℕ} → t ≡ table → x ≡ wordOf newline t i → y ≡ wordOf space x 0 → y ≡ rowAt i .name
 name-in i p q e = e ∙ ap (λ (x : List ℕ). wordOf space x 0) (q ∙ ap (λ (t : List ℕ). wordOf newline t i) p) ∙ name-at i
 
-verb-in : (rs : List Row) (i : ℕ) → getD rs i none .verb ≡ verbIn rs i
+verb-in : (rs : List CommandRow) (i : ℕ) → getD rs i none .verb ≡ verbIn rs i
 verb-in [] i = refl
 verb-in (r ∷ rs) zero = refl
 verb-in (r ∷ rs) (suc i) = verb-in rs i
@@ -86,17 +86,17 @@ form-at i =
 pub form-in : (i : ℕ) {t x y : List ℕ} → t ≡ table → x ≡ wordOf newline t i → y ≡ wordOf space x 1 → y ≡ map letter (kindsOf (verbAt i))
 form-in i p q e = e ∙ ap (λ (x : List ℕ). wordOf space x 1) (q ∙ ap (λ (t : List ℕ). wordOf newline t i) p) ∙ form-at i
 
-verb-past : (rs : List Row) (i : ℕ) → ((j : ℕ) → j < length rs → i ≡ j → ⊥) → v.Bad ≡ verbIn rs i
+verb-past : (rs : List CommandRow) (i : ℕ) → ((j : ℕ) → j < length rs → i ≡ j → ⊥) → v.Bad ≡ verbIn rs i
 verb-past [] i h = refl
 verb-past (r ∷ rs) zero h = absurd (h 0 (omega arith) refl)
 verb-past (r ∷ rs) (suc i) h = verb-past rs i (λ j n e. h (suc j) (omega arith) (ap suc e))
 
 -- i is none of the places k, k + 1, .. of these rows, and A holds: what is known in the last arm of the code's `match`
-abbrev Elsewhere : ℕ → ℕ → List Row → Type 0 → Type 0
+abbrev Elsewhere : ℕ → ℕ → List CommandRow → Type 0 → Type 0
 Elsewhere i k [] A = A
 Elsewhere i k (r ∷ rs) A = Elsewhere i (suc k) rs (A × (i ≡ k → ⊥))
 
-elsewhere : (i k : ℕ) (rs : List Row) (A : Type 0) → Elsewhere i k rs A → ((j : ℕ) → j < length rs → i ≡ k + j → ⊥) × A
+elsewhere : (i k : ℕ) (rs : List CommandRow) (A : Type 0) → Elsewhere i k rs A → ((j : ℕ) → j < length rs → i ≡ k + j → ⊥) × A
 elsewhere i k [] A h = (λ j n e. omega arith, h)
 elsewhere i k (r ∷ rs) A h =
     let f = elsewhere i (suc k) rs (A × (i ≡ k → ⊥)) h in
@@ -134,7 +134,7 @@ unfolding placeNamed
 looking-end w i h l = let s : 0 + i ≡ placeNamed rows w = rw (drop-of-length-le rows h) at (l .same) in omega arith
 
 -- The command at the place of a name is the command of that name.
-named : (rs : List Row) (w : List ℕ) → verbIn rs (placeNamed rs w) ≡ verbNamed rs w
+named : (rs : List CommandRow) (w : List ℕ) → verbIn rs (placeNamed rs w) ≡ verbNamed rs w
 unfolding placeNamed verbNamed
 named [] w = refl
 named (r ∷ rs) w = go (sameOf w (r .name)) (named rs w) where

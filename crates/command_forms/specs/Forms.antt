@@ -13,11 +13,11 @@ use Rattle.command_forms.specs.declared.verb.Verb.the-variants as v
 -- ## Names
 
 -- a name and the command that it stands for
-pub record Row : Type 0 where
+pub record CommandRow : Type 0 where
   pub name : List ℕ
   pub verb : Verb
 
-abbrev pub rows : List Row
+abbrev pub rows : List CommandRow
 rows =
     record { name = ascii "pcc"; verb = v.Pcc } ∷
     record { name = ascii "pce"; verb = v.Pce } ∷
@@ -43,7 +43,7 @@ rows =
     []
 
 -- The command of the first row that has this name; `Bad` where none has it.
-unfoldable pub verbNamed : List Row → List ℕ → Verb
+unfoldable pub verbNamed : List CommandRow → List ℕ → Verb
 verbNamed [] w = v.Bad
 verbNamed (r ∷ rs) w = cond (sameOf w (r .name)) (r .verb) (verbNamed rs w)
 

@@ -32,10 +32,10 @@ written w.Add = v.Add
 written w.Finish = v.Finish
 written w.Lent = v.Lent
 
-abbrev pub changed : Changing → Verb
-changed c.Report = v.Report
-changed c.Remove = v.Remove
-changed c.Compact = v.Compact
+abbrev pub changes : Changing → Verb
+changes c.Report = v.Report
+changes c.Remove = v.Remove
+changes c.Compact = v.Compact
 
 abbrev pub looked : Looking → Verb
 looked l.Body = v.Body
@@ -45,11 +45,11 @@ looked l.Mark = v.Mark
 looked l.Board = v.Board
 looked l.Chain = v.Chain
 
-abbrev pub verbIn : Row → Verb
-verbIn r.Skip = v.Skip
-verbIn r.Bad = v.Bad
-verbIn (r.Asks a) = asked a
-verbIn (r.Sets s) = set s
-verbIn (r.Writes w) = written w
-verbIn (r.Changes c) = changed c
-verbIn (r.Looks l) = looked l
+abbrev pub rowVerb : Row → Verb
+rowVerb r.Skip = v.Skip
+rowVerb r.Bad = v.Bad
+rowVerb (r.Asks a) = asked a
+rowVerb (r.Sets s) = set s
+rowVerb (r.Writes w) = written w
+rowVerb (r.Changes c) = changes c
+rowVerb (r.Looks l) = looked l

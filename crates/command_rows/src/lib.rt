@@ -1,7 +1,7 @@
 // The rows of the table of commands by what they touch (console.md): routes that are asked about, what the session is
 // made from, the writer, the board that changes, the board that is looked at.
 ghost use mathlib.Core.Path.{_≡_};
-ghost use Rattle.command_rows.specs.Rows.{verbIn};
+ghost use Rattle.command_rows.specs.Rows.{rowVerb};
 use command_forms::Verb;
 
 // about a route under the session
@@ -57,7 +57,7 @@ pub enum Row {
 
 // The row of a command.
 pub fn row_of(verb: Verb) -> Row
-    ensures row { λ r. ⌜ verbIn r ≡ verb ⌝ }
+    ensures row { λ r. ⌜ rowVerb r ≡ verb ⌝ }
 {
     match verb {
         Verb::Skip => Row::Skip,

@@ -22,7 +22,7 @@ use Rattle.writer.specs.declared.state.Written.{Written}
 use Rattle.route.specs.declared.picking.Picked.{Picked}
 use Rattle.board_rules.specs.declared.answer.Handed.{Handed}
 use Rattle.board_rules.specs.declared.answer.Handed.the-variants.{Refused, Path, Removed, Level}
-use Rattle.board_look_by_value.specs.ByValue.{bodyNumberOn, bodyOn, bodyFormOn, nextOn, movedOn, freshMarkOn}
+use Rattle.board_look_by_value.specs.ByValue.{bodyNumberByValue, bodyByValue, bodyFormByValue, nextByValue, movedByValue, freshMarkOn}
 use Rattle.printing.specs.Text.{spell, decimalOf, glyphOf, hexOf, octetsText, furtherText, listText}
 use Rattle.words.specs.Words.{newline, space, comma, ascii}
 use Rattle.console_lines.specs.Lines.{lineOf, acceptance, refusalLine, openRefusalLine, badLine, doneLine, oneLine, twoLine, octetsLine, formLine, listLine}
@@ -271,15 +271,15 @@ by-verb-one v.Lent h k c line n = octets-one (k .lent)
 by-verb-one v.Report h k c line n = count-one _
 by-verb-one v.Remove h k c line n = plain-one _
 by-verb-one v.Compact h k c line n = plain-one _
-by-verb-one v.Body h k c line n = answer-one (bodyNumberOn (k .board) (k .store) (c .one)) _ (form-one (bodyFormOn (k .board) (k .store) (c .one)) (bodyOn (k .board) (k .store) (c .one)))
-by-verb-one v.Next h k c line n = handed-one (k .store) (nextOn (k .board) (k .store) (c .one) (c .two))
+by-verb-one v.Body h k c line n = answer-one (bodyNumberByValue (k .board) (k .store) (c .one)) _ (form-one (bodyFormByValue (k .board) (k .store) (c .one)) (bodyByValue (k .board) (k .store) (c .one)))
+by-verb-one v.Next h k c line n = handed-one (k .store) (nextByValue (k .board) (k .store) (c .one) (c .two))
 by-verb-one v.Mark h k c line n = two-one (freshMarkOn (k .board) .s) (freshMarkOn (k .board) .w)
 by-verb-one v.Board h k c line n = two-one (k .board .version) (k .board .floor)
 by-verb-one v.Chain h k c line n = list-one (chainOf (k .board .order))
 by-verb-one v.Positions h k c line n = accepted-one [] all-none
 by-verb-one v.Addresses h k c line n = accepted-one [] all-none
 by-verb-one v.Moved h k c line n =
-    let w = movedOn (k .board) (k .store) (c .one) (c .two) (c .three) in answer-one w (oneLine (w .count)) (number-one (w .count))
+    let w = movedByValue (k .board) (k .store) (c .one) (c .two) (c .three) in answer-one w (oneLine (w .count)) (number-one (w .count))
 
 pub turn-one : (k : Console) (line : List ℕ) (n : ℕ) → (commandOf line .verb ≡ v.Skip → ⊥) → OneLine (turnOf k line n .answer)
 unfolding turnOf

@@ -8,7 +8,7 @@ use Rattle.words.specs.Words.{space, wordOf}
 use Rattle.decimal.specs.Decimal.{isNone, structureOf}
 use Rattle.command.specs.declared.Command.{Command}
 use Rattle.command.specs.Commands.{numberAt}
-use Rattle.console_add.specs.Added.{sidIn, naiIn, segmentIn}
+use Rattle.console_add.specs.Added.{sidIn, naiIn, segmentSaid}
 
 pub segment-made : (c : Command) (line : List ℕ) {sid nai structure : List ℕ} {bare plain : Bool} {m k : ℕ}
     → sid ≡ sidIn line
@@ -30,6 +30,6 @@ pub segment-made : (c : Command) (line : List ℕ) {sid nai structure : List ℕ
       structure = structure;
       labelled = eqb m 1;
       complete = eqb k 1;
-    } ≡ segmentIn c line
-unfolding segmentIn
+    } ≡ segmentSaid c line
+unfolding segmentSaid
 segment-made c line a b d e f g h = cc

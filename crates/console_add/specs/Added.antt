@@ -21,8 +21,8 @@ unfoldable pub naiIn : List ℕ → List ℕ
 naiIn line = over (octetsIn line 6) (replicate 40 0)
 
 -- "L, V 0 or 1, NT 0 to 255, BEHAVIOUR 0 to 65,535, SID .., NAI .., STRUCTURE"; "M, C 0 or 1"
-unfoldable pub segmentIn : Command → List ℕ → Segment
-segmentIn c line = record {
+unfoldable pub segmentSaid : Command → List ℕ → Segment
+segmentSaid c line = record {
   loose = eqb (c .one) 1;
   verify = eqb (c .two) 1;
   nt = c .three;

@@ -4,7 +4,7 @@ ghost use mathlib.Core.Path.{_≡_};
 ghost use lib.ListN.{length};
 ghost use Rattle.console_state.specs.Spelled.{octetsIn};
 ghost use Rattle.console_state.specs.Rooms.{Spells};
-ghost use Rattle.console_add.specs.Added.{sidIn, naiIn, segmentIn, AddForm};
+ghost use Rattle.console_add.specs.Added.{sidIn, naiIn, segmentSaid, AddForm};
 use command::Command;
 use command::number_at;
 use command::octets_at;
@@ -32,7 +32,7 @@ fn nai_in(line: &[u8], room: &mut [u8]) -> [u8; 40]
 
 pub fn segment_in(line: &[u8], c: Command, room: &mut [u8]) -> Segment
     requires { ⌜ Spells (now line) (now room) × AddForm c (now line) ⌝ }
-    ensures segment { λ r. ⌜ r ≡ segmentIn c (now (line .entry)) ⌝ }
+    ensures segment { λ r. ⌜ r ≡ segmentSaid c (now (line .entry)) ⌝ }
     ensures room { λ _. ⌜ length (now (room .exit)) ≡ length (now (room .entry)) ⌝ }
 {
     let labelled = number_at(line, 8) == 1;

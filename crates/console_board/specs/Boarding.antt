@@ -7,9 +7,9 @@ use Rattle.board_record.specs.declared.record.Board.{Board}
 use Rattle.board_record.specs.Sizes.{room}
 use Rattle.board_rules.specs.declared.answer.Handed.{Handed}
 use Rattle.board_rules.specs.declared.answer.Handed.the-variants.{Refused, Path, Removed, Level}
-use Rattle.board_by_value.specs.ByValue.{removeOn, compactOn}
-use Rattle.board_report_by_value.specs.ByValue.{reportOn, reportStoreOn}
-use Rattle.board_look_by_value.specs.ByValue.{bodyNumberOn, bodyOn, bodyFormOn, nextOn, movedOn, freshMarkOn}
+use Rattle.board_by_value.specs.ByValue.{removeByValue, compactByValue}
+use Rattle.board_report_by_value.specs.ByValue.{reportByValue, reportStoreByValue}
+use Rattle.board_look_by_value.specs.ByValue.{bodyNumberByValue, bodyByValue, bodyFormByValue, nextByValue, movedByValue, freshMarkOn}
 use Rattle.command.specs.declared.Command.{Command}
 use Rattle.console_chain.specs.Chain.{chainOf}
 use Rattle.console_lines.specs.Lines.{refusalLine, oneLine, formLine, listLine, pathLine, removedLine, levelLine, twoLine}
@@ -25,30 +25,30 @@ pub record Boarding : Type 0 where
 -- `report KEY PST OCTETS`: "reports a path to the board"; `0 0 COUNT STRAY`. The head end's addresses are those set by `addresses`.
 abbrev pub reportTurn : Board → List ℕ → Sessions → List ℕ → Command → List ℕ → Boarding
 reportTurn b store both addresses c line = record {
-  board = reportOn b store (c .one) (octetsIn line 3) both (c .two) addresses .board;
-  store = reportStoreOn b store (c .one) (octetsIn line 3) both (c .two) addresses;
-  answer = countLine (reportOn b store (c .one) (octetsIn line 3) both (c .two) addresses .verdict);
+  board = reportByValue b store (c .one) (octetsIn line 3) both (c .two) addresses .board;
+  store = reportStoreByValue b store (c .one) (octetsIn line 3) both (c .two) addresses;
+  answer = countLine (reportByValue b store (c .one) (octetsIn line 3) both (c .two) addresses .verdict);
 }
 
 -- `remove KEY`; `0 0`
 abbrev pub removeTurn : Board → List ℕ → Command → Boarding
 removeTurn b store c = record {
-  board = removeOn b store (c .one) .board;
+  board = removeByValue b store (c .one) .board;
   store = store;
-  answer = plainLine (removeOn b store (c .one) .verdict);
+  answer = plainLine (removeByValue b store (c .one) .verdict);
 }
 
 -- `compact C`; `0 0`
 abbrev pub compactTurn : Board → List ℕ → Command → Boarding
 compactTurn b store c = record {
-  board = compactOn b store (c .one) .board;
+  board = compactByValue b store (c .one) .board;
   store = store;
-  answer = plainLine (compactOn b store (c .one) .verdict);
+  answer = plainLine (compactByValue b store (c .one) .verdict);
 }
 
 -- `body KEY`; `0 0 FORM OCTETS`, "the path's form before its octets"
 unfoldable pub bodyLine : Board → List ℕ → Command → List ℕ
-bodyLine b store c = answerLine (bodyNumberOn b store (c .one)) (formLine (bodyFormOn b store (c .one)) (bodyOn b store (c .one)))
+bodyLine b store c = answerLine (bodyNumberByValue b store (c .one)) (formLine (bodyFormByValue b store (c .one)) (bodyByValue b store (c .one)))
 
 -- `0 0 path KEY VERSION FORM OCTETS`, `0 0 removed KEY VERSION` or `0 0 level VERSION`
 abbrev pub handedLine : List ℕ → Handed → List ℕ
@@ -59,12 +59,12 @@ handedLine store (Level version) = levelLine version
 
 -- `next S W`: "what a follower with mark (S, W) is handed"
 unfoldable pub nextLine : Board → List ℕ → Command → List ℕ
-nextLine b store c = handedLine store (nextOn b store (c .one) (c .two))
+nextLine b store c = handedLine store (nextByValue b store (c .one) (c .two))
 
 -- `moved A B V`; `0 0 1` or `0 0 0`
 unfoldable pub movedLine : Board → List ℕ → Command → List ℕ
 movedLine b store c =
-    answerLine (movedOn b store (c .one) (c .two) (c .three)) (oneLine (movedOn b store (c .one) (c .two) (c .three) .count))
+    answerLine (movedByValue b store (c .one) (c .two) (c .three)) (oneLine (movedByValue b store (c .one) (c .two) (c .three) .count))
 
 -- `mark`: "a fresh mark"; `0 0 S W`
 abbrev pub markLine : Board → List ℕ

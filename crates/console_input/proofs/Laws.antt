@@ -16,7 +16,7 @@ use Rattle.printing.proofs.Laws.{behind-placed}
 use Rattle.console_state.specs.Standing.{Console}
 use Rattle.console_state.proofs.Laws.{take-fit}
 use Rattle.console_turn.specs.Turns.{turnOf}
-use Rattle.console_input.specs.Hearing.{Ready, Dialogue, nextNumber, turnNow, lineEnded, mostKept, longer, hearAll, sayAll}
+use Rattle.console_input.specs.Hearing.{ReadyToHear, Dialogue, nextNumber, turnNow, lineEnded, mostKept, longer, hearAll, sayAll}
 
 -- ## What is kept
 
@@ -185,14 +185,14 @@ module _ (g : Dialogue) (small : length (g .line) ≤ mostKept) (read : List ℕ
 -- ## What is lent
 
 -- Whether it is large enough goes by lengths alone.
-pub still-ready : {k k′ : ℕ} {line line′ store store′ memory memory′ room room′ out out′ : List ℕ} → Ready k line store memory room out
+pub still-ready : {k k′ : ℕ} {line line′ store store′ memory memory′ room room′ out out′ : List ℕ} → ReadyToHear k line store memory room out
     → length line′ ≡ length line
     → length store′ ≡ length store
     → length memory′ ≡ length memory
     → length room′ ≡ length room
     → length out′ ≡ length out
     → k′ ≤ length line
-    → Ready k′ line′ store′ memory′ room′ out′
+    → ReadyToHear k′ line′ store′ memory′ room′ out′
 still-ready p a b c d e h = record {
   within = omega arith;
   whole = a ∙ p .whole;

@@ -61,7 +61,7 @@ abbrev pub heardOf : Hearing → List ℕ → List ℕ → List ℕ → Dialogue
 heardOf h line store memory = record { console = consoleOf (h .state) store memory; lines = h .lines; line = take (h .kept) line }
 
 -- What is lent is large enough, and the octets that are kept lie within the line's.
-pub record Ready (kept : ℕ) (line store memory room out : List ℕ) : Type 0 where
+pub record ReadyToHear (kept : ℕ) (line store memory room out : List ℕ) : Type 0 where
   pub within : kept ≤ length line
   pub whole : length line ≡ mostKept
   pub rooms : Rooms line store memory room out

@@ -1,7 +1,7 @@
 // What has been heard, and the answer to a line.
 ghost use mathlib.Core.Path.{_≡_};
 ghost use Rattle.printing.specs.Text.{Behind};
-ghost use Rattle.console_input.specs.Hearing.{Ready, heardOf, lineEnded, turnNow};
+ghost use Rattle.console_input.specs.Hearing.{ReadyToHear, heardOf, lineEnded, turnNow};
 use console_part::numbered;
 use console_state::State;
 use console_turn::answered;
@@ -28,7 +28,7 @@ pub fn answer(
     room: &mut [u8],
     out: &mut [u8],
 ) -> Said
-    requires { ⌜ Ready (h .kept) (now line) (now store) (now memory) (now room) (now out) ⌝ }
+    requires { ⌜ ReadyToHear (h .kept) (now line) (now store) (now memory) (now room) (now out) ⌝ }
     ensures heard { λ r. ⌜ heardOf (r .hearing) (now (line .entry)) (now (store .exit)) (now (memory .exit)) ≡ lineEnded (heardOf h (now (line .entry)) (now (store .entry)) (now (memory .entry))) ⌝ }
     ensures told { λ r. ⌜ Behind (now (out .entry)) (now (out .exit)) 0 (r .end) (turnNow (heardOf h (now (line .entry)) (now (store .entry)) (now (memory .entry))) .answer) ⌝ }
     ensures begun { λ r. ⌜ r .hearing .kept ≡ 0 ⌝ }

@@ -3,7 +3,7 @@ ghost use Prim.Native.Nat.{_≤_, _<_};
 ghost use mathlib.Core.Path.{_≡_};
 ghost use mathlib.Core.List.{_++_};
 ghost use lib.ListN.{length, take, drop};
-ghost use Rattle.console_input.specs.Hearing.{Ready, heardOf, hearAll, sayAll};
+ghost use Rattle.console_input.specs.Hearing.{ReadyToHear, heardOf, hearAll, sayAll};
 use crate::heard::Hearing;
 use crate::heard::answer;
 use crate::line::keep;
@@ -27,7 +27,7 @@ pub fn take_in(
     room: &mut [u8],
     out: &mut [u8],
 ) -> Onward
-    requires { ⌜ (at < length (now read)) × Ready (h .kept) (now line) (now store) (now memory) (now room) (now out) ⌝ }
+    requires { ⌜ (at < length (now read)) × ReadyToHear (h .kept) (now line) (now store) (now memory) (now room) (now out) ⌝ }
     ensures heard { λ r. ⌜ hearAll (heardOf (r .hearing) (now (line .exit)) (now (store .exit)) (now (memory .exit))) (drop (r .next) (now (read .entry))) ≡ hearAll (heardOf h (now (line .entry)) (now (store .entry)) (now (memory .entry))) (drop at (now (read .entry))) ⌝ }
     ensures said { λ r. ⌜ take (r .end) (now (out .exit)) ++ sayAll (heardOf (r .hearing) (now (line .exit)) (now (store .exit)) (now (memory .exit))) (drop (r .next) (now (read .entry))) ≡ sayAll (heardOf h (now (line .entry)) (now (store .entry)) (now (memory .entry))) (drop at (now (read .entry))) ⌝ }
     ensures within { λ r. ⌜ (at < r .next) × (r .next ≤ length (now (read .entry))) × (r .hearing .kept ≤ length (now (line .entry))) × (r .end ≤ length (now (out .entry))) ⌝ }

@@ -3,7 +3,7 @@ ghost use Prim.Native.Nat.{_+_, _*_, _≤_};
 ghost use mathlib.Core.Path.{_≡_};
 ghost use lib.ListN.{length};
 ghost use Rattle.console_state.specs.Standing.{storeAtStart};
-ghost use Rattle.console_input.specs.Hearing.{Ready, heardOf, hearAll};
+ghost use Rattle.console_input.specs.Hearing.{ReadyToHear, heardOf, hearAll};
 ghost use Rattle.console_loop.specs.Reached.{Reached};
 use board_record::STORE;
 use command::LONGEST;
@@ -34,7 +34,7 @@ fn take_all(
     room: &mut [u8],
     out: &mut [u8],
 ) -> Hearing
-    requires { ⌜ Ready (h .kept) (now line) (now store) (now memory) (now room) (now out) ⌝ }
+    requires { ⌜ ReadyToHear (h .kept) (now line) (now store) (now memory) (now room) (now out) ⌝ }
     ensures heard { λ r. ⌜ heardOf r (now (line .exit)) (now (store .exit)) (now (memory .exit)) ≡ hearAll (heardOf h (now (line .entry)) (now (store .entry)) (now (memory .entry))) (now (read .entry)) ⌝ }
     ensures within { λ r. ⌜ r .kept ≤ length (now (line .entry)) ⌝ }
 {
@@ -66,7 +66,7 @@ fn listen(
     room: &mut [u8],
     out: &mut [u8],
 ) -> Listened
-    requires { ⌜ Ready (h .kept) (now line) (now store) (now memory) (now room) (now out) ⌝ }
+    requires { ⌜ ReadyToHear (h .kept) (now line) (now store) (now memory) (now room) (now out) ⌝ }
     ensures reached { λ r. ⌜ (Reached (heardOf h (now (line .entry)) (now (store .entry)) (now (memory .entry))) → Reached (heardOf (r .hearing) (now (line .exit)) (now (store .exit)) (now (memory .exit)))) ⌝ }
     ensures within { λ r. ⌜ r .hearing .kept ≤ length (now (line .entry)) ⌝ }
 {
@@ -99,7 +99,7 @@ fn go_on(
     room: &mut [u8],
     out: &mut [u8],
 ) -> Hearing
-    requires { ⌜ (now store ≡ storeAtStart) × Ready 0 (now line) (now store) (now memory) (now room) (now out) ⌝ }
+    requires { ⌜ (now store ≡ storeAtStart) × ReadyToHear 0 (now line) (now store) (now memory) (now room) (now out) ⌝ }
     ensures reached { λ r. ⌜ Reached (heardOf r (now (line .exit)) (now (store .exit)) (now (memory .exit))) ⌝ }
 {
     let state = console_state::start();

@@ -17,7 +17,7 @@ use Rattle.command_rows.specs.declared.Changing.{Changing}
 use Rattle.command_rows.specs.declared.Changing.the-variants as g
 use Rattle.command_rows.specs.declared.Looking.{Looking}
 use Rattle.command_rows.specs.declared.Looking.the-variants as l
-use Rattle.command_rows.specs.Rows.{verbIn, asked, written, changed, looked}
+use Rattle.command_rows.specs.Rows.{rowVerb, asked, written, changes, looked}
 use Rattle.console_state.specs.declared.state.State.{State}
 use Rattle.console_state.specs.Standing.{Console, listIn, consoleOf, withBoard}
 use Rattle.console_board.specs.Boarding.{Boarding}
@@ -28,8 +28,8 @@ use Rattle.console_turn.specs.Turns.{Turned, stays, composes, boards, ag
 use Rattle.console_turn.proofs.Laws.{does, parts}
 
 -- The verb of a row that is known.
-pub verb-in : {row : Row} {verb : Verb} (x : Row) → verbIn row ≡ verb → row ≡ x → verb ≡ verbIn x
-verb-in x p q = sym p ∙ ap verbIn q
+pub verb-in : {row : Row} {verb : Verb} (x : Row) → rowVerb row ≡ verb → row ≡ x → verb ≡ rowVerb x
+verb-in x p q = sym p ∙ ap rowVerb q
 
 -- ## The table, group by group
 
@@ -46,7 +46,7 @@ writes-row w.Finish k c line n = refl
 writes-row w.Lent k c line n = refl
 
 changes-row : (x : Changing) (k : Console) (c : Command) (line : List ℕ) (n : ℕ)
-    → turnBy (changed x) k c line n ≡ boards k (changedTurn x (k .board) (k .store) (agreedIn k) (k .addresses) c line)
+    → turnBy (changes x) k c line n ≡ boards k (changedTurn x (k .board) (k .store) (agreedIn k) (k .addresses) c line)
 changes-row g.Report k c line n = refl
 changes-row g.Remove k c line n = refl
 changes-row g.Compact k c line n = refl
@@ -76,7 +76,7 @@ asks-does x s c store memory line n p q h g b =
 
 pub changes-does : (x : Changing) (s : State) (c : Command) (store memory line : List ℕ) (n : ℕ) {both : Sessions} {r : State} {b : Board} {store′ before after : List ℕ} {e end : ℕ}
     → c ≡ commandOf line
-    → c .verb ≡ changed x
+    → c .verb ≡ changes x
     → (r ≡ withBoard s b) × (e ≡ end)
     → both ≡ agreedIn (consoleOf s store memory)
     → b ≡ changedTurn x (s .board) store both (listIn (s .given) memory) c line .board
@@ -86,7 +86,7 @@ pub changes-does : (x : Changing) (s : State) (c : Command) (store memory line :
 changes-does x s c store memory line n p q h g u v b =
     let row = changes-row x (consoleOf s store memory) c line n in
     let e = ap (λ (y : Sessions). changedTurn x (s .board) store y (listIn (s .given) memory) c line) g in
-    does (changed x) p q h b
+    does (changes x) p q h b
     (ap (λ (t : Boarding). t .answer) e ∙ sym (ap (λ (t : Turned). t .answer) row))
     (parts (u ∙ ap (λ (t : Boarding). t .board) e) (v ∙ ap (λ (t : Boarding). t .store) e) refl refl refl refl refl ∙ sym (ap (λ (t : Turned). t .console) row))
 

@@ -7,7 +7,7 @@ use Rattle.writer.specs.declared.state.Writer.{Writer}
 use Rattle.writer.specs.declared.state.Written.{Written}
 use Rattle.writer.specs.Writing.{beginAnswer, beginBuffer, addAnswer, addBuffer, finishAnswer, finishBuffer}
 use Rattle.command.specs.declared.Command.{Command}
-use Rattle.console_add.specs.Added.{segmentIn}
+use Rattle.console_add.specs.Added.{segmentSaid}
 use Rattle.console_lines.specs.Lines.{oneLine, octetsLine}
 use Rattle.console_state.specs.Answers.{answerLine}
 
@@ -45,9 +45,9 @@ beginTurn w lent c = record {
 -- `add L V NT BEHAVIOUR SID NAI STRUCTURE M C`: "adds a segment"; `0 0 AT`
 abbrev pub addTurn : Writer → List ℕ → Command → List ℕ → Composing
 addTurn w lent c line = record {
-  writer = addAnswer lent w (segmentIn c line) .writer;
-  lent = addBuffer lent w (segmentIn c line);
-  answer = placeLine (addAnswer lent w (segmentIn c line));
+  writer = addAnswer lent w (segmentSaid c line) .writer;
+  lent = addBuffer lent w (segmentSaid c line);
+  answer = placeLine (addAnswer lent w (segmentSaid c line));
 }
 
 -- ## Finish

@@ -16,10 +16,10 @@ use Rattle.board_record.proofs.Logic.{same?, from?}
 use Rattle.board_record.proofs.Search.{key-place-is, key-place-found}
 use Rattle.board_record.proofs.Proper.{proper-sound}
 use Rattle.board_rules.specs.Rules.{hasPath}
-use Rattle.follow.specs.Story.{Path, pathAt, beginning, Ordered, begun, held, last}
+use Rattle.follow.specs.Story.{HeldPath, pathAt, beginning, Ordered, begun, held, last}
 
 -- the path at a place, or none where it is a removal
-abbrev pub pathIn : Table → List ℕ → ℕ → Option Path
+abbrev pub pathIn : Table → List ℕ → ℕ → Option HeldPath
 pathIn b store i = cond (eqb (lengthAt b i) 0) none (some (pathAt b store i))
 
 pub path-mark : (b : Table) (store : List ℕ) (i : ℕ) → lengthAt b i ≡ 0 → pathIn b store i ≡ none

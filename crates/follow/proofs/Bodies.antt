@@ -17,7 +17,7 @@ use Rattle.board_record.proofs.Proper.{proper-sound}
 use Rattle.board_record.proofs.Search.{key-place-is, key-place-found}
 use Rattle.board_rules.specs.Rules.{inRange, hasPath}
 use Rattle.board_rules.specs.Body.{bodyRules, bodyNumber, bodyOf, bodyForm}
-use Rattle.follow.specs.Story.{Path, pathAt, Story, held, last}
+use Rattle.follow.specs.Story.{HeldPath, pathAt, Story, held, last}
 use Rattle.follow.specs.Run.{World, start, run}
 use Rattle.follow.specs.Promise.{BodyGiven, BodiesAreThoseHeld}
 use Rattle.follow.proofs.Cases.{some≢none, some-one}
@@ -27,14 +27,14 @@ use Rattle.follow.proofs.Table.{Stands, path-none}
 use Rattle.follow.proofs.Theorem.{Good, is-board, good-run, good-start}
 
 -- a key that is held has a place of its own, with that path
-record Kept (b : Table) (store : List ℕ) (k : ℕ) (path : Path) : Type 0 where
+record Kept (b : Table) (store : List ℕ) (k : ℕ) (path : HeldPath) : Type 0 where
   place : placeOf b k < places
   low : keyLeast ≤ k
   high : k ≤ keyMost
   long : lengthAt b (placeOf b k) ≡ 0 → ⊥
   path-is : pathAt b store (placeOf b k) ≡ path
 
-kept-at : (b : Table) (store : List ℕ) (h : Story) (k : ℕ) (path : Path) → Stands b store h → held h k ≡ some path → Kept b store k path
+kept-at : (b : Table) (store : List ℕ) (h : Story) (k : ℕ) (path : HeldPath) → Stands b store h → held h k ≡ some path → Kept b store k path
 kept-at b store h k path r e = ⊎-elim there (λ y. absurd (some≢none path (sym e ∙ y .0))) (r .there k changed)
   where
     changed : 0 < last h k
@@ -78,7 +78,7 @@ body-given x g k = record {
       let y = kept-at b (x .store) (x .story) k path (g .stands) e in
       let n : bodyNumber b (x .store) k ≡ acceptedWith 0 =
       rw (is-board x g, range-is k (y .low) (y .high), lt-ltb (placeOf b k) places (y .place), ne-eqb (lengthAt b (placeOf b k)) 0 (y .long)) in
-      (n, rw n (ap (λ (p : Path). p .octets) (y .path-is)), rw n (ap (λ (p : Path). p .form) (y .path-is)));
+      (n, rw n (ap (λ (p : HeldPath). p .octets) (y .path-is)), rw n (ap (λ (p : HeldPath). p .form) (y .path-is)));
   no-path = λ e l m. rw (is-board x g, range-is k l m, no-path (x .table) (x .store) (x .story) k (g .stands) l e);
 }
 

@@ -6,16 +6,16 @@ use mathlib.Core.Bool.{Bool, true, false, cond, _||_}
 use mathlib.Core.Option.{Option, none, some}
 use mathlib.Core.Logic.{_⊎_, inl, inr}
 use Rattle.board_record.proofs.Logic.{true≢false}
-use Rattle.follow.specs.Story.{Path}
+use Rattle.follow.specs.Story.{HeldPath}
 use Rattle.follow.specs.Floor.{isSome}
 
-pub some≢none : (x : Path) → some x ≡ none → ⊥
+pub some≢none : (x : HeldPath) → some x ≡ none → ⊥
 some≢none x q = let z : _≡_ {A = ℕ} 0 1 = cc in omega arith
 
-pub some-one : (x y : Path) → some x ≡ some y → x ≡ y
+pub some-one : (x y : HeldPath) → some x ≡ some y → x ≡ y
 some-one x y q = cc
 
-pub none-of : (o : Option Path) → isSome o ≡ false → o ≡ none
+pub none-of : (o : Option HeldPath) → isSome o ≡ false → o ≡ none
 none-of none e = refl
 none-of (some x) e = absurd (true≢false e)
 

@@ -18,7 +18,7 @@ use Rattle.board_record.proofs.Logic.{true≢false, same?, test-is}
 use Rattle.board_record.proofs.Proper.{proper-sound}
 use Rattle.board_record.proofs.Search.{used-is, is-used, floor-keeps, floor-takes, floor-drops}
 use Rattle.board_record.proofs.Lists.{count-same, count-full, count-less, hits-at, hits-where}
-use Rattle.follow.specs.Story.{Path, Story, held, last}
+use Rattle.follow.specs.Story.{HeldPath, Story, held, last}
 use Rattle.follow.specs.Floor.{leastValue, isSome, standing, keyEnd, floorPut}
 use Rattle.follow.proofs.Cases.{none-of, or-cases, not-true-is-false}
 use Rattle.follow.proofs.Begun.{pathIn, path-mark}
@@ -40,7 +40,7 @@ module _ (b : Table) (store : List ℕ) (h : Story) (r : Stands b store h) where
   unfolding standing
   stands-last k e = go (held h k) refl (or-cases (isSome (held h k)) _ e)
     where
-      go : (o : Option Path) → held h k ≡ o → (isSome (held h k) ≡ true) ⊎ (ltb (b .floor) (last h k) ≡ true) → (0 < last h k) × (held h k ≡ none → b .floor < last h k)
+      go : (o : Option HeldPath) → held h k ≡ o → (isSome (held h k) ≡ true) ⊎ (ltb (b .floor) (last h k) ≡ true) → (0 < last h k) × (held h k ≡ none → b .floor < last h k)
       go o p (inr q) = let l = ltb-true (b .floor) (last h k) q in (omega arith, λ z. l)
       go none p (inl q) = absurd (true≢false (sym q ∙ ap isSome p))
       go (some c) p (inl q) = (pos (leb (last h k) 0) refl, λ z. absurd (true≢false (sym q ∙ ap isSome z)))

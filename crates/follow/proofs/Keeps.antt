@@ -9,7 +9,7 @@ use lib.Dec.{eqb}
 use borrow.Author.Tests.{eq-eqb, ne-eqb}
 use Rattle.board_record.specs.Table.{Table}
 use Rattle.board_record.proofs.Logic.{same?, from?}
-use Rattle.follow.specs.Story.{Path, Deed, sets, clears, Story, Ordered, begun, did, compactedTo, beginningOf, version, keyOf, leaves, held, last}
+use Rattle.follow.specs.Story.{HeldPath, Deed, sets, clears, Story, Ordered, begun, did, compactedTo, beginningOf, version, keyOf, leaves, held, last}
 use Rattle.follow.specs.Follower.{Follower, fresh, makes, levels, Keeps, Lacks}
 use Rattle.follow.proofs.Cases.{some≢none, cond-yes, cond-no}
 
@@ -87,7 +87,7 @@ keeps-compact c h f r = record { old = r .old; away = r .away; s-in = r .s-in; w
 pub has : (h : Story) (f : Follower) → Keeps h f → (k : ℕ) → (Lacks h (f .s) (f .w) k → ⊥) → f .holds k ≡ held h k
 has h f r k n = ⊎-elim (r .old k) (by-body (held h k) refl) (from? (last h k) (f .w))
   where
-    by-body : (o : Option Path) → held h k ≡ o → f .w < last h k → f .holds k ≡ held h k
+    by-body : (o : Option HeldPath) → held h k ≡ o → f .w < last h k → f .holds k ≡ held h k
     by-body none e l = ⊎-elim (λ m. r .away k l e m ∙ sym e) (λ m. absurd (n (record { newer = l; needed = λ q. m }))) (from? (last h k) (f .s))
     by-body (some x) e l = absurd (n (record { newer = l; needed = λ q. absurd (some≢none x (sym e ∙ q)) }))
 

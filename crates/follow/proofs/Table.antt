@@ -11,7 +11,7 @@ use lib.ListN.{length}
 use lib.Dec.{eqb}
 use borrow.Author.Tests.{eqb-true}
 use Rattle.board_record.specs.Sizes.{places, storeSize}
-use Rattle.board_record.specs.Table.{Table, keyAt, versionAt, lengthAt, Used, Sized}
+use Rattle.board_record.specs.Table.{Table, keyAt, versionAt, lengthAt, Used, ListsWhole}
 use Rattle.board_record.specs.Search.{Wanted, nextOf}
 use Rattle.board_record.specs.Search.Wanted.{path, removal}
 use Rattle.board_record.specs.Proper.{Proper}
@@ -26,7 +26,7 @@ use Rattle.follow.proofs.Begun.{pathIn, path-mark, begun-zero, begun-he
 -- A used place holds its key's last change. A key that was changed has a place, or its removal was dropped at or below the floor.
 pub record Stands (b : Table) (store : List ℕ) (h : Story) : Type 0 where
   pub proper : Proper b
-  pub sized : Sized b
+  pub sized : ListsWhole b
   pub enough : storeSize ≤ length store
   pub ordered : Ordered (beginningOf h)
   pub version-is : b .version ≡ version h
@@ -96,7 +96,7 @@ module _ (b : Table) (store : List ℕ) (h : Story) (s w : ℕ) (r : Stands b st
 
 -- ---- the start
 
-pub stands-begun : (b : Table) (store : List ℕ) (p : Proper b) → Sized b → storeSize ≤ length store → Stands b store (begun (beginning b store))
+pub stands-begun : (b : Table) (store : List ℕ) (p : Proper b) → ListsWhole b → storeSize ≤ length store → Stands b store (begun (beginning b store))
 stands-begun b store p z g = record {
   proper = p;
   sized = z;

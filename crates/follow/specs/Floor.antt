@@ -8,7 +8,7 @@ use mathlib.Core.Option.{Option, none, some}
 use lib.Dec.{eqb, ltb, leb}
 use Rattle.board_record.specs.Sizes.{places, keyMost}
 use Rattle.board_record.specs.Lists.{countBelow}
-use Rattle.follow.specs.Story.{Path, sets, clears, Story, begun, did, compactedTo, held, last}
+use Rattle.follow.specs.Story.{HeldPath, sets, clears, Story, begun, did, compactedTo, held, last}
 
 -- the smaller of two numbers, where 0 stands for none
 abbrev pub lesser : ℕ → ℕ → ℕ
@@ -19,7 +19,7 @@ unfoldable pub leastValue : (ℕ → Bool) → (ℕ → ℕ) → ℕ → ℕ
 leastValue t v zero = 0
 leastValue t v (suc n) = cond (t n) (lesser (leastValue t v n) (v n)) (leastValue t v n)
 
-abbrev pub isSome : Option Path → Bool
+abbrev pub isSome : Option HeldPath → Bool
 isSome none = false
 isSome (some path) = true
 

@@ -6,12 +6,12 @@ use mathlib.Core.Option.{Option, none, some}
 use lib.Dec.{eqb}
 use Rattle.board_record.specs.Table.{Table}
 use Rattle.board_rules.specs.Next.{freshMark}
-use Rattle.follow.specs.Story.{Path, Deed, sets, clears, Story, version, held, last}
+use Rattle.follow.specs.Story.{HeldPath, Deed, sets, clears, Story, version, held, last}
 
 pub record Follower : Type 0 where
   pub s : ℕ
   pub w : ℕ
-  pub holds : ℕ → Option Path
+  pub holds : ℕ → Option HeldPath
 
 -- ---- what it does
 
@@ -20,7 +20,7 @@ abbrev pub fresh : Table → Follower
 fresh b = record { s = freshMark b .s; w = freshMark b .w; holds = λ k. none }
 
 -- what it holds once a change is made: a report's path stands under its key; a removal leaves none there
-abbrev pub made : Deed → (ℕ → Option Path) → ℕ → Option Path
+abbrev pub made : Deed → (ℕ → Option HeldPath) → ℕ → Option HeldPath
 made (sets k path) holds j = cond (eqb k j) (some path) (holds j)
 made (clears k) holds j = cond (eqb k j) none (holds j)
 

@@ -12,10 +12,10 @@ use lib.ListN.{length}
 use Rattle.answers.specs.Numbers.{noPath, markTooOld}
 use Rattle.answers.specs.Verdicts.{refusedBy, acceptedWith}
 use Rattle.board_record.specs.Sizes.{storeSize, keyLeast, keyMost}
-use Rattle.board_record.specs.Table.{Table, Sized}
+use Rattle.board_record.specs.Table.{Table, ListsWhole}
 use Rattle.board_record.specs.Proper.{Proper}
 use Rattle.board_rules.specs.Body.{bodyNumber, bodyOf, bodyForm}
-use Rattle.follow.specs.Story.{Path, Deed, Story, keyOf, leaves, beginning, begun, version, held}
+use Rattle.follow.specs.Story.{HeldPath, Deed, Story, keyOf, leaves, beginning, begun, version, held}
 use Rattle.follow.specs.Floor.{floorOf}
 use Rattle.follow.specs.Follower.{Follower, Keeps, Lacks, Oldest}
 use Rattle.follow.specs.Heard.{Heard, refusal, change, level}
@@ -36,7 +36,7 @@ pub record Answered (h : Story) (f : Follower) (a : Heard) : Type 0 where
 
 -- a table and a store to begin with: the lists whole, the table proper, the store long enough
 pub record Ready (b : Table) (store : List ℕ) : Type 0 where
-  pub sized : Sized b
+  pub sized : ListsWhole b
   pub proper : Proper b
   pub enough : storeSize ≤ length store
 
@@ -53,7 +53,7 @@ NoFollowerIsFooled = (b : Table) (store : List ℕ) (followers : ℕ → Followe
 
 -- the body call answers as the story does: a key that is held gives its path, another key in range gives 22
 pub record BodyGiven (x : World) (k : ℕ) : Type 0 where
-  pub path : (path : Path) → held (x .story) k ≡ some path →
+  pub path : (path : HeldPath) → held (x .story) k ≡ some path →
       (bodyNumber (x .table) (x .store) k ≡ acceptedWith 0) × (bodyOf (x .table) (x .store) k ≡ path .octets) × (bodyForm (x .table) (x .store) k ≡ path .form)
   pub no-path : held (x .story) k ≡ none → keyLeast ≤ k → k ≤ keyMost → bodyNumber (x .table) (x .store) k ≡ refusedBy noPath 0
 

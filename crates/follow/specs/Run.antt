@@ -16,7 +16,7 @@ use Rattle.board_rules.specs.Remove.{removeAnswer}
 use Rattle.board_rules.specs.Compact.{compactAnswer}
 use Rattle.board_rules.specs.Next.{nextAnswer}
 use Rattle.session.specs.declared.Sessions.{Sessions}
-use Rattle.follow.specs.Story.{Path, sets, clears, Story, beginning, begun, did, compactedTo}
+use Rattle.follow.specs.Story.{HeldPath, sets, clears, Story, beginning, begun, did, compactedTo}
 use Rattle.follow.specs.Follower.{Follower, fresh}
 use Rattle.follow.specs.Heard.{Heard, heardIn, does, cutOff}
 
@@ -39,7 +39,7 @@ pub data Act : Type 0 where
   askCut : ℕ → Act
 
 -- the path of a report: its form is the PST
-abbrev pub reportedPath : List ℕ → ℕ → Path
+abbrev pub reportedPath : List ℕ → ℕ → HeldPath
 reportedPath ero pst = record { form = pst; octets = bodyIn ero }
 
 -- the story goes on where the call was accepted

@@ -18,13 +18,13 @@ use Rattle.board_rules.specs.Body.{octetsAt}
 -- ---- the calls
 
 -- a path: its form, by the setup type that it was reported under, and its octets, "a path body (the ERO after its header)"
-pub record Path : Type 0 where
+pub record HeldPath : Type 0 where
   pub form : ℕ
   pub octets : List ℕ
 
 -- an accepted report of a key with its path, or an accepted removal of a key
 pub data Deed : Type 0 where
-  sets : ℕ → Path → Deed
+  sets : ℕ → HeldPath → Deed
   clears : ℕ → Deed
 
 abbrev pub keyOf : Deed → ℕ
@@ -32,7 +32,7 @@ keyOf (sets k path) = k
 keyOf (clears k) = k
 
 -- what it leaves under its key
-abbrev pub leaves : Deed → Option Path
+abbrev pub leaves : Deed → Option HeldPath
 leaves (sets k path) = some path
 leaves (clears k) = none
 
@@ -42,11 +42,11 @@ leaves (clears k) = none
 pub record Beginning : Type 0 where
   pub version : ℕ
   pub floor : ℕ
-  pub held : ℕ → Option Path
+  pub held : ℕ → Option HeldPath
   pub last : ℕ → ℕ
 
 -- the path of a place
-abbrev pub pathAt : Table → List ℕ → ℕ → Path
+abbrev pub pathAt : Table → List ℕ → ℕ → HeldPath
 pathAt b store i = record { form = formAt b i; octets = octetsAt b store i }
 
 -- what a table with its store begins a story with; its paths count as last reported there
@@ -84,7 +84,7 @@ version (did c h) = suc (version h)
 version (compactedTo c h) = version h
 
 -- the path last reported under a key and not removed since
-unfoldable pub held : Story → ℕ → Option Path
+unfoldable pub held : Story → ℕ → Option HeldPath
 held (begun o) k = o .held k
 held (did c h) k = cond (eqb (keyOf c) k) (leaves c) (held h k)
 held (compactedTo c h) k = held h k

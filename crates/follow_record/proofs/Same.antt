@@ -14,7 +14,7 @@ use Rattle.session.specs.declared.Sessions.{Sessions}
 use Rattle.session.specs.Sessions.{sessionUnder}
 use Rattle.board_record.specs.declared.record.Board.{Board}
 use Rattle.board_record.specs.Sizes.{places}
-use Rattle.board_record.specs.Table.{Table, emptyTable, Sized}
+use Rattle.board_record.specs.Table.{Table, emptyTable, ListsWhole}
 use Rattle.board_record.specs.Proper.{Proper}
 use Rattle.board_record.specs.Order.{placeOn, Chained, orderOf}
 use Rattle.board_record.specs.Tops.{topsOf}
@@ -130,13 +130,13 @@ module _ (t : Table) (p : Proper t) where
   moved-is store from to v = rw sound
 
 -- ---- what a report leaves
-pub for-proper : (t : Table) → Sized t → Proper t → (store : List ℕ) (k : ℕ) (ero : List ℕ) (both : Sessions) (pst : ℕ) (addresses : List ℕ) →
-    let o = reportFor t store k ero both pst addresses in Sized (o .table) × Proper (o .table)
+pub for-proper : (t : Table) → ListsWhole t → Proper t → (store : List ℕ) (k : ℕ) (ero : List ℕ) (both : Sessions) (pst : ℕ) (addresses : List ℕ) →
+    let o = reportFor t store k ero both pst addresses in ListsWhole (o .table) × Proper (o .table)
 unfolding reportFor
 for-proper t s p store k ero both pst addresses = go (rule28 addresses)
   where
     go : (b : Bool) →
-        let o = cond b (outcomeOf (refusedBy notUsable 0) t) (reportAnswer t store k ero (sessionFor ero true (sessionUnder both pst) addresses) pst) in Sized (o .table) × Proper (o .table)
+        let o = cond b (outcomeOf (refusedBy notUsable 0) t) (reportAnswer t store k ero (sessionFor ero true (sessionUnder both pst) addresses) pst) in ListsWhole (o .table) × Proper (o .table)
     go true = (s, p)
     go false =
         let under = sessionFor ero true (sessionUnder both pst) addresses in
@@ -167,7 +167,7 @@ left-same x p (next s w) = refl
 left-same x p (moved a b v) = refl
 left-same x p fresh = refl
 
-left-proper : (x : OnTable) → Sized (x .table) → Proper (x .table) → (c : Call) → Sized (leftOf x c .table) × Proper (leftOf x c .table)
+left-proper : (x : OnTable) → ListsWhole (x .table) → Proper (x .table) → (c : Call) → ListsWhole (leftOf x c .table) × Proper (leftOf x c .table)
 unfolding leftOf
 left-proper x s p (report k ero both pst addresses) = for-proper (x .table) s p (x .store) k ero both pst addresses
 left-proper x s p (remove k) = (remove-sized (x .table) (x .store) k s, remove-proper (x .table) (x .store) k s p)
@@ -177,7 +177,7 @@ left-proper x s p (next a w) = (s, p)
 left-proper x s p (moved a b v) = (s, p)
 left-proper x s p fresh = (s, p)
 
-pub replies-same : (x : OnTable) → Sized (x .table) → Proper (x .table) → (calls : List Call) → repliesOn (recorded x) calls ≡ repliesOf x calls
+pub replies-same : (x : OnTable) → ListsWhole (x .table) → Proper (x .table) → (calls : List Call) → repliesOn (recorded x) calls ≡ repliesOf x calls
 unfolding repliesOn repliesOf
 replies-same x s p [] = refl
 replies-same x s p (c ∷ calls) =

@@ -7,7 +7,7 @@ use lib.ListN.{length}
 use lib.Dec.{eqb}
 use Rattle.board_record.specs.declared.record.Board.{Board}
 use Rattle.board_record.specs.Sizes.{storeSize}
-use Rattle.board_record.specs.Table.{Table, emptyTable, Sized}
+use Rattle.board_record.specs.Table.{Table, emptyTable, ListsWhole}
 use Rattle.board_record.specs.Proper.{Proper}
 use Rattle.board_record.specs.Record.{tableIn, recordOf, emptyBoard}
 use Rattle.board_record.proofs.Proper.{empty-sized, empty-proper}
@@ -47,7 +47,7 @@ step-same x p (begin n) = refl
 step-same x p (ask n both) = ap (λ (h : Heard). followingOn (recordedWorld x) n (does (x .followers n) both h)) (answer-same x p n)
 step-same x p (askCut n) = ap (λ (h : Heard). followingOn (recordedWorld x) n (cutOff (x .followers n) h)) (answer-same x p n)
 
-step-proper : (x : World) → Sized (x .table) → Proper (x .table) → (a : Act) → Sized (step x a .table) × Proper (step x a .table)
+step-proper : (x : World) → ListsWhole (x .table) → Proper (x .table) → (a : Act) → ListsWhole (step x a .table) × Proper (step x a .table)
 unfolding step
 step-proper x s p (report k ero both pst addresses) = for-proper (x .table) s p (x .store) k ero both pst addresses
 step-proper x s p (remove k) = (remove-sized (x .table) (x .store) k s, remove-proper (x .table) (x .store) k s p)
@@ -56,14 +56,14 @@ step-proper x s p (begin n) = (s, p)
 step-proper x s p (ask n both) = (s, p)
 step-proper x s p (askCut n) = (s, p)
 
-pub run-same : (x : World) → Sized (x .table) → Proper (x .table) → (acts : List Act) → runOn (recordedWorld x) acts ≡ recordedWorld (run x acts)
+pub run-same : (x : World) → ListsWhole (x .table) → Proper (x .table) → (acts : List Act) → runOn (recordedWorld x) acts ≡ recordedWorld (run x acts)
 unfolding runOn run
 run-same x s p [] = refl
 run-same x s p (a ∷ acts) =
     let g = step-proper x s p a in
     ap (λ (y : WorldOn). runOn y acts) (step-same x p a) ∙ run-same (step x a) (g .0) (g .1) acts
 
-run-proper : (x : World) → Sized (x .table) → Proper (x .table) → (acts : List Act) → Proper (run x acts .table)
+run-proper : (x : World) → ListsWhole (x .table) → Proper (x .table) → (acts : List Act) → Proper (run x acts .table)
 unfolding run
 run-proper x s p [] = p
 run-proper x s p (a ∷ acts) = let g = step-proper x s p a in run-proper (step x a) (g .0) (g .1) acts

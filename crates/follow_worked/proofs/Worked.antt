@@ -34,7 +34,7 @@ use Rattle.board_rules.specs.Remove.{removeRules, removeVerdict, removed, remov
 use Rattle.board_record.specs.Lists.{row}
 use Rattle.board_rules.specs.Compact.{compactRules, compactVerdict, dropped, compacted, compactAnswer}
 use Rattle.board_rules.specs.Next.{nextRules, nextVerdict, changeAt, handedAt, nextAnswer}
-use Rattle.follow.specs.Story.{Path, sets, clears, did, compactedTo, version, held, last}
+use Rattle.follow.specs.Story.{HeldPath, sets, clears, did, compactedTo, version, held, last}
 use Rattle.follow.specs.Follower.{Follower, fresh, makes, levels}
 use Rattle.follow.specs.Floor.{floorOf}
 use Rattle.follow.specs.Heard.{Heard, heardIn, refusal, change, level, does}
@@ -42,8 +42,8 @@ use Rattle.follow.specs.Run.{World, report, remove, compact, step, run, allFres
 use Rattle.follow.specs.Promise.{Ready}
 use Rattle.follow.proofs.Theorem.{numbers-are-the-storys}
 use Rattle.follow_worked.specs.Example.{
-  bodyA,
-  bodyB,
+  firstBody,
+  secondBody,
   pathA,
   pathB,
   objectA,
@@ -81,10 +81,10 @@ abbrev table4 : Table
 table4 = tableOf (0 ∷ 9 ∷ replicate 126 0) (0 ∷ 2 ∷ replicate 126 0) (0 ∷ 8 ∷ replicate 126 0) 3 3 (0 ∷ 1 ∷ replicate 126 0)
 
 abbrev store1 : List ℕ
-store1 = bodyA ++ replicate 49128 0
+store1 = firstBody ++ replicate 49128 0
 
 abbrev store2 : List ℕ
-store2 = bodyA ++ (replicate 360 0 ++ (bodyB ++ replicate 48760 0))
+store2 = firstBody ++ (replicate 360 0 ++ (secondBody ++ replicate 48760 0))
 
 -- ---- what each call answers
 
@@ -219,7 +219,7 @@ second-ask = ap (asks noon) first-ask ∙ asked noon second _ (worked .1)
 third-ask : asks noon (asks noon (asks noon early)) ≡ levels third 3
 third-ask = ap (asks noon) second-ask ∙ asked noon third _ (worked .2)
 
-has : (f g : Follower) (s w : ℕ) (a b : Option Path) → f ≡ g → Has g s w a b → Has f s w a b
+has : (f g : Follower) (s w : ℕ) (a b : Option HeldPath) → f ≡ g → Has g s w a b → Has f s w a b
 has f g s w a b e h = rw e h
 
 pub held-at-noon : HeldAtNoon

@@ -16,33 +16,33 @@ use Rattle.session.specs.declared.Limit.the-variants.{Most}
 use Rattle.session.specs.declared.Session.{Session}
 use Rattle.session.specs.declared.Sessions.{Sessions}
 use Rattle.objects.specs.Objects.{srv6Setup, mplsSetup}
-use Rattle.follow.specs.Story.{Path, sets, clears}
+use Rattle.follow.specs.Story.{HeldPath, sets, clears}
 use Rattle.follow.specs.Follower.{Follower, fresh}
 use Rattle.follow.specs.Heard.{Heard, refusal, change, level, heardIn, does}
 use Rattle.follow.specs.Run.{World, Act, report, remove, compact, start, allFresh, run}
 
 -- A's path, reported under setup type 3: the body of object E of document 01, with another SID
-abbrev pub bodyA : List ℕ
-bodyA =
+abbrev pub firstBody : List ℕ
+firstBody =
     0x28 ∷ 0x18 ∷ 0x00 ∷ 0x02 ∷ 0x00 ∷ 0x00 ∷ 0x00 ∷ 0x01
     ∷ 0x20 ∷ 0x01 ∷ 0x0D ∷ 0xB8 ∷ 0x00 ∷ 0x00 ∷ 0x00 ∷ 0x01 ∷ 0x00 ∷ 0x00 ∷ 0x00 ∷ 0x00 ∷ 0x00 ∷ 0x00 ∷ 0x00 ∷ 0x01 ∷ []
 
-abbrev pub pathA : Path
-pathA = record { form = srv6Setup; octets = bodyA }
+abbrev pub pathA : HeldPath
+pathA = record { form = srv6Setup; octets = firstBody }
 
 -- B's path, under setup type 1: one segment without an NAI, with M and label 16, as routers send it
-abbrev pub bodyB : List ℕ
-bodyB = 0x24 ∷ 0x08 ∷ 0x00 ∷ 0x09 ∷ 0x00 ∷ 0x01 ∷ 0x01 ∷ 0x00 ∷ []
+abbrev pub secondBody : List ℕ
+secondBody = 0x24 ∷ 0x08 ∷ 0x00 ∷ 0x09 ∷ 0x00 ∷ 0x01 ∷ 0x01 ∷ 0x00 ∷ []
 
-abbrev pub pathB : Path
-pathB = record { form = mplsSetup; octets = bodyB }
+abbrev pub pathB : HeldPath
+pathB = record { form = mplsSetup; octets = secondBody }
 
 -- the objects
 abbrev pub objectA : List ℕ
-objectA = 0x07 ∷ 0x10 ∷ 0x00 ∷ 0x1C ∷ bodyA
+objectA = 0x07 ∷ 0x10 ∷ 0x00 ∷ 0x1C ∷ firstBody
 
 abbrev pub objectB : List ℕ
-objectB = 0x07 ∷ 0x10 ∷ 0x00 ∷ 0x0C ∷ bodyB
+objectB = 0x07 ∷ 0x10 ∷ 0x00 ∷ 0x0C ∷ secondBody
 
 -- the session of O and O: SRv6 agreed, N 0, limit 4 by H.Encaps, neither flag
 abbrev pub agreed : Session
@@ -102,7 +102,7 @@ abbrev pub early : Follower
 early = record { s = 1; w = 1; holds = λ k. cond (eqb k keyA) (some pathA) none }
 
 -- a follower with mark (s, w) that holds a under A and b under B
-pub record Has (f : Follower) (s w : ℕ) (a b : Option Path) : Type 0 where
+pub record Has (f : Follower) (s w : ℕ) (a b : Option HeldPath) : Type 0 where
   pub s-is : f .s ≡ s
   pub w-is : f .w ≡ w
   pub holds-a : f .holds keyA ≡ a

@@ -26,7 +26,7 @@ use Rattle.msd.specs.Msd.{
   withPair,
   smallestOf,
   absent,
-  numberOf,
+  depthNumber,
   depthIn,
   Stands,
   gatheredOf,
@@ -98,11 +98,11 @@ depth-smaller v got o = go (ltb got absent) refl
     go false e = let l = ltb-false got absent e in let k : min v got ≡ v = omega arith in rw (k, depth-none got l, depth-octet v o)
 
 -- Up to 256 a number is that of what it stands for.
-pub number-back : (n : ℕ) → n ≤ absent → n ≡ numberOf (depthIn n)
+pub number-back : (n : ℕ) → n ≤ absent → n ≡ depthNumber (depthIn n)
 unfolding depthIn
 number-back n h = go (ltb n absent) refl
   where
-    go : (b : Bool) → ltb n absent ≡ b → n ≡ numberOf (cond b (some n) none)
+    go : (b : Bool) → ltb n absent ≡ b → n ≡ depthNumber (cond b (some n) none)
     go true e = refl
     go false e = omega (arith, ltb-false n absent e)
 
@@ -178,7 +178,7 @@ module _ (p : List ℕ) (i v m : ℕ) (s : Passing p i v m) (h : length p ≤ i 
   pub passed : record { wrong = false; encaps = v; left = m } ≡ gatheredOf (pairsIn p)
   passed =
       let none-wrong : wrongPairs (pairsIn p) ≡ false = sym (s .right) ∙ ap wrongPairs (pairs-end p i h) in
-      rw none-wrong (made (number-back v (s .encaps-most) ∙ ap numberOf (passed-stands .0)) (number-back m (s .left-most) ∙ ap numberOf (passed-stands .1)))
+      rw none-wrong (made (number-back v (s .encaps-most) ∙ ap depthNumber (passed-stands .0)) (number-back m (s .left-most) ∙ ap depthNumber (passed-stands .1)))
 
 pub gathered-wrong : (ps : List Pair) {r : Gathered} → r ≡ gatheredOf ps → r .wrong ≡ wrongPairs ps
 gathered-wrong ps e = rw e (go (wrongPairs ps) _ _ refl refl)

@@ -56,9 +56,9 @@ smallestOf wanted (p ∷ ps) = withPair wanted p (smallestOf wanted ps)
 abbrev pub absent : ℕ
 absent = 256
 
-abbrev pub numberOf : Option ℕ → ℕ
-numberOf none = absent
-numberOf (some v) = v
+abbrev pub depthNumber : Option ℕ → ℕ
+depthNumber none = absent
+depthNumber (some v) = v
 
 -- The smallest value that a number stands for.
 unfoldable pub depthIn : ℕ → Option ℕ
@@ -71,4 +71,4 @@ Stands v m ps = (depthIn v ≡ smallestOf maxHEncaps ps) × (depthIn m ≡ small
 abbrev pub gatheredOf : List Pair → Gathered
 gatheredOf ps =
     cond (wrongPairs ps) (record { wrong = true; encaps = absent; left = absent })
-    (record { wrong = false; encaps = numberOf (smallestOf maxHEncaps ps); left = numberOf (smallestOf maxSegmentsLeft ps) })
+    (record { wrong = false; encaps = depthNumber (smallestOf maxHEncaps ps); left = depthNumber (smallestOf maxSegmentsLeft ps) })

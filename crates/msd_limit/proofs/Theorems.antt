@@ -13,7 +13,7 @@ use Rattle.answers.proofs.Determined.{determined}
 use Rattle.session.specs.declared.Limit.{Limit}
 use Rattle.session.specs.declared.Limit.the-variants.{Free, Most}
 use Rattle.msd.specs.Msd.{maxSegmentsLeft, maxEndPop, maxHEncaps, maxEndD, Pair, smaller, withPair, smallestOf, depthIn}
-use Rattle.msd_limit.specs.Limits.{hEncapsPermits, segmentsLeftPermits, lower, limitBy, oneMoreBy, limitIn, present, isEnd, onlyEnds, within}
+use Rattle.msd_limit.specs.Limits.{hEncapsPermits, segmentsLeftPermits, lower, limitBy, oneMoreBy, limitOfPairs, present, isEnd, onlyEnds, within}
 
 -- no limit -----------------------------------------------------------------------------------------------------
 
@@ -37,7 +37,7 @@ free-by (some v) none = (λ e. (cc, cc), λ h. cc)
 free-by (some v) (some m) = (λ e. (cc, cc), λ h. cc)
 
 -- There is no limit exactly if neither type is present.
-pub free-exactly : (ps : List Pair) → (limitIn ps ≡ Free) ↔ ((present maxHEncaps ps ≡ false) × (present maxSegmentsLeft ps ≡ false))
+pub free-exactly : (ps : List Pair) → (limitOfPairs ps ≡ Free) ↔ ((present maxHEncaps ps ≡ false) × (present maxSegmentsLeft ps ≡ false))
 free-exactly ps = let f = free-by (smallestOf maxHEncaps ps) (smallestOf maxSegmentsLeft ps) in (
   λ e. (absent-exactly maxHEncaps ps .0 (f .0 e .0), absent-exactly maxSegmentsLeft ps .0 (f .0 e .1)),
   λ h. f .1 (absent-exactly maxHEncaps ps .1 (h .0), absent-exactly maxSegmentsLeft ps .1 (h .1)),
@@ -79,11 +79,11 @@ module _ (kind : ℕ) (p : Pair) (ps : List Pair) where
       go false d = refl
 
 -- One more pair of 42 or 45, wherever it stands, never changes the limit.
-pub one-more-end-changes-nothing : (qs ps : List Pair) (p : Pair) → isEnd p ≡ true → limitIn (qs ++ (p ∷ ps)) ≡ limitIn (qs ++ ps)
+pub one-more-end-changes-nothing : (qs ps : List Pair) (p : Pair) → isEnd p ≡ true → limitOfPairs (qs ++ (p ∷ ps)) ≡ limitOfPairs (qs ++ ps)
 one-more-end-changes-nothing qs ps p e = rw (more-other maxHEncaps p ps qs (end-encaps p e), more-other maxSegmentsLeft p ps qs (end-left p e))
 
 -- Pairs of 42 and 45 alone limit nothing.
-pub only-ends-limit-nothing : (ps : List Pair) → onlyEnds ps ≡ true → limitIn ps ≡ Free
+pub only-ends-limit-nothing : (ps : List Pair) → onlyEnds ps ≡ true → limitOfPairs ps ≡ Free
 only-ends-limit-nothing [] e = refl
 only-ends-limit-nothing (p ∷ ps) e =
     one-more-end-changes-nothing [] ps p (both-true (isEnd p) (onlyEnds ps) e .0) ∙ only-ends-limit-nothing ps (both-true (isEnd p) (onlyEnds ps) e .1)
@@ -111,7 +111,7 @@ either-way kind qs ps p P h k = go (eqb (p .kind) kind) refl
     go false e = subst P (more-other kind p ps qs e) h
 
 -- One more pair of any type, wherever it stands, never raises the limit: what is within the limit with it is within the limit without.
-pub one-more-never-raises : (n : ℕ) (qs ps : List Pair) (p : Pair) → within n (limitIn (qs ++ (p ∷ ps))) → within n (limitIn (qs ++ ps))
+pub one-more-never-raises : (n : ℕ) (qs ps : List Pair) (p : Pair) → within n (limitOfPairs (qs ++ (p ∷ ps))) → within n (limitOfPairs (qs ++ ps))
 one-more-never-raises n qs ps p h =
     let v = smallestOf maxHEncaps (qs ++ ps) in
     let m = smallestOf maxSegmentsLeft (qs ++ (p ∷ ps)) in
@@ -145,7 +145,7 @@ zero-more = refl
 -- bounds -------------------------------------------------------------------------------------------------------
 
 -- A route of one segment is within every limit.
-pub one-is-within : (ps : List Pair) → within 1 (limitIn ps)
+pub one-is-within : (ps : List Pair) → within 1 (limitOfPairs ps)
 one-is-within ps = go (smallestOf maxHEncaps ps) (smallestOf maxSegmentsLeft ps)
   where
     go : (v m : Option ℕ) → within 1 (limitBy v m)
@@ -155,16 +155,16 @@ one-is-within ps = go (smallestOf maxHEncaps ps) (smallestOf maxSegmentsLeft ps)
     go (some v) (some m) = omega arith
 
 -- The least and the largest value of either type.
-pub encaps-0 : limitIn (record { kind = maxHEncaps; value = 0 } ∷ []) ≡ Most 1
+pub encaps-0 : limitOfPairs (record { kind = maxHEncaps; value = 0 } ∷ []) ≡ Most 1
 encaps-0 = refl
 
-pub left-0 : limitIn (record { kind = maxSegmentsLeft; value = 0 } ∷ []) ≡ Most 1
+pub left-0 : limitOfPairs (record { kind = maxSegmentsLeft; value = 0 } ∷ []) ≡ Most 1
 left-0 = refl
 
-pub encaps-255 : limitIn (record { kind = maxHEncaps; value = 255 } ∷ []) ≡ Most 255
+pub encaps-255 : limitOfPairs (record { kind = maxHEncaps; value = 255 } ∷ []) ≡ Most 255
 encaps-255 = refl
 
-pub left-255 : limitIn (record { kind = maxSegmentsLeft; value = 255 } ∷ []) ≡ Most 256
+pub left-255 : limitOfPairs (record { kind = maxSegmentsLeft; value = 255 } ∷ []) ≡ Most 256
 left-255 = refl
 
 -- Any two answers that fit the contract of a call are equal -------------------------------------------------------

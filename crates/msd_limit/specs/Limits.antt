@@ -28,8 +28,8 @@ lower (Most a) (Most b) = Most (min a b)
 abbrev pub limitBy : Option ℕ → Option ℕ → Limit
 limitBy v m = lower (hEncapsPermits v) (segmentsLeftPermits m)
 
-abbrev pub limitIn : List Pair → Limit
-limitIn ps = limitBy (smallestOf maxHEncaps ps) (smallestOf maxSegmentsLeft ps)
+abbrev pub limitOfPairs : List Pair → Limit
+limitOfPairs ps = limitBy (smallestOf maxHEncaps ps) (smallestOf maxSegmentsLeft ps)
 
 -- The first segment stays off the header: "then H.Encaps v permits v + 1; Segments Left is untouched" (document 02, C-15). Without H.Encaps the limit stays.
 abbrev pub oneMoreBy : Limit → Option ℕ → Option ℕ → Limit

@@ -17,8 +17,8 @@ use Rattle.positions.specs.declared.Setup.{Setup}
 use Rattle.session.specs.declared.Limit.the-variants.{Free}
 use Rattle.session.specs.declared.Opened.{Opened}
 use Rattle.session.specs.Sessions.{openRefused, withoutSrv6}
-use Rattle.msd.specs.Msd.{maxSegmentsLeft, maxHEncaps, smallestOf, numberOf, depthIn}
-use Rattle.msd_limit.specs.Limits.{limitBy, limitIn, present, onlyEnds}
+use Rattle.msd.specs.Msd.{maxSegmentsLeft, maxHEncaps, smallestOf, depthNumber, depthIn}
+use Rattle.msd_limit.specs.Limits.{limitBy, limitOfPairs, present, onlyEnds}
 use Rattle.capability_mpls.specs.Mpls.{mplsNOf, mplsLimitOf}
 use Rattle.capability.specs.Srv6.{pairsAt, xOf, pairsOf, hEncapsOf, segmentsLeftOf, limitOf, carriesBy}
 use Rattle.capability.proofs.Laws.{no-limit-exactly, ends-limit-nothing}
@@ -345,7 +345,7 @@ module _ (p : Setup) (s : List ℕ) where
       )
     where
       counting : (x : Bool) (w : List ℕ) → ((i : ℕ) → getD w i 0 < 256)
-          → (let ps = cond x [] (pairsOf w) in limitIn ps ≡ limitBy (depthIn (numberOf (smallestOf maxHEncaps ps))) (depthIn (numberOf (smallestOf maxSegmentsLeft ps))))
+          → (let ps = cond x [] (pairsOf w) in limitOfPairs ps ≡ limitBy (depthIn (depthNumber (smallestOf maxHEncaps ps))) (depthIn (depthNumber (smallestOf maxSegmentsLeft ps))))
       counting true w h = refl
       counting false w h =
           rw (

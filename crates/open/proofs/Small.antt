@@ -10,7 +10,7 @@ use lib.Seq.{getD-take, getD-drop}
 use lib.Dec.{eqb, ltb}
 use borrow.Author.Tests.{ltb-true, ltb-false}
 use Rattle.octets.specs.Octets.{pad4, part}
-use Rattle.msd.specs.Msd.{Pair, pairsIn, smaller, withPair, smallestOf, absent, numberOf, depthIn}
+use Rattle.msd.specs.Msd.{Pair, pairsIn, smaller, withPair, smallestOf, absent, depthNumber, depthIn}
 use Rattle.msd.proofs.Laws.{depth-octet, depth-none}
 use Rattle.tlvs.specs.Tlvs.{Tlvs, tlvsEnd, tlvsCut, tlv, tlvHead, tlvLength, tlvBehind, tlvFits, tlvTurn, tlvsIn, tlvsOf, firstTlv}
 use Rattle.setup_types.specs.SetupTypes.{pathSetup, listSize, subsOf}
@@ -94,6 +94,6 @@ small-smallest kind (a ∷ b ∷ rest) h = go (eqb a kind) (smallestOf kind (pai
     go false d k = k
 
 -- The number of an octet, or of none, stands for it.
-pub depth-back : (d : Option ℕ) → Small d → depthIn (numberOf d) ≡ d
+pub depth-back : (d : Option ℕ) → Small d → depthIn (depthNumber d) ≡ d
 depth-back none h = depth-none absent (omega arith)
 depth-back (some v) h = depth-octet v h

@@ -15,7 +15,7 @@ use Rattle.writer.specs.declared.state.Writer.{Writer}
 use Rattle.writer_rules.specs.Refusals.{addNumber, finishNumber}
 use Rattle.writer_rules.proofs.Laws.{taken}
 use Rattle.writer.specs.Writing.{headerOf, beginNumber, beginAnswer, beginBuffer, addAnswerIn, addBufferIn, addAnswer, addBuffer, finishAnswer, finishBuffer}
-use Rattle.readback.specs.Runs.{Run, Act, onward, beginRun, finishRun, addsRun, writeRun, actsRun, anyRun, takenFrom, takenIn, Accepted}
+use Rattle.readback.specs.Runs.{Run, WriterCall, onward, beginRun, finishRun, addsRun, writeRun, actsRun, anyRun, takenFrom, takenIn, Accepted}
 use Rattle.readback.specs.Runs.Act.{adding, finishing}
 use Rattle.readback.proofs.Images.{went-on, begin-number, finish-number, add-onward, begin-onward}
 
@@ -76,33 +76,33 @@ unfolding addsRun
 adds-on c w g gs e = add-onward c w g (λ b′ w′. addsRun b′ w′ gs) e
 
 -- What a call leaves, by its number.
-after-add : (b : List ℕ) (w : Writer) (g : Segment) (cs : List Act) → addNumber (formOf (w .form)) (length b) (w .ero) (w .at) g ≡ 0
+after-add : (b : List ℕ) (w : Writer) (g : Segment) (cs : List WriterCall) → addNumber (formOf (w .form)) (length b) (w .ero) (w .at) g ≡ 0
     → (actsRun b w (adding g ∷ cs) ≡ actsRun (placed b (w .at) (subobjectOf (formOf (w .form)) g)) (behind w g) cs)
     × (takenFrom b w (adding g ∷ cs) ≡ g ∷ takenFrom (placed b (w .at) (subobjectOf (formOf (w .form)) g)) (behind w g) cs)
 unfolding actsRun takenFrom addAnswerIn addBufferIn
 after-add b w g cs e = (rw e, rw e)
 
-after-refused : (b : List ℕ) (w : Writer) (g : Segment) (cs : List Act) (k : ℕ) → addNumber (formOf (w .form)) (length b) (w .ero) (w .at) g ≡ suc k
+after-refused : (b : List ℕ) (w : Writer) (g : Segment) (cs : List WriterCall) (k : ℕ) → addNumber (formOf (w .form)) (length b) (w .ero) (w .at) g ≡ suc k
     → (actsRun b w (adding g ∷ cs) ≡ actsRun b w cs) × (takenFrom b w (adding g ∷ cs) ≡ takenFrom b w cs)
 unfolding actsRun takenFrom addAnswerIn addBufferIn
 after-refused b w g cs k e = (rw e, rw e)
 
-after-finish : (b : List ℕ) (w : Writer) (cs : List Act) → finishNumber (length b) (w .at) ≡ 0
+after-finish : (b : List ℕ) (w : Writer) (cs : List WriterCall) → finishNumber (length b) (w .at) ≡ 0
     → (actsRun b w (finishing ∷ cs) ≡ actsRun (placed b 2 (hi (w .at) ∷ lo (w .at) ∷ [])) w cs)
     × (takenFrom b w (finishing ∷ cs) ≡ takenFrom (placed b 2 (hi (w .at) ∷ lo (w .at) ∷ [])) w cs)
 unfolding actsRun takenFrom finishAnswer finishBuffer
 after-finish b w cs e = (rw e, rw e)
 
-after-unfinished : (b : List ℕ) (w : Writer) (cs : List Act) (k : ℕ) → finishNumber (length b) (w .at) ≡ suc k
+after-unfinished : (b : List ℕ) (w : Writer) (cs : List WriterCall) (k : ℕ) → finishNumber (length b) (w .at) ≡ suc k
     → (actsRun b w (finishing ∷ cs) ≡ actsRun b w cs) × (takenFrom b w (finishing ∷ cs) ≡ takenFrom b w cs)
 unfolding actsRun takenFrom finishAnswer finishBuffer
 after-unfinished b w cs k e = (rw e, rw e)
 
 -- The calls behind begin, on one buffer, and the adds that were accepted, on the other: what is said of the calls that are left.
-abbrev Same : Bool → List Act → Type 0
+abbrev Same : Bool → List WriterCall → Type 0
 Same ero cs = (b c : List ℕ) (w : Writer) → Alike ero b c → Accepted (actsRun b w cs) → actsRun b w cs ≡ addsRun c w (takenFrom b w cs)
 
-add-turn : {ero : Bool} (g : Segment) (cs : List Act) → Same ero cs → (b c : List ℕ) (w : Writer) → Alike ero b c → Accepted (actsRun b w (adding g ∷ cs))
+add-turn : {ero : Bool} (g : Segment) (cs : List WriterCall) → Same ero cs → (b c : List ℕ) (w : Writer) → Alike ero b c → Accepted (actsRun b w (adding g ∷ cs))
     → (n : ℕ) → addNumber (formOf (w .form)) (length b) (w .ero) (w .at) g ≡ n → actsRun b w (adding g ∷ cs) ≡ addsRun c w (takenFrom b w (adding g ∷ cs))
 add-turn g cs ih b c w a e ℕ.zero q =
     let x = subobjectOf (formOf (w .form)) g in
@@ -116,7 +116,7 @@ add-turn g cs ih b c w a e (ℕ.suc k) q =
     let p = after-refused b w g cs k q in
     p .0 ∙ ih b c w a (rw (p .0) at e) ∙ sym (ap (addsRun c w) (p .1))
 
-finish-turn : {ero : Bool} (cs : List Act) → Same ero cs → (b c : List ℕ) (w : Writer) → Alike ero b c → Accepted (actsRun b w (finishing ∷ cs))
+finish-turn : {ero : Bool} (cs : List WriterCall) → Same ero cs → (b c : List ℕ) (w : Writer) → Alike ero b c → Accepted (actsRun b w (finishing ∷ cs))
     → (n : ℕ) → finishNumber (length b) (w .at) ≡ n → actsRun b w (finishing ∷ cs) ≡ addsRun c w (takenFrom b w (finishing ∷ cs))
 finish-turn {ero} cs ih b c w a e ℕ.zero q =
     let p = after-finish b w cs q in
@@ -128,7 +128,7 @@ finish-turn cs ih b c w a e (ℕ.suc k) q =
     let p = after-unfinished b w cs k q in
     p .0 ∙ ih b c w a (rw (p .0) at e) ∙ sym (ap (addsRun c w) (p .1))
 
-acts : {ero : Bool} (cs : List Act) → Same ero cs
+acts : {ero : Bool} (cs : List WriterCall) → Same ero cs
 acts [] b c w a e = none-left b c w a e
 acts (adding g ∷ cs) b c w a e = add-turn g cs (acts cs) b c w a e (addNumber (formOf (w .form)) (length b) (w .ero) (w .at) g) refl
 acts (finishing ∷ cs) b c w a e = finish-turn cs (acts cs) b c w a e (finishNumber (length b) (w .at)) refl
@@ -138,7 +138,7 @@ unfolding headerOf over
 begun b ero = refl
 
 -- Begin, adds and finishes in any order, then a finish that is accepted: all is as after begin, the adds that were accepted, and finish.
-pub any-run : (b : List ℕ) (w : Writer) (ero : Bool) (pst : ℕ) (cs : List Act) → Accepted (anyRun b w ero pst cs)
+pub any-run : (b : List ℕ) (w : Writer) (ero : Bool) (pst : ℕ) (cs : List WriterCall) → Accepted (anyRun b w ero pst cs)
     → anyRun b w ero pst cs ≡ writeRun b w ero pst (takenIn b w ero pst cs)
 unfolding anyRun writeRun takenIn beginAnswer beginBuffer
 any-run b w ero pst cs e =

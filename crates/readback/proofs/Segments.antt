@@ -22,7 +22,7 @@ use Rattle.subobject.specs.Segments.{segmentBy, segmentAt, outlineOf, headOfSeg
 use Rattle.subobject_strays.specs.Strays.{strayFlags, structureFlags, reservedOctets, anySet, straysBy, straysAt, noStrays}
 use Rattle.writer_spare.specs.Held.{Held}
 use Rattle.writer_spare.specs.Spare.{zeros, tidyOf}
-use Rattle.writer_layout.specs.Readable.{together, Marks, Apart, Readable}
+use Rattle.writer_layout.specs.Readable.{together, Marks, FlagsApart, Readable}
 use Rattle.writer_layout.proofs.Laws.{length-fixed, length-sid, length-nai, length-subobject, length-structure, flags-small, bit-most, four}
 use Rattle.octets.proofs.Said.{both-true, either-false, cond-most}
 use Rattle.writer_rules.specs.Refusals.{foreign, unfit}
@@ -377,7 +377,7 @@ module _ {form : Form} (z : Sized form) (r : Readable form) {s : List ℕ} {at :
 
   -- Every ignored bit of a segment that was written is 0: those, V in an RRO, and T where there is no SID.
   apart-of : {ero : Bool} → Plain form ero g
-      → Apart form (bit (g .verify)) (bit (g .structured)) (flagF (g .nt)) (bit (not (g .hassid))) (bit (g .complete)) (bit (g .labelled))
+      → FlagsApart form (bit (g .verify)) (bit (g .structured)) (flagF (g .nt)) (bit (not (g .hassid))) (bit (g .complete)) (bit (g .labelled))
   apart-of {ero} p =
       r .apart (bit (g .verify)) (bit (g .structured)) (flagF (g .nt)) (bit (not (g .hassid))) (bit (g .complete)) (bit (g .labelled)) (marks-of form ero g p)
 

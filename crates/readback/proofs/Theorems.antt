@@ -24,7 +24,7 @@ use Rattle.writer_spare.specs.Spare.{zeros}
 use Rattle.forms.proofs.Laws.{sized-by}
 use Rattle.writer_layout.proofs.Forms.{readable-by}
 use Rattle.writer.specs.declared.state.Writer.{Writer}
-use Rattle.readback.specs.Runs.{Act, writeRun, anyRun, takenIn, Accepted, objectIn, AllHeld, openSession}
+use Rattle.readback.specs.Runs.{WriterCall, writeRun, anyRun, takenIn, Accepted, objectIn, AllHeld, openSession}
 use Rattle.objects.specs.Objects.{typePlace, typeWorth}
 use Rattle.readback.specs.Ignored.{Octets, strayBitsAt, strayBitsIn, assignedIn, ignoredOf, segmentsRead}
 use Rattle.readback.proofs.Images as images
@@ -126,6 +126,6 @@ stray-bits pst s ero at o = strays.stray-bits (sized-by pst) (readable-by pst) s
 
 -- 5. Adds that are refused, and finishes in between, change nothing: begin, adds and finishes in any order and then a finish that is
 -- accepted end, state and buffer, as begin, the adds that were accepted, and finish. So 1, 2 and 3 hold of such runs too.
-pub any-run : (b : List ℕ) (w : Writer) (ero : Bool) (pst : ℕ) (cs : List Act) → Accepted (anyRun b w ero pst cs)
+pub any-run : (b : List ℕ) (w : Writer) (ero : Bool) (pst : ℕ) (cs : List WriterCall) → Accepted (anyRun b w ero pst cs)
     → anyRun b w ero pst cs ≡ writeRun b w ero pst (takenIn b w ero pst cs)
 any-run b w ero pst cs e = mixed.any-run b w ero pst cs e

@@ -56,28 +56,28 @@ abbrev pub objectIn : Run → List ℕ
 objectIn r = take (r .written .writer .at) (r .buffer)
 
 -- Calls in any order behind a begin: adds, refused ones too, and finishes in between.
-pub data Act : Type 0 where
-  adding : Segment → Act
-  finishing : Act
+pub data WriterCall : Type 0 where
+  adding : Segment → WriterCall
+  finishing : WriterCall
 
 -- Each call gets what the last one left, whether it was refused or not; a finish stands at the end.
-unfoldable pub actsRun : List ℕ → Writer → List Act → Run
+unfoldable pub actsRun : List ℕ → Writer → List WriterCall → Run
 actsRun b w [] = finishRun b w
 actsRun b w (adding g ∷ cs) = actsRun (addBuffer b w g) (addAnswer b w g .writer) cs
 actsRun b w (finishing ∷ cs) = actsRun (finishBuffer b w) (finishAnswer b w .writer) cs
 
-unfoldable pub anyRun : List ℕ → Writer → Bool → ℕ → List Act → Run
+unfoldable pub anyRun : List ℕ → Writer → Bool → ℕ → List WriterCall → Run
 anyRun b w ero pst cs = onward (beginRun b w ero pst) (λ b′ w′. actsRun b′ w′ cs)
 
 -- The segments of the adds that were accepted.
-unfoldable pub takenFrom : List ℕ → Writer → List Act → List Segment
+unfoldable pub takenFrom : List ℕ → Writer → List WriterCall → List Segment
 takenFrom b w [] = []
 takenFrom b w (adding g ∷ cs) =
     kept (addAnswer b w g .verdict .number) (takenFrom (addBuffer b w g) (addAnswer b w g .writer) cs)
     (g ∷ takenFrom (addBuffer b w g) (addAnswer b w g .writer) cs)
 takenFrom b w (finishing ∷ cs) = takenFrom (finishBuffer b w) (finishAnswer b w .writer) cs
 
-unfoldable pub takenIn : List ℕ → Writer → Bool → ℕ → List Act → List Segment
+unfoldable pub takenIn : List ℕ → Writer → Bool → ℕ → List WriterCall → List Segment
 takenIn b w ero pst cs = takenFrom (beginBuffer b w ero) (beginAnswer b w ero pst .writer) cs
 
 -- what stands in it --------------------------------------------------------------------------------------------

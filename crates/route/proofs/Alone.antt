@@ -34,13 +34,13 @@ use Rattle.route.specs.Alone.{
   structureAlone,
   headAlone,
   fourFrom,
-  checksBy,
+  oneChecks,
   checksIn,
-  straysBy,
+  oneStrays,
   strayCountIn,
   acceptanceAlone,
   judgeAlone,
-  segmentBy,
+  oneSegment,
   pickAlone,
   segmentAlone,
 }
@@ -116,15 +116,15 @@ module _ (s : List ℕ) (ero : Bool) (at : ℕ) where
   unfolding rule30
   r30 time = rw unlabelled
 
-  checks-alone : (n : Bool) (v : Verdict) → firstBroken (checksAt srv6Form s ero n at) v ≡ firstBroken (checksBy head s ero n at) v
+  checks-alone : (n : Bool) (v : Verdict) → firstBroken (checksAt srv6Form s ero n at) v ≡ firstBroken (oneChecks head s ero n at) v
   unfolding rule9 rule10
   checks-alone n v = rw (head-alone, r8, r7, r11, r29 (labelAt s (sidPlace srv6Form at)), r30 (timeAt s (sidPlace srv6Form at)))
 
-  strays-alone : straysAt srv6Form s ero at ≡ straysBy head s at
+  strays-alone : straysAt srv6Form s ero at ≡ oneStrays head s at
   unfolding straysAt strayFlags structureFlags reservedOctets hasStructure
   strays-alone = rw (head-alone, nai-alone (head .nt))
 
-  segment-alone : segmentAt srv6Form s ero at ≡ segmentBy head s at
+  segment-alone : segmentAt srv6Form s ero at ≡ oneSegment head s at
   unfolding segmentAt hasStructure
   segment-alone = rw (head-alone, nai-alone (head .nt))
 
@@ -135,8 +135,8 @@ all-alone s ero n [] v = refl
 all-alone s ero n (p ∷ ps) v =
     first-append (checksAt srv6Form s ero n p) (subobjectChecks srv6Form s ero n ps) v
     ∙ checks-alone s ero p n (firstBroken (subobjectChecks srv6Form s ero n ps) v)
-    ∙ ap (firstBroken (checksBy (headAlone s ero p) s ero n p)) (all-alone s ero n ps v)
-    ∙ sym (first-append (checksBy (headAlone s ero p) s ero n p) (checksIn s ero n ps) v)
+    ∙ ap (firstBroken (oneChecks (headAlone s ero p) s ero n p)) (all-alone s ero n ps v)
+    ∙ sym (first-append (oneChecks (headAlone s ero p) s ero n p) (checksIn s ero n ps) v)
 
 count-alone : (s : List ℕ) (ero : Bool) (ps : List ℕ) → strayIn srv6Form s ero ps ≡ strayCountIn s ero ps
 count-alone s ero [] = refl

@@ -53,8 +53,8 @@ abbrev pub fourFrom : List ℕ → ℕ → ℕ
 fourFrom s at = octetOf s at + octetOf s (at + 1) + octetOf s (at + 2) + octetOf s (at + 3)
 
 -- "In each: 8, 9, 7, 10, 11."
-abbrev pub checksBy : Head → List ℕ → Bool → Bool → ℕ → List Check
-checksBy h s ero n at =
+abbrev pub oneChecks : Head → List ℕ → Bool → Bool → ℕ → List Check
+oneChecks h s ero n at =
     check 8 at (not (eqb (h .nt) 0 || (eqb (h .nt) 2 || (eqb (h .nt) 4 || eqb (h .nt) 6))))
     ∷ check 9 at (eqb (h .s) 1 && eqb (h .f) 1)
     ∷ check 7 at (not (eqb (h .f) (cond (eqb (h .nt) 0) 1 0)) || not (eqb (h .size) (lengthAlone (h .nt) (h .s) (h .t))))
@@ -64,11 +64,11 @@ checksBy h s ero n at =
 
 abbrev pub checksIn : List ℕ → Bool → Bool → List ℕ → List Check
 checksIn s ero n [] = []
-checksIn s ero n (p ∷ ps) = checksBy (headAlone s ero p) s ero n p ++ checksIn s ero n ps
+checksIn s ero n (p ∷ ps) = oneChecks (headAlone s ero p) s ero n p ++ checksIn s ero n ps
 
 -- What is set that ought to be 0.
-abbrev pub straysBy : Head → List ℕ → ℕ → Strays
-straysBy h s at =
+abbrev pub oneStrays : Head → List ℕ → ℕ → Strays
+oneStrays h s at =
     record {
       flags = be16 s (at + 2) % 4096 / 16 * 16;
       structure = cond (structured (h .s) (h .t)) (octetOf s (structureAlone at (h .nt) + 4 + 3)) 0;
@@ -81,7 +81,7 @@ straysBy h s at =
 
 abbrev pub strayCountIn : List ℕ → Bool → List ℕ → ℕ
 strayCountIn s ero [] = 0
-strayCountIn s ero (p ∷ ps) = strayOne (straysBy (headAlone s ero p) s p) + strayCountIn s ero ps
+strayCountIn s ero (p ∷ ps) = strayOne (oneStrays (headAlone s ero p) s p) + strayCountIn s ero ps
 
 -- "Checks on the whole, in order: 4, 5, 6, 14, 13. Then subobject by subobject .. Last 12."
 abbrev pub checksAlone : List ℕ → Bool → Session → ℕ → List Check
@@ -97,8 +97,8 @@ unfoldable pub judgeAlone : List ℕ → Bool → Session → ℕ → Verdict
 judgeAlone s ero session pst = firstBroken (checksAlone s ero session pst) (acceptanceAlone s ero)
 
 -- What the octets of a subobject say: neither M nor C.
-abbrev pub segmentBy : Head → List ℕ → ℕ → Segment
-segmentBy h s at =
+abbrev pub oneSegment : Head → List ℕ → ℕ → Segment
+oneSegment h s at =
     record {
       loose = eqb (h .l) 1;
       verify = eqb (h .v) 1;
@@ -122,6 +122,6 @@ unfoldable pub segmentAlone : List ℕ → Bool → Session → ℕ → ℕ → 
 segmentAlone s ero session pst i =
     record {
       verdict = pickAlone s ero session pst i;
-      segment = cond (eqb (pickAlone s ero session pst i .number) 0) (segmentBy (headAlone s ero (getD (placesOf s) i 0)) s (getD (placesOf s) i 0)) noSegment;
-      strays = cond (eqb (pickAlone s ero session pst i .number) 0) (straysBy (headAlone s ero (getD (placesOf s) i 0)) s (getD (placesOf s) i 0)) noStrays;
+      segment = cond (eqb (pickAlone s ero session pst i .number) 0) (oneSegment (headAlone s ero (getD (placesOf s) i 0)) s (getD (placesOf s) i 0)) noSegment;
+      strays = cond (eqb (pickAlone s ero session pst i .number) 0) (oneStrays (headAlone s ero (getD (placesOf s) i 0)) s (getD (placesOf s) i 0)) noStrays;
     }

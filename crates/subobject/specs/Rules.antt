@@ -99,33 +99,33 @@ subjectBy form h s ero n at =
 abbrev pub subjectAt : Form → List ℕ → Bool → Bool → ℕ → Subject
 subjectAt form s ero n at = subjectBy form (headAt form s ero at) s ero n at
 
--- A row of the table: a rule's number, whether its refusal names the octet of the subobject, and when it is broken.
+-- A ruleRow of the table: a rule's number, whether its refusal names the octet of the subobject, and when it is broken.
 pub record Row : Type 0 where
   pub number : ℕ
   pub placed : Bool
   pub broken : Subject → Bool
 
-abbrev pub row : ℕ → Bool → (Subject → Bool) → Row
-row number placed broken = record { number = number; placed = placed; broken = broken }
+abbrev pub ruleRow : ℕ → Bool → (Subject → Bool) → Row
+ruleRow number placed broken = record { number = number; placed = placed; broken = broken }
 
 -- "In each: 8, 9, 7, 10, 11"; "29 bad label value, 30 bad label format, after 11". "The place .. is for 6 to 11 the octet of the subobject at fault, ..
 -- otherwise 0."
 abbrev pub rules : List Row
 rules =
-    row naiUnknown true (λ x. rule8 (x .form) (x .head))
-    ∷ row nothingThere true (λ x. rule9 (x .head))
-    ∷ row lengthWrong true (λ x. rule7 (x .form) (x .head))
-    ∷ row sidNeeded true (λ x. rule10 (x .head) (x .ero) (x .n))
-    ∷ row structureTooLong true (λ x. rule11 (x .head) (x .bits))
-    ∷ row labelValue false (λ x. rule29 (x .head) (x .label))
-    ∷ row labelFormat false (λ x. rule30 (x .head) (x .time))
+    ruleRow naiUnknown true (λ x. rule8 (x .form) (x .head))
+    ∷ ruleRow nothingThere true (λ x. rule9 (x .head))
+    ∷ ruleRow lengthWrong true (λ x. rule7 (x .form) (x .head))
+    ∷ ruleRow sidNeeded true (λ x. rule10 (x .head) (x .ero) (x .n))
+    ∷ ruleRow structureTooLong true (λ x. rule11 (x .head) (x .bits))
+    ∷ ruleRow labelValue false (λ x. rule29 (x .head) (x .label))
+    ∷ ruleRow labelFormat false (λ x. rule30 (x .head) (x .time))
     ∷ []
 
 -- How many checks a subobject has.
 abbrev pub ruleCount : ℕ
 ruleCount = 7
 
--- Whether the rule of a number is broken; a number that is in no row breaks nothing.
+-- Whether the rule of a number is broken; a number that is in no ruleRow breaks nothing.
 abbrev pub brokenIn : List Row → Subject → ℕ → Bool
 brokenIn [] x number = false
 brokenIn (r ∷ rs) x number = cond (eqb number (r .number)) (r .broken x) (brokenIn rs x number)
@@ -134,9 +134,9 @@ unfoldable pub brokenBy : Subject → ℕ → Bool
 brokenBy x number = brokenIn rules x number
 
 -- The place that a refusal by a number names, for the subobject at `at`.
-abbrev pub placeIn : List Row → ℕ → ℕ → ℕ
-placeIn [] number at = 0
-placeIn (r ∷ rs) number at = cond (eqb number (r .number)) (cond (r .placed) at 0) (placeIn rs number at)
+abbrev pub rulePlaceIn : List Row → ℕ → ℕ → ℕ
+rulePlaceIn [] number at = 0
+rulePlaceIn (r ∷ rs) number at = cond (eqb number (r .number)) (cond (r .placed) at 0) (rulePlaceIn rs number at)
 
 unfoldable pub placeBy : ℕ → ℕ → ℕ
-placeBy number at = placeIn rules number at
+placeBy number at = rulePlaceIn rules number at

@@ -8,9 +8,9 @@ use Rattle.forms.specs.declared.Form.{Form}
 use Rattle.forms.specs.Forms.{srv6Form, mplsForm, formOf, flagIn, naiLength}
 use Rattle.forms.proofs.Laws.{of-both, srv6-fours, mpls-fours}
 use Rattle.writer_spare.specs.Steps.{Step}
-use Rattle.writer_layout.specs.Readable.{together, Marks, Apart, Readable}
+use Rattle.writer_layout.specs.Readable.{together, Marks, FlagsApart, Readable}
 
-srv6-apart : (v t f s c m : ℕ) → Marks srv6Form v t f s c m → Apart srv6Form v t f s c m
+srv6-apart : (v t f s c m : ℕ) → Marks srv6Form v t f s c m → FlagsApart srv6Form v t f s c m
 unfolding flagIn
 srv6-apart v t f s c m k =
     let hc = k .no-c refl in
@@ -25,7 +25,7 @@ srv6-apart v t f s c m k =
       none = omega (arith, k .bit-v, k .bit-t, k .bit-f, k .bit-s, k .bit-c, k .bit-m, hc, hm);
     }
 
-mpls-apart : (v t f s c m : ℕ) → Marks mplsForm v t f s c m → Apart mplsForm v t f s c m
+mpls-apart : (v t f s c m : ℕ) → Marks mplsForm v t f s c m → FlagsApart mplsForm v t f s c m
 unfolding flagIn
 mpls-apart v t f s c m k =
     let ht = k .no-t refl in

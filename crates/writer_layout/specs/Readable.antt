@@ -23,7 +23,7 @@ pub record Marks (form : Form) (v t f s c m : ℕ) : Type 0 where
   pub no-m : form .m ≡ 0 → m ≡ 0
 
 -- Each flag reads back as it was written, and none that is not assigned is set.
-pub record Apart (form : Form) (v t f s c m : ℕ) : Type 0 where
+pub record FlagsApart (form : Form) (v t f s c m : ℕ) : Type 0 where
   pub back-v : flagIn (together form v t f s c m) (form .v) ≡ v
   pub back-t : flagIn (together form v t f s c m) (form .t) ≡ t
   pub back-f : flagIn (together form v t f s c m) (form .f) ≡ f
@@ -43,7 +43,7 @@ pub record Readable (form : Form) : Type 0 where
   pub steps : (nt : ℕ) → Step (naiLength form nt)
   -- all flags fit into an octet, and stand apart in it
   pub most : form .v + form .t + form .f + form .s + form .c + form .m < 256
-  pub apart : (v t f s c m : ℕ) → Marks form v t f s c m → Apart form v t f s c m
+  pub apart : (v t f s c m : ℕ) → Marks form v t f s c m → FlagsApart form v t f s c m
   -- an octet is its flags, and those that are not assigned
   pub whole : (a : ℕ) → a < 256
       → a / form .free * form .free

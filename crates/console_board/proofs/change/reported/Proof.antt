@@ -1,6 +1,6 @@
 use native.Mathlib.Omega.{arith}
 use Rattle.console_state.proofs.Laws.{spelled}
-use Rattle.board_report_by_value.specs.ByValue.{reportOn, reportStoreOn}
+use Rattle.board_report_by_value.specs.ByValue.{reportByValue, reportStoreByValue}
 use mathlib.Core.Path.{_∙_}
 use borrow.Author.Needs.{needs}
 use Rattle.console_board.proofs.change.reported.Statement.{statement}
@@ -42,10 +42,10 @@ returns c =
     let a = before11 .before .before .before .before .before .before .before .before .before .before .args in
     let s = spelled _ _ (before11 .before .before .before .octets-at .ensures .0) in
     let l = before11 .listed .ensures in
-    let e = before8 .report .ensures .0 ∙ (λ i. reportOn (a .b) (a .store .now) (a .c .one) (s i) (a .both) (a .c .two) (l i)) in (
+    let e = before8 .report .ensures .0 ∙ (λ i. reportByValue (a .b) (a .store .now) (a .c .one) (s i) (a .both) (a .c .two) (l i)) in (
       rw (← e),
       (
-        before8 .report .ensures .1 ∙ (λ i. reportStoreOn (a .b) (a .store .now) (a .c .one) (s i) (a .both) (a .c .two) (l i)),
+        before8 .report .ensures .1 ∙ (λ i. reportStoreByValue (a .b) (a .store .now) (a .c .one) (s i) (a .both) (a .c .two) (l i)),
         rw (← e) (c .before .before .counted .ensures),
       ),
     )

@@ -2,7 +2,7 @@ use Rattle.board_look_by_value.proofs.Inside.{body-inside}
 use Rattle.console_board.specs.Boarding.{bodyLine}
 use Rattle.console_state.proofs.Laws.{told-refused, told-accepted}
 use Rattle.console_lines.specs.Lines.{formLine}
-use Rattle.board_look_by_value.specs.ByValue.{bodyOn, bodyFormOn}
+use Rattle.board_look_by_value.specs.ByValue.{bodyByValue, bodyFormByValue}
 use lib.ListN.{length}
 use mathlib.Core.Path.{ap}
 use native.Mathlib.Omega.{arith}
@@ -25,7 +25,7 @@ returns c =
     let before6 = c .before .before .before .before .before .before in
     let a = before6 .before .before .before .args in
     rw (← before6 .body-number .ensures)
-    (told-refused (before6 .body-number .result) (formLine (bodyFormOn (a .b) (a .store .now) (a .c .one)) (bodyOn (a .b) (a .store .now) (a .c .one)))
+    (told-refused (before6 .body-number .result) (formLine (bodyFormByValue (a .b) (a .store .now) (a .c .one)) (bodyByValue (a .b) (a .store .now) (a .c .one)))
     (c .before .before .before .before .if1 .taken) (c .before .before .refusal .ensures .0))
 
 body-form-requires : tie.Need-body-form-requires
