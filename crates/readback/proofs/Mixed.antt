@@ -16,7 +16,7 @@ use Rattle.writer_rules.specs.Refusals.{addNumber, finishNumber}
 use Rattle.writer_rules.proofs.Laws.{taken}
 use Rattle.writer.specs.Writing.{headerOf, beginNumber, beginAnswer, beginBuffer, addAnswerIn, addBufferIn, addAnswer, addBuffer, finishAnswer, finishBuffer}
 use Rattle.readback.specs.Runs.{Run, WriterCall, onward, beginRun, finishRun, addsRun, writeRun, actsRun, anyRun, takenFrom, takenIn, Accepted}
-use Rattle.readback.specs.Runs.Act.{adding, finishing}
+use Rattle.readback.specs.Runs.WriterCall.{adding, finishing}
 use Rattle.readback.proofs.Images.{went-on, begin-number, finish-number, add-onward, begin-onward}
 
 -- Two buffers that hold one object under way, but for the length in the header.
