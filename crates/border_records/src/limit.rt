@@ -51,7 +51,7 @@ fn cut(n: usize) -> u16
     if n < LARGEST {
         return n as u16;
     }
-    65535
+    LARGEST as u16
 }
 
 // The limit in 16 bits, 0 where there is none.

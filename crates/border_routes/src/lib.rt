@@ -11,16 +11,36 @@ use border_segment::PickedRecord;
 use border_segment::SteppedRecord;
 use border_session::SessionRecord;
 
-// The verdict on a route. Where neither flag is agreed v and m are not looked for.
+// The verdict on a route. MPLS's session has no flags; where neither of SRv6's is agreed v and m are not looked for.
 fn judged(octets: &[u8], kind: bool, session: SessionRecord, pst: u64, addresses: &[u8]) -> Verdict
     ensures judged { λ r. ⌜ r ≡ judgedFor (now (octets .entry)) kind (sessionsIn session) pst (now (addresses .entry)) ⌝ }
 {
+    if pst == objects::MPLS_SETUP {
+        return route_call::judge_plain(
+            octets,
+            kind,
+            border_records::yes(session.mpls),
+            border_records::yes(session.mplsn),
+            border_records::yes(session.mplslimited),
+            session.mplslimit as usize,
+            pst,
+            addresses,
+        );
+    }
     if border_session::flagged(session, pst) {
         let own = border_session::session_under(session, pst);
         return route_call::judge_in(octets, kind, own, pst, addresses);
     }
-    let plain = border_session::plain_under(session, pst);
-    route_call::judge_plain(octets, kind, plain, pst, addresses)
+    route_call::judge_plain(
+        octets,
+        kind,
+        border_records::yes(session.agreed),
+        border_records::yes(session.n),
+        border_records::yes(session.limited),
+        session.limit as usize,
+        pst,
+        addresses,
+    )
 }
 
 // The verdict on a route under a session and a setup type. An acceptance is laid out by its counts alone, which is

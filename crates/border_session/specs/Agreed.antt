@@ -54,10 +54,6 @@ sessionsOut s =
       mplslimit = shortOf (s .mpls .limit);
     }
 
--- Whether A or R is agreed,
+-- Whether A or R is agreed.
 abbrev pub flaggedOf : Session → Bool
 flaggedOf x = x .a || x .r
-
--- and a session without them, and without v and m, which only they bring in.
-abbrev pub plainOf : Session → Session
-plainOf x = record { agreed = x .agreed; n = x .n; limit = x .limit; a = false; r = false; v = absent; m = absent }

@@ -2,7 +2,7 @@
 // the PCC's N and limit. The 16 octets are handed on in two registers, so a limit has 16 bits: no route has as many segments.
 ghost use mathlib.Core.Path.{_≡_};
 ghost use Rattle.session.specs.Sessions.{sessionUnder};
-ghost use Rattle.border_session.specs.Agreed.{srv6In, mplsIn, sessionsIn, sessionsOut, flaggedOf, plainOf};
+ghost use Rattle.border_session.specs.Agreed.{srv6In, mplsIn, sessionsIn, sessionsOut, flaggedOf};
 use msd::ABSENT;
 use session::Session;
 use session::Sessions;
@@ -80,23 +80,6 @@ pub fn flagged(s: SessionRecord, pst: u64) -> bool
         return false;
     }
     octets::either(border_records::yes(s.a), border_records::yes(s.r))
-}
-
-// That session with neither flag, and without v and m, which only a flag brings in.
-pub fn plain_under(s: SessionRecord, pst: u64) -> Session
-    ensures plain { λ r. ⌜ r ≡ plainOf (sessionUnder (sessionsIn s) pst) ⌝ }
-{
-    let own = session_under(s, pst);
-    let limit = own.limit;
-    Session {
-        agreed: own.agreed,
-        n: own.n,
-        limit: limit,
-        a: false,
-        r: false,
-        v: ABSENT,
-        m: ABSENT,
-    }
 }
 
 pub fn sessions_out(s: Sessions) -> SessionRecord

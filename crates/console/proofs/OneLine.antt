@@ -271,7 +271,8 @@ by-verb-one v.Lent h k c line n = octets-one (k .lent)
 by-verb-one v.Report h k c line n = count-one _
 by-verb-one v.Remove h k c line n = plain-one _
 by-verb-one v.Compact h k c line n = plain-one _
-by-verb-one v.Body h k c line n = answer-one (bodyNumberByValue (k .board) (k .store) (c .one)) _ (form-one (bodyFormByValue (k .board) (k .store) (c .one)) (bodyByValue (k .board) (k .store) (c .one)))
+by-verb-one v.Body h k c line n =
+    answer-one (bodyNumberByValue (k .board) (k .store) (c .one)) _ (form-one (bodyFormByValue (k .board) (k .store) (c .one)) (bodyByValue (k .board) (k .store) (c .one)))
 by-verb-one v.Next h k c line n = handed-one (k .store) (nextByValue (k .board) (k .store) (c .one) (c .two))
 by-verb-one v.Mark h k c line n = two-one (freshMarkOn (k .board) .s) (freshMarkOn (k .board) .w)
 by-verb-one v.Board h k c line n = two-one (k .board .version) (k .board .floor)

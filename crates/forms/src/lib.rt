@@ -33,6 +33,9 @@ const SRV6_NAIS: u64 = 16 * NT2 + 32 * NT4 + 40 * NT6;
 
 const MPLS_NAIS: u64 = 4 * NT1 + 16 * NT2 + 8 * NT3 + 32 * NT4 + 16 * NT5 + 40 * NT6;
 
+// what S is worth in octet 3 of MPLS
+pub const MPLS_S: usize = 4;
+
 // the last NT that a form may know
 const LAST_NT: usize = 6;
 
@@ -89,7 +92,7 @@ pub fn mpls() -> Form
         v: 16,
         t: 0,
         f: 8,
-        s: 4,
+        s: MPLS_S as u8,
         c: 2,
         m: 1,
         free: 32,

@@ -6,17 +6,23 @@ use mathlib.Core.Logic.{_⊎_, inl, inr}
 use mathlib.Core.Bool.{Bool, true, false, cond, not, _&&_}
 use lib.Dec.{eqb}
 use lib.ListN.{length, drop}
-use borrow.Author.Tests.{eqb-true, eqb-false, not-false}
+use borrow.Author.Tests.{eqb-true, eqb-false, le-ltb, not-false}
 use Rattle.octets.proofs.Said.{both-true}
 use Rattle.objects.specs.Objects.{header, unit, mplsSetup, srv6Setup}
 use Rattle.forms.specs.declared.Form.{Form}
 use Rattle.forms.specs.Forms.{srv6Form, mplsForm, formOf}
 use Rattle.forms.proofs.Laws.{form-mpls, form-srv6, srv6-shortest, mpls-shortest}
 use Rattle.answers.specs.declared.verdict.Verdict.{Verdict}
+use Rattle.answers.specs.Verdicts.{carryingBoth}
 use Rattle.msd.specs.Msd.{absent}
 use Rattle.session.specs.declared.Limit.{Limit}
+use Rattle.session.specs.declared.Limit.the-variants.{Free, Most}
 use Rattle.session.specs.declared.Session.{Session}
+use Rattle.route_rules.specs.SessionRules.{rule12}
+use Rattle.route_rules.specs.Parts.{limitedOf}
+use Rattle.route_glance.specs.Settled.{Settled}
 use Rattle.route.specs.declared.picking.Picked.{Picked}
+use Rattle.route.specs.Parts.{sessionBy, limitThere, mostAllowed}
 use Rattle.route.specs.Routes.{rule13, judgeAs, segmentAs, judgeOf, segmentOf}
 use Rattle.route.proofs.Answer as answer
 use Rattle.route.proofs.Numbers as numbers
@@ -91,3 +97,31 @@ pub judge-parts : (s : List ℕ) (ero : Bool) (session : Session) (pst : ℕ) (l
     → judgeOf s ero (record { agreed = session .agreed; n = session .n; limit = limit; a = false; r = false; v = absent; m = absent }) pst ≡ judgeOf s ero session pst
 unfolding judgeOf judgeAs
 judge-parts s ero session pst limit e = rw (← e)
+
+limit-parts : (limit : Limit) → limit ≡ cond (limitThere limit) (Most (mostAllowed limit)) Free
+limit-parts Free = refl
+limit-parts (Most most) = refl
+
+pub judge-session : (s : List ℕ) (ero : Bool) (session : Session) (pst : ℕ) (has : Bool) (most : ℕ) → has ≡ limitThere (session .limit) → most ≡ mostAllowed (session .limit)
+    → judgeOf s ero (sessionBy (session .agreed) (session .n) has most) pst ≡ judgeOf s ero session pst
+judge-session s ero session pst has most h m = rw (h, m) (judge-parts s ero session pst _ (limit-parts (session .limit)))
+
+-- the pass -----------------------------------------------------------------------------------------------------
+
+-- Where it settled a route, and 13 and 12 are not broken, the route is accepted.
+module _ (s : List ℕ) (ero agreed n has : Bool) (most pst : ℕ) {count stray : ℕ} (x : Settled (formOf pst) s ero n count stray) where
+  unlimited : (has ≡ true → count ≤ most) → carryingBoth count stray ≡ limitedOf s ero (cond has (Most most) Free) (carryingBoth count stray)
+  unfolding limitedOf rule12
+  unlimited l = go has ero l
+    where
+      go : (has ero : Bool) → (has ≡ true → count ≤ most) → carryingBoth count stray ≡ limitedOf s ero (cond has (Most most) Free) (carryingBoth count stray)
+      go false true l = refl
+      go false false l = refl
+      go true false l = refl
+      go true true l = rw (le-ltb most count (l refl))
+
+  pub pass-accepts : rule13 (formOf pst) agreed pst ≡ false → (has ≡ true → count ≤ most) → carryingBoth count stray ≡ judgeOf s ero (sessionBy agreed n has most) pst
+  pass-accepts e l =
+      let session = sessionBy agreed n has most in
+      by-named s ero session pst refl
+      (answer.walk-then-limit (formOf pst) s ero session pst (answer.settled-none _ _ _ _ x) _ _ count e (sym (x .walk)) (answer.settled-count _ _ _ _ x) (unlimited l))

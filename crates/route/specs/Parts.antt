@@ -1,6 +1,6 @@
 -- Parts of the judgement. No promise rests on them: contracts of inner functions cite them, and proofs put them together to Routes.
 use Prim.Native.Nat.{ℕ}
-use mathlib.Core.Bool.{Bool, false, cond}
+use mathlib.Core.Bool.{Bool, true, false, cond}
 use Rattle.msd.specs.Msd.{absent}
 use Rattle.session.specs.declared.Limit.{Limit}
 use Rattle.session.specs.declared.Limit.the-variants.{Free, Most}
@@ -18,3 +18,12 @@ nothingWith v = record { verdict = v; segment = noSegment; strays = noStrays }
 abbrev pub sessionBy : Bool → Bool → Bool → ℕ → Session
 sessionBy agreed n has most =
     record { agreed = agreed; n = n; limit = cond has (Most most) Free; a = false; r = false; v = absent; m = absent }
+
+-- Whether there is a limit, and how many segments it allows.
+abbrev pub limitThere : Limit → Bool
+limitThere Free = false
+limitThere (Most most) = true
+
+abbrev pub mostAllowed : Limit → ℕ
+mostAllowed Free = 0
+mostAllowed (Most most) = most

@@ -1,25 +1,26 @@
-// The judgement of a route: what one pass settles of the frame and the walk, then 13 and 12; else all rules in their order.
+// The judgement of a route: what one pass accepts; else all rules in their order.
 ghost use mathlib.Core.Path.{_≡_};
-ghost use Prim.Native.Nat.{_<_};
+ghost use mathlib.Core.Bool.{true, false};
+ghost use Prim.Native.Nat.{_<_, _≤_, _%_};
 ghost use Rattle.forms.specs.Forms.{formOf};
-ghost use Rattle.route_glance.specs.Settled.{Settled};
-ghost use Rattle.route.specs.Parts.{sessionBy};
+ghost use Rattle.route_rules.specs.SessionRules.{rule13};
+ghost use Rattle.route_glance.specs.Settled.{SettledBy, strayWorth};
+ghost use Rattle.route.specs.Parts.{sessionBy, limitThere, mostAllowed};
 ghost use Rattle.route.specs.Routes.{judgeOf};
 use answers::Verdict;
 use msd::ABSENT;
-use route_glance::Seen;
+use route_glance::STRAY_WORTH;
 use route_ordered::judge_as;
-use route_rules::limited;
 use route_rules::not_agreed;
 use session::Limit;
 use session::Session;
 
 // What one pass settles of a route in which nothing is wrong.
-fn seen(s: &[u8], ero: bool, n: bool, pst: u64) -> Seen
-    ensures settled { λ r. ⌜ (0 < r .count → Settled (formOf pst) (now (s .entry)) ero n (r .count) (r .stray)) ⌝ }
+fn seen(s: &[u8], ero: bool, n: bool, pst: u64) -> usize
+    ensures settled { λ r. ⌜ SettledBy (formOf pst) (now (s .entry)) ero n r ⌝ }
 {
     if !frame_rules::is_headed(s, ero) {
-        return route_glance::unsettled();
+        return 0;
     }
     if pst == objects::MPLS_SETUP {
         return route_glance::see_mpls(s, ero, n);
@@ -27,20 +28,20 @@ fn seen(s: &[u8], ero: bool, n: bool, pst: u64) -> Seen
     route_glance::see_srv6(s, ero, n)
 }
 
-// The verdict on a route of the form that the setup type names, SRv6's if it names none. One pass settles a route in which nothing is wrong; else the rules are asked
-// in their order.
-fn judged(s: &[u8], ero: bool, session: Session, pst: u64) -> Verdict
-    ensures judged { λ r. ⌜ r ≡ judgeOf (now (s .entry)) ero session pst ⌝ }
+// Whether a route of which the pass settled x is accepted: the form is agreed, and where there is a limit, there are no more segments.
+fn accepts(x: usize, agreed: bool, has: bool, most: usize, pst: u64) -> bool
+    ensures accepts { λ r. ⌜ (r ≡ true → (0 < x) × (rule13 (formOf pst) agreed pst ≡ false) × (has ≡ true → x % strayWorth ≤ most)) ⌝ }
 {
-    let x = seen(s, ero, session.n, pst);
-    if x.count == 0 {
-        return judge_as(forms::named(pst), s, ero, session, pst);
+    if x == 0 {
+        return false;
     }
-    if not_agreed(forms::named(pst), session.agreed, pst) {
-        return answers::refused(answers::NOT_AGREED, 0);
+    if not_agreed(forms::named(pst), agreed, pst) {
+        return false;
     }
-    let limit = session.limit;
-    limited(s, ero, limit, answers::carrying(x.count, x.stray))
+    if has {
+        return x % STRAY_WORTH <= most;
+    }
+    true
 }
 
 // A session of what judging looks at; a limit of `most` segments where it has one.
@@ -58,8 +59,16 @@ fn made(agreed: bool, n: bool, has: bool, most: usize) -> Session
     }
 }
 
-// The same, under a session in its parts: it does not go through memory, and neither does what calls this.
-fn judge_under(
+// The verdict by the rules in their order, on a route of the form that the setup type names, SRv6's if it names none.
+fn ordered(s: &[u8], ero: bool, agreed: bool, n: bool, has: bool, most: usize, pst: u64) -> Verdict
+    ensures judged { λ r. ⌜ r ≡ judgeOf (now (s .entry)) ero (sessionBy agreed n has most) pst ⌝ }
+{
+    judge_as(forms::named(pst), s, ero, made(agreed, n, has, most), pst)
+}
+
+// The verdict on a route under a session in its parts, which stay out of memory. The pass and the rules in their order are called from here and from `judge`; so they
+// are compiled once, and what stands here goes into its caller.
+pub fn judge_parts(
     s: &[u8],
     ero: bool,
     agreed: bool,
@@ -70,18 +79,42 @@ fn judge_under(
 ) -> Verdict
     ensures judged { λ r. ⌜ r ≡ judgeOf (now (s .entry)) ero (sessionBy agreed n has most) pst ⌝ }
 {
-    judged(s, ero, made(agreed, n, has, most), pst)
+    let x = seen(s, ero, n, pst);
+    if accepts(x, agreed, has, most, pst) {
+        return answers::carrying(x % STRAY_WORTH, x / STRAY_WORTH);
+    }
+    ordered(s, ero, agreed, n, has, most, pst)
 }
 
-// The same, under a session.
+// Whether there is a limit, and how many segments it allows.
+fn has_limit(limit: Limit) -> bool
+    ensures there { λ r. ⌜ r ≡ limitThere limit ⌝ }
+{
+    match limit {
+        Limit::Free => false,
+        Limit::Most(_) => true,
+    }
+}
+
+fn most_of(limit: Limit) -> usize
+    ensures most { λ r. ⌜ r ≡ mostAllowed limit ⌝ }
+{
+    match limit {
+        Limit::Free => 0,
+        Limit::Most(most) => most,
+    }
+}
+
+// The verdict on a route under a session.
 pub fn judge(s: &[u8], ero: bool, session: Session, pst: u64) -> Verdict
     ensures judged { λ r. ⌜ r ≡ judgeOf (now (s .entry)) ero session pst ⌝ }
 {
     let agreed = session.agreed;
     let n = session.n;
     let limit = session.limit;
-    match limit {
-        Limit::Free => judge_under(s, ero, agreed, n, false, 0, pst),
-        Limit::Most(most) => judge_under(s, ero, agreed, n, true, most, pst),
+    let x = seen(s, ero, n, pst);
+    if accepts(x, agreed, has_limit(limit), most_of(limit), pst) {
+        return answers::carrying(x % STRAY_WORTH, x / STRAY_WORTH);
     }
+    ordered(s, ero, agreed, n, has_limit(limit), most_of(limit), pst)
 }

@@ -10,5 +10,6 @@ mod judgement;
 mod picking;
 
 pub use judgement::judge;
+pub use judgement::judge_parts;
 pub use picking::Picked;
 pub use picking::segment;

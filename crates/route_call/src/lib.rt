@@ -2,7 +2,7 @@
 // the form that the setup type names, under the limit that holds for this route. In an RRO, and for MPLS, too a list that isn't a multiple
 // of 16 octets is 28. Only SRv6's session has flags that raise the limit.
 ghost use mathlib.Core.Path.{_≡_};
-ghost use mathlib.Core.Bool.{false};
+ghost use Rattle.route.specs.Parts.{sessionBy};
 ghost use Rattle.route_call.specs.Called.{judgedIn, judgedFor, segmentIn, segmentFor};
 use answers::NOT_USABLE;
 use answers::Verdict;
@@ -25,15 +25,23 @@ pub fn judge_in(s: &[u8], ero: bool, own: Session, pst: u64, addresses: &[u8]) -
     route::judge(s, ero, under, pst)
 }
 
-// The same in a session in which neither flag is agreed: its own limit holds.
-pub fn judge_plain(s: &[u8], ero: bool, own: Session, pst: u64, addresses: &[u8]) -> Verdict
-    requires { ⌜ (own .a ≡ false) × (own .r ≡ false) ⌝ }
-    ensures judged { λ r. ⌜ r ≡ judgedIn (now (s .entry)) ero own pst (now (addresses .entry)) ⌝ }
+// The same in a session in which neither flag is agreed, by its other parts: its own limit holds.
+pub fn judge_plain(
+    s: &[u8],
+    ero: bool,
+    agreed: bool,
+    n: bool,
+    has: bool,
+    most: usize,
+    pst: u64,
+    addresses: &[u8],
+) -> Verdict
+    ensures judged { λ r. ⌜ r ≡ judgedIn (now (s .entry)) ero (sessionBy agreed n has most) pst (now (addresses .entry)) ⌝ }
 {
     if !head_end::usable(addresses) {
         return answers::refused(NOT_USABLE, 0);
     }
-    route::judge(s, ero, own, pst)
+    route::judge_parts(s, ero, agreed, n, has, most, pst)
 }
 
 // The same, under the sessions of both forms.

@@ -1,6 +1,6 @@
 -- The pass: the places that it has gone over, the last first, with the frame from `at` on behind them, are the whole frame; each of them is a subobject of the
 -- form's type that breaks no rule. At the object's end that settles the rules on the frame and those of the subobjects. Assumes nothing.
-use Prim.Native.Nat.{ℕ, suc, _+_, _-_, _%_, _≤_, _<_}
+use Prim.Native.Nat.{ℕ, suc, _+_, _-_, _*_, _/_, _%_, _≤_, _<_}
 use mathlib.Core.Path.{_≡_, refl, sym, _∙_, ap, subst}
 use mathlib.Core.List.{List, [], _∷_}
 use mathlib.Core.Bool.{Bool, true, false, cond}
@@ -21,7 +21,7 @@ use Rattle.frame.specs.Frames.{Apart, ended, headed, fitsIn, apartOf, placesOf,
 use Rattle.frame.proofs.Checks.{None, none-first, none-append}
 use Rattle.frame.proofs.Laws.{Over, over-starts, over-ends, over-next, long-enough}
 use Rattle.route_walk.specs.Walk.{checksBy, checksAt, subobjectChecks, walkOf}
-use Rattle.route_glance.specs.Settled.{Settled}
+use Rattle.route_glance.specs.Settled.{Settled, SettledBy, strayWorth}
 
 -- The places gone over, turned round, before others.
 abbrev pub turned : List ℕ → List ℕ → List ℕ
@@ -51,8 +51,8 @@ pub gone-starts : (form : Form) (s : List ℕ) (ero n : Bool) → Gone form s er
 gone-starts form s ero n = record { places = []; rest = over-starts (behind []) s; good = tt; many = refl; strays = refl }
 
 -- A pass that settled nothing says nothing.
-pub unsettled-settles : {form : Form} {s : List ℕ} {ero n : Bool} {count stray : ℕ} → count ≡ 0 → 0 < count → Settled form s ero n count stray
-unsettled-settles e h = absurd (omega arith)
+pub unsettled : {form : Form} {s : List ℕ} {ero n : Bool} → SettledBy form s ero n 0
+unsettled h = absurd (omega (arith, h))
 
 -- one subobject more -------------------------------------------------------------------------------------------
 
@@ -144,3 +144,11 @@ module _ (form : Form) (s : List ℕ) (ero n : Bool) where
         frame = frame-good good (omega (arith, many)) d (ap (λ (a : Apart). a .whole) (sym whole)) ∙ ap (λ (x : ℕ). acceptedWith x) many;
         walk = walk-good count good ∙ ap (λ (x : ℕ). carryingBoth count x) strays;
       }
+
+  -- The same, of one number.
+  pub settled-by : {at count stray : ℕ} → Gone form s ero n at count stray → at ≡ length s → headed s ero ≡ true → count < 65536 → stray ≤ count
+      → SettledBy form s ero n (count + strayWorth * stray)
+  settled-by {at} {count} {stray} g e d few less h =
+      let low : (count + 65536 * stray) % 65536 ≡ count = omega (arith, few) in
+      let high : (count + 65536 * stray) / 65536 ≡ stray = omega (arith, few) in
+      rw (low, high) (settled g e d (omega (arith, h, less)))

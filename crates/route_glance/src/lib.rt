@@ -7,5 +7,4 @@ mod seen;
 
 pub use over_mpls::see_mpls;
 pub use over_srv6::see_srv6;
-pub use seen::Seen;
-pub use seen::unsettled;
+pub use seen::STRAY_WORTH;

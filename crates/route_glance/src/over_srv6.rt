@@ -5,13 +5,12 @@ ghost use Prim.Native.Nat.{_<_};
 ghost use lib.ListN.{length};
 ghost use Rattle.forms.specs.Forms.{srv6Form};
 ghost use Rattle.frame.specs.Frames.{headed};
-ghost use Rattle.route_glance.specs.Settled.{Settled};
-use super::seen;
-use super::seen::Seen;
+ghost use Rattle.route_glance.specs.Settled.{SettledBy};
+use super::seen::STRAY_WORTH;
 
-pub fn see_srv6(s: &[u8], ero: bool, n: bool) -> Seen
+pub fn see_srv6(s: &[u8], ero: bool, n: bool) -> usize
     requires { ⌜ (headed (now s) ero ≡ true) × (length (now s) < 65536) ⌝ }
-    ensures settled { λ r. ⌜ (0 < r .count → Settled srv6Form (now (s .entry)) ero n (r .count) (r .stray)) ⌝ }
+    ensures settled { λ r. ⌜ SettledBy srv6Form (now (s .entry)) ero n r ⌝ }
 {
     let form = forms::srv6();
     let kind = octets::wide(form.kind);
@@ -22,26 +21,23 @@ pub fn see_srv6(s: &[u8], ero: bool, n: bool) -> Seen
     while at != end {
         let h = subobject::head_at(form, s, at, ero);
         if h.kind != kind {
-            return seen::unsettled();
+            return 0;
         }
         if !subobject_sound::head_sound(form, h, ero, n) {
-            return seen::unsettled();
+            return 0;
         }
         if end - at < h.size {
-            return seen::unsettled();
+            return 0;
         }
         if !subobject_sound::structure_sound(form, s, at, h) {
-            return seen::unsettled();
+            return 0;
         }
         if !subobject_sound::label_sound(form, s, at, h) {
-            return seen::unsettled();
+            return 0;
         }
         stray = stray + subobject_strays::stray_srv6(s, at, h);
         count = count + 1;
         at = at + h.size;
     }
-    Seen {
-        count: count,
-        stray: stray,
-    }
+    count + STRAY_WORTH * stray
 }

@@ -1,13 +1,3 @@
-// What a pass has settled: the number of segments, and of those that are stray; 0 segments where it has settled nothing.
-ghost use mathlib.Core.Path.{_≡_};
-
-pub struct Seen {
-    pub count: usize,
-    pub stray: usize,
-}
-
-pub fn unsettled() -> Seen
-    ensures nothing { λ r. ⌜ r .count ≡ 0 ⌝ }
-{
-    Seen { count: 0, stray: 0 }
-}
+// What a pass hands back: the number of segments, and this many times the number of those that are stray; 0 where it has settled nothing. One number stays
+// out of memory.
+pub const STRAY_WORTH: usize = 65536;

@@ -31,9 +31,7 @@ const NAMED: usize = 4294961833;
 // An octet for each NT to 6: the length with a SID.
 const LENGTHS: usize = 13537359229881352;
 
-// what S is worth in octet 3, and how many of its bits are F, S, C and M
-const WORTH_S: usize = 4;
-
+// the low bits of octet 3 that are F, S, C and M
 const FOUR_BITS: usize = 16;
 
 // The flags that an NT goes with.
@@ -53,7 +51,7 @@ fn fits(needed: bool, size: usize, high: usize, low: usize) -> bool
     if (allowed(needed) >> (2 * flags)) % 4 != (NAMED >> (2 * nt)) % 4 {
         return false;
     }
-    size + flags / WORTH_S % 2 * 4 == (LENGTHS >> (8 * nt)) % 256
+    size + flags / forms::MPLS_S % 2 * 4 == (LENGTHS >> (8 * nt)) % 256
 }
 
 // The same of the subobject at a place, which has the head h.

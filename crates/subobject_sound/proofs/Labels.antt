@@ -18,20 +18,6 @@ use Rattle.subobject_sound.proofs.Laws.{label-room}
 and-no : (b c : Bool) → c ≡ false → (b && c) ≡ false
 and-no b c e = rw e (and-false b)
 
--- A label is above those below 16 if one of its first 16 bits is set;
-pub label-above : (s : List ℕ) (at x : ℕ) → x ≡ be16 s at → (x ≡ 0 → ⊥) → (ltb (labelAt s at) firstFree && not (eqb (labelAt s at) goodLabel)) ≡ false
-unfolding labelAt be16 octetOf
-label-above s at x e n = rw (le-ltb (labelAt s at) firstFree (omega (arith, e, n)))
-
--- else it is its last four.
-pub label-seven : (s : List ℕ) (at x y : ℕ) → x ≡ be16 s at → x ≡ 0 → y ≡ getD s (at + 2) 0 → eqb (y / 16) goodLabel ≡ true
-    → (ltb (labelAt s at) firstFree && not (eqb (labelAt s at) goodLabel)) ≡ false
-unfolding labelAt be16 octetOf
-label-seven s at x y e z ey g =
-    let seven : y / 16 ≡ 7 = eqb-true (y / 16) goodLabel g in
-    let label : labelAt s at ≡ 7 = omega (arith, e, z, ey, seven) in
-    and-no (ltb (labelAt s at) firstFree) (not (eqb (labelAt s at) goodLabel)) (rw (eq-eqb (labelAt s at) goodLabel label))
-
 pub no-label : (h : Head) → (h .m ≡ 1 → ⊥) → hasLabel h ≡ false
 unfolding hasLabel
 no-label h n = and-no (eqb (h .s) 0) (eqb (h .m) 1) (ne-eqb (h .m) 1 n)

@@ -1,12 +1,11 @@
 // Whether one subobject breaks no rule. The rules are not told apart here.
 ghost use mathlib.Core.Path.{_≡_};
-ghost use mathlib.Core.Bool.{true, false, not, _&&_};
+ghost use mathlib.Core.Bool.{true, false};
 ghost use Prim.Native.Nat.{_+_, _≤_};
-ghost use lib.Dec.{eqb, ltb};
 ghost use lib.ListN.{length};
 ghost use Rattle.forms.specs.Forms.{mplsForm, naiLength};
 ghost use Rattle.subobject.specs.Layout.{expectedLength, sidPlace};
-ghost use Rattle.subobject.specs.Rules.{rule7, rule8, rule9, rule10, rule11, rule29, rule30, bitsAt, labelAt, timeAt, sumAt, firstFree, goodLabel};
+ghost use Rattle.subobject.specs.Rules.{rule7, rule8, rule9, rule10, rule11, rule29, rule30, bitsAt, labelAt, timeAt, sumAt};
 use forms::Form;
 use subobject::Head;
 
@@ -92,17 +91,6 @@ pub fn label_sound(form: Form, s: &[u8], at: usize, h: Head) -> bool
     true
 }
 
-// Of the labels below 16 only 7 may stand in a route: the label of the label stack entry at a place is above them if one of its first 16 bits is set.
-fn label_good(s: &[u8], at: usize) -> bool
-    requires { ⌜ at + 4 ≤ length (now s) ⌝ }
-    ensures good { λ r. ⌜ (r ≡ true → (ltb (labelAt (now (s .entry)) at) firstFree && not (eqb (labelAt (now (s .entry)) at) goodLabel)) ≡ false) ⌝ }
-{
-    if octets::read16(s, at) != 0 {
-        return true;
-    }
-    octets::wide(s[at + 2]) / label_rules::THIRD_PART == label_rules::GOOD_LABEL
-}
-
 // 29 and 30 of an MPLS subobject that breaks no rule before them: M is 1 only where there is a SID.
 pub fn mpls_label_sound(s: &[u8], at: usize, h: Head) -> bool
     requires { ⌜ (h .size ≡ expectedLength mplsForm (h .nt) (h .s) (h .t)) × (at + h .size ≤ length (now s)) × (rule7 mplsForm h ≡ false) × (h .s ≤ 1) ⌝ }
@@ -111,11 +99,11 @@ pub fn mpls_label_sound(s: &[u8], at: usize, h: Head) -> bool
     if h.m != 1 {
         return true;
     }
-    if !label_good(s, at + 4) {
+    if !label_run::label_good(s, at + label_run::ENTRY_PLACE) {
         return false;
     }
     if h.c != 1 {
         return true;
     }
-    octets::wide(s[at + 7]) != 0
+    octets::wide(s[at + label_run::TTL_PLACE]) != 0
 }

@@ -1,4 +1,5 @@
 use mathlib.Core.Path.{refl}
+use Rattle.route.specs.Parts.{sessionBy}
 use Rattle.route_call.proofs.Laws.{judged-28, judged-own}
 use borrow.Author.Tests.{not-true, not-false}
 use borrow.Author.Needs.{needs}
@@ -14,19 +15,19 @@ refused-requires c κs = search needs
 returns : tie.Need-returns
 returns c =
     let args = c .before .before .before .before .before .args in
-    judged-28 (args .s .now) (args .ero) (args .own) (args .pst) (args .addresses .now) (c .before .before .usable .ensures) (not-true _ (c .before .if1 .taken))
+    judged-28 (args .s .now) (args .ero) (sessionBy (args .agreed) (args .n) (args .has) (args .most)) (args .pst) (args .addresses .now)
+    (c .before .before .usable .ensures) (not-true _ (c .before .if1 .taken))
     (c .refused .ensures)
 
-judge-requires : tie.Need-judge-requires
-judge-requires c κs = search needs
+judge-parts-requires : tie.Need-judge-parts-requires
+judge-parts-requires c κs = search needs
 
 returns-2 : tie.Need-returns-2
 returns-2 c =
     let asked = c .before .before in
-    let start = asked .before .before .before in
-    let args = start .args in
-    judged-own (args .s .now) (args .ero) (args .own) (args .pst) (args .addresses .now) (asked .usable .ensures) (not-false _ (c .before .if1 .left)) refl
-    refl (rw (start .pre .0, start .pre .1)) (c .judge .ensures)
+    let args = asked .before .before .before .args in
+    judged-own (args .s .now) (args .ero) (sessionBy (args .agreed) (args .n) (args .has) (args .most)) (args .pst) (args .addresses .now) (asked .usable .ensures)
+    (not-false _ (c .before .if1 .left)) refl refl refl (c .judge-parts .ensures)
 
 pub judge-plain-spec : {M : Type 1} → statement M
-judge-plain-spec = tie.close (tie.spec usable-requires refused-requires returns judge-requires returns-2)
+judge-plain-spec = tie.close (tie.spec usable-requires refused-requires returns judge-parts-requires returns-2)

@@ -6,19 +6,16 @@ use Rattle.octets.specs.Octets.{be16}
 use Rattle.forms.specs.declared.Form.{Form}
 use Rattle.forms.proofs.Laws.{form-mpls, form-srv6}
 use Rattle.frame.proofs.Laws.{headed-sized}
-use Rattle.route_glance.specs.Settled.{Settled}
-use Rattle.route_glance.proofs.Pass.{unsettled-settles}
+use Rattle.route_glance.specs.Settled.{SettledBy}
+use Rattle.route_glance.proofs.Pass.{unsettled}
 use Rattle.route.proofs.judgement.seen.Statement.{statement}
 use Rattle.route.proofs.judgement.seen.Tie as tie
 
 is-headed-requires : tie.Need-is-headed-requires
 is-headed-requires c κs = search needs
 
-unsettled-requires : tie.Need-unsettled-requires
-unsettled-requires c κs = search needs
-
 returns : tie.Need-returns
-returns c = unsettled-settles (c .unsettled .ensures)
+returns c = unsettled
 
 see-mpls-requires : tie.Need-see-mpls-requires
 unfolding be16
@@ -30,8 +27,7 @@ see-mpls-requires c κs =
 returns-2 : tie.Need-returns-2
 returns-2 c =
     let args = c .before .before .before .before .before .args in
-    let x = c .see-mpls .result in
-    λ more. subst (λ (form : Form). Settled form (args .s .now) (args .ero) (args .n) (x .count) (x .stray)) (form-mpls (args .pst) (c .before .if2 .taken)) (c .see-mpls .ensures more)
+    subst (λ (form : Form). SettledBy form (args .s .now) (args .ero) (args .n) (c .see-mpls .result)) (form-mpls (args .pst) (c .before .if2 .taken)) (c .see-mpls .ensures)
 
 see-srv6-requires : tie.Need-see-srv6-requires
 unfolding be16
@@ -43,8 +39,7 @@ see-srv6-requires c κs =
 returns-3 : tie.Need-returns-3
 returns-3 c =
     let args = c .before .before .before .before .before .args in
-    let x = c .see-srv6 .result in
-    λ more. subst (λ (form : Form). Settled form (args .s .now) (args .ero) (args .n) (x .count) (x .stray)) (form-srv6 (args .pst) (c .before .if2 .left)) (c .see-srv6 .ensures more)
+    subst (λ (form : Form). SettledBy form (args .s .now) (args .ero) (args .n) (c .see-srv6 .result)) (form-srv6 (args .pst) (c .before .if2 .left)) (c .see-srv6 .ensures)
 
 pub seen-spec : {M : Type 1} → statement M
-seen-spec = tie.close (tie.spec is-headed-requires unsettled-requires returns see-mpls-requires returns-2 see-srv6-requires returns-3)
+seen-spec = tie.close (tie.spec is-headed-requires returns see-mpls-requires returns-2 see-srv6-requires returns-3)

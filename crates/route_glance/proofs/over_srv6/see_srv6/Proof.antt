@@ -1,6 +1,6 @@
 -- The invariant `Gone`: the places gone over are of subobjects of the form's type that break no rule, and the frame from `at` on stands behind them. A turn tests one
 -- subobject more; at the object's end all is settled.
-use Prim.Native.Nat.{ℕ, _≤_, _-_, _<_, _+_, _%_}
+use Prim.Native.Nat.{ℕ, _≤_, _-_, _<_, _+_, _%_, _*_}
 use native.Mathlib.Omega.{arith}
 use borrow.Author.Needs.{needs}
 use borrow.Author.Tests.{not-false}
@@ -13,15 +13,15 @@ use Rattle.subobject.specs.Layout.{expectedLength}
 use Rattle.subobject_strays.specs.Strays.{strayOne, straysBy}
 use Rattle.subobject.proofs.Laws.{sound-length}
 use Rattle.frame.proofs.Laws.{headed-sized}
-use Rattle.route_glance.specs.Settled.{Settled}
+use Rattle.route_glance.specs.Settled.{SettledBy, strayWorth}
 use Rattle.route_glance.proofs.Laws.{fours-of}
-use Rattle.route_glance.proofs.Pass.{Gone, gone-starts, gone-on, good-made, fits-made, settled, unsettled-settles}
+use Rattle.route_glance.proofs.Pass.{Gone, gone-starts, gone-on, good-made, fits-made, settled-by, unsettled}
 use Rattle.route_glance.proofs.over_srv6.see_srv6.Statement.{statement}
 use Rattle.route_glance.proofs.over_srv6.see_srv6.Tie as tie
 
 abbrev Inv-loop : tie.InvT-loop
 Inv-loop s ero n form kind end at₀ count₀ stray₀ at count stray =
-    (4 ≤ at) × (at ≤ length s) × (at % 4 ≡ 0) × (count ≤ at) × (stray ≤ at) × Gone form s ero n at count stray
+    (4 ≤ at) × (at ≤ length s) × (at % 4 ≡ 0) × (count ≤ at) × (stray ≤ count) × Gone form s ero n at count stray
 
 abbrev μ-loop : tie.MeasureT-loop
 μ-loop s ero n form kind end at₀ count₀ stray₀ at count stray = length s - at
@@ -43,29 +43,20 @@ head-at-requires c κs =
     let inv = c .before .loop .inv in
     omega (arith, h .four, inv .1, inv .2, c .loop-test .taken)
 
-unsettled-requires : tie.Need-unsettled-requires Inv-loop μ-loop
-unsettled-requires c κs = search needs
-
 returns : tie.Need-returns Inv-loop μ-loop
-returns c = unsettled-settles (c .unsettled .ensures)
+returns c = unsettled
 
 head-sound-requires : tie.Need-head-sound-requires Inv-loop μ-loop
 head-sound-requires c κs = search needs
 
-unsettled-requires-2 : tie.Need-unsettled-requires-2 Inv-loop μ-loop
-unsettled-requires-2 c κs = search needs
-
 returns-2 : tie.Need-returns-2 Inv-loop μ-loop
-returns-2 c = unsettled-settles (c .unsettled2 .ensures)
+returns-2 c = unsettled
 
 sub-if3 : tie.Need-sub-if3 Inv-loop μ-loop
 sub-if3 c = omega (arith, c .before .before .before .before .before .before .loop .inv .1)
 
-unsettled-requires-3 : tie.Need-unsettled-requires-3 Inv-loop μ-loop
-unsettled-requires-3 c κs = search needs
-
 returns-3 : tie.Need-returns-3 Inv-loop μ-loop
-returns-3 c = unsettled-settles (c .unsettled3 .ensures)
+returns-3 c = unsettled
 
 structure-sound-requires : tie.Need-structure-sound-requires Inv-loop μ-loop
 structure-sound-requires c κs =
@@ -73,11 +64,8 @@ structure-sound-requires c κs =
     let rules = head .head-sound .ensures (not-false _ (c .before .before .if2 .left)) in
     (sound-length _ _ (rules .2), omega (arith, c .if3 .left, head .before .before .before .before .before .loop .inv .1))
 
-unsettled-requires-4 : tie.Need-unsettled-requires-4 Inv-loop μ-loop
-unsettled-requires-4 c κs = search needs
-
 returns-4 : tie.Need-returns-4 Inv-loop μ-loop
-returns-4 c = unsettled-settles (c .unsettled4 .ensures)
+returns-4 c = unsettled
 
 label-sound-requires : tie.Need-label-sound-requires Inv-loop μ-loop
 label-sound-requires c κs =
@@ -90,11 +78,8 @@ label-sound-requires c κs =
       rw (start .before .before .srv6 .ensures) (omega arith),
     )
 
-unsettled-requires-5 : tie.Need-unsettled-requires-5 Inv-loop μ-loop
-unsettled-requires-5 c κs = search needs
-
 returns-5 : tie.Need-returns-5 Inv-loop μ-loop
-returns-5 c = unsettled-settles (c .unsettled5 .ensures)
+returns-5 c = unsettled
 
 stray-srv6-requires : tie.Need-stray-srv6-requires Inv-loop μ-loop
 unfolding expectedLength
@@ -111,7 +96,7 @@ stray-srv6-requires c κs =
 add-stray : tie.Need-add-stray Inv-loop μ-loop
 add-stray c =
     let start = c .before .before .before .before .before .before .before .before .before .before .before .before .before in
-    omega (arith, c .stray-srv6 .ensures .1, start .loop .inv .4, start .loop .inv .1)
+    omega (arith, c .stray-srv6 .ensures .1, start .loop .inv .4, start .loop .inv .3, start .loop .inv .1)
 
 add-count : tie.Need-add-count Inv-loop μ-loop
 add-count c = let start = c .before .before .before .before .before .before .before .before .before .before .before .before .before in omega (arith, start .loop .inv .3, start .loop .inv .1)
@@ -155,18 +140,29 @@ loop-again c =
       omega (arith, room .if3 .left, inv .1),
       omega (arith, inv .2, size, fours .0),
       omega (arith, inv .3, size, fours .1),
-      omega (arith, inv .4, size, fours .1, c .before .stray-srv6 .ensures .1),
+      omega (arith, inv .4, c .before .stray-srv6 .ensures .1),
       gone-on (inv .5) _ _ (omega (arith, inv .1, (head .before .before .before .before .loop-test .taken))) (read .ensures .0) fits good
           (c .before .stray-srv6 .ensures .0
           ∙ ap (λ (x : Form). strayOne (straysBy x h (start .before .before .before .before .args .s .now) (start .loop .at))) (sym known)),
     )
 
+mul-result : tie.Need-mul-result Inv-loop μ-loop
+mul-result c =
+    let inv = c .before .loop .inv in
+    omega (arith, inv .4, inv .3, inv .1, c .before .before .before .before .before .pre .1)
+
+add-result : tie.Need-add-result Inv-loop μ-loop
+add-result c =
+    let inv = c .before .loop .inv in
+    omega (arith, inv .4, inv .3, inv .1, c .before .before .before .before .before .pre .1)
+
 returns-6 : tie.Need-returns-6 Inv-loop μ-loop
 returns-6 c =
-    let start = c .before in
-    let args = start .before .before .before .before .args in
-    λ more. subst (λ (form : Form). Settled form (args .s .now) (args .ero) (args .n) (start .loop .count) (start .loop .stray)) (start .before .before .srv6 .ensures)
-    (settled _ _ _ _ (start .loop .inv .5) (omega arith) (start .before .before .before .before .pre .0) more)
+    let inv = c .before .loop .inv in
+    let start = c .before .before .before .before .before in
+    let x = c .before .loop .count + strayWorth * c .before .loop .stray in
+    subst (λ (form : Form). SettledBy form (start .args .s .now) (start .args .ero) (start .args .n) x) (c .before .before .before .srv6 .ensures)
+    (settled-by _ _ _ _ (inv .5) (omega arith) (start .pre .0) (omega (arith, inv .3, inv .1, start .pre .1)) (inv .4))
 
 pub see-srv6-spec : {M : Type 1} → statement M
 see-srv6-spec =
@@ -178,19 +174,14 @@ see-srv6-spec =
     wide-requires
     loop-holds
     head-at-requires
-    unsettled-requires
     returns
     head-sound-requires
-    unsettled-requires-2
     returns-2
     sub-if3
-    unsettled-requires-3
     returns-3
     structure-sound-requires
-    unsettled-requires-4
     returns-4
     label-sound-requires
-    unsettled-requires-5
     returns-5
     stray-srv6-requires
     add-stray
@@ -198,4 +189,6 @@ see-srv6-spec =
     add-at
     loop-less
     loop-again
+    mul-result
+    add-result
     returns-6)

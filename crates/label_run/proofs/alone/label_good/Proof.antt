@@ -1,7 +1,7 @@
-use Rattle.subobject_sound.proofs.Labels.{label-above, label-seven}
+use Rattle.label_run.proofs.Laws.{label-above, label-seven}
 use borrow.Author.Needs.{needs}
-use Rattle.subobject_sound.proofs.sound.label_good.Statement.{statement}
-use Rattle.subobject_sound.proofs.sound.label_good.Tie as tie
+use Rattle.label_run.proofs.alone.label_good.Statement.{statement}
+use Rattle.label_run.proofs.alone.label_good.Tie as tie
 
 read16-requires : tie.Need-read16-requires
 read16-requires c κs = search needs

@@ -1,0 +1,59 @@
+// The labels that a route begins with.
+ghost use mathlib.Core.Path.{_≡_};
+ghost use mathlib.Core.Bool.{true, false, not, _&&_};
+ghost use Prim.Native.Nat.{_+_, _*_, _≤_, _<_};
+ghost use lib.Dec.{eqb, ltb};
+ghost use lib.ListN.{length};
+ghost use Rattle.subobject.specs.Rules.{labelAt, firstFree, goodLabel};
+ghost use Rattle.label_run.specs.Alone.{LabelAlone, AloneTo};
+
+// The octets of a label alone, and its first four as a number: type 36, 8 octets, NT 0, F and M.
+pub const LABEL_SIZE: usize = 8;
+
+const ALONE: usize = 604504073;
+
+// what the lowest bit of the first two octets is worth in that number
+const HIGH: usize = 65536;
+
+// where an MPLS subobject has its label stack entry, and the TTL in it
+pub const ENTRY_PLACE: usize = 4;
+
+pub const TTL_PLACE: usize = 7;
+
+// Of the labels below 16 only 7 may stand in a route: the label of the label stack entry at a place is above them if one of its first 16 bits is set.
+pub fn label_good(s: &[u8], at: usize) -> bool
+    requires { ⌜ at + 4 ≤ length (now s) ⌝ }
+    ensures good { λ r. ⌜ (r ≡ true → (ltb (labelAt (now (s .entry)) at) firstFree && not (eqb (labelAt (now (s .entry)) at) goodLabel)) ≡ false) ⌝ }
+{
+    if octets::read16(s, at) != 0 {
+        return true;
+    }
+    octets::wide(s[at + 2]) / label_rules::THIRD_PART == label_rules::GOOD_LABEL
+}
+
+// Whether a label that may stand in a route stands alone at a place.
+fn is_alone(s: &[u8], at: usize) -> bool
+    requires { ⌜ at + 8 ≤ length (now s) ⌝ }
+    ensures alone { λ r. ⌜ (r ≡ true → LabelAlone (now (s .entry)) at) ⌝ }
+{
+    if octets::read16(s, at) * HIGH + octets::read16(s, at + 2) != ALONE {
+        return false;
+    }
+    label_good(s, at + ENTRY_PLACE)
+}
+
+// How many labels alone a route begins with, behind its header.
+pub fn labels(s: &[u8]) -> usize
+    requires { ⌜ (4 ≤ length (now s)) × (length (now s) < 65536) ⌝ }
+    ensures labels { λ r. ⌜ AloneTo (now (s .entry)) r ⌝ }
+{
+    let most = (s.len() - objects::HEADER) / LABEL_SIZE;
+    let mut count: usize = 0;
+    while count < most {
+        if !is_alone(s, objects::HEADER + LABEL_SIZE * count) {
+            return count;
+        }
+        count = count + 1;
+    }
+    count
+}
