@@ -1,18 +1,22 @@
 -- What a call answers and leaves, from its refusal or acceptance; octets stored one by one. Assumes nothing.
 use Prim.Native.Nat.{ℕ, _≤_}
 use mathlib.Core.Path.{_≡_, refl, sym, _∙_, ap}
-use mathlib.Core.Bool.{Bool}
+use mathlib.Core.Bool.{Bool, true, false, cond}
 use mathlib.Core.List.{List, [], _∷_, append-assoc}
 use lib.ListN.{length, set}
 use lib.Seq.{sets-eq, drop-drop}
 use native.Mathlib.Omega.{arith}
+use Rattle.answers.specs.Numbers.{lengthWrong, naiUnknown, nothingThere}
 use Rattle.answers.specs.Verdicts.{kept}
 use Rattle.octets.specs.Octets.{over, placed}
 use Rattle.objects.specs.Objects.{header, classPlace, typePlace, lengthPlace}
 use Rattle.forms.specs.declared.Form.{Form}
-use Rattle.forms.specs.Forms.{formOf}
+use Rattle.forms.specs.Forms.{srv6Form, mplsForm, formOf}
 use Rattle.forms.proofs.Laws.{form-mpls, form-srv6}
+use Rattle.subobject.specs.declared.segment.Outline.{Outline}
 use Rattle.frame.specs.Frames.{classOf}
+use Rattle.writer_front.specs.Foreign.{foreign}
+use Rattle.writer_front.specs.Front.{barred, frontOf}
 use Rattle.writer.specs.declared.state.Writer.{Writer}
 use Rattle.writer.specs.declared.state.Written.{Written}
 use Rattle.writer.specs.Writing.{headerOf, refusedAs, acceptedAs, answered}
@@ -53,3 +57,25 @@ kept-mpls n e = ap (λ (form : Form). form .setup) (form-mpls n e)
 
 pub kept-srv6 : (n : ℕ) → (n ≡ 1 → ⊥) → 3 ≡ formOf n .setup
 kept-srv6 n e = ap (λ (form : Form). form .setup) (form-srv6 n e)
+
+-- What is barred before its NAI is refused; what is not has no label in SRv6, and no structure in MPLS.
+pub barred-refused : (a b : Bool) (r : ℕ) → r ≡ cond a naiUnknown (cond b nothingThere lengthWrong) → r ≡ 0 → ⊥
+barred-refused true b r e z = omega arith
+barred-refused false true r e z = omega arith
+barred-refused false false r e z = omega arith
+
+pub srv6-unlabelled : {form : Form} (o : Outline) (sid : List ℕ) (front : ℕ) → form ≡ srv6Form → front ≡ frontOf form o sid → (front ≡ 0 → ⊥) → o .labelled ≡ false
+unfolding frontOf barred foreign
+srv6-unlabelled o sid front ef e n = go (o .labelled) refl
+  where
+    go : (b : Bool) → o .labelled ≡ b → o .labelled ≡ false
+    go true q = absurd (n (e ∙ rw (ef, q)))
+    go false q = q
+
+pub mpls-unstructured : {form : Form} (o : Outline) (sid : List ℕ) (front : ℕ) → form ≡ mplsForm → front ≡ frontOf form o sid → (front ≡ 0 → ⊥) → o .structured ≡ false
+unfolding frontOf barred foreign
+mpls-unstructured o sid front ef e n = go (o .structured) refl
+  where
+    go : (b : Bool) → o .structured ≡ b → o .structured ≡ false
+    go true q = absurd (n (e ∙ rw (ef, q)))
+    go false q = q

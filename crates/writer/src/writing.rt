@@ -1,7 +1,7 @@
 // Begin, add and finish. An object starts with its class, its type in the high 4 bits of the next octet,
 // and a length of 2 octets that counts the 4 octets of the header.
 ghost use mathlib.Core.Path.{_≡_};
-ghost use Rattle.forms.specs.Forms.{formOf};
+ghost use Rattle.forms.specs.Forms.{srv6Form, mplsForm, formOf};
 ghost use Rattle.forms.specs.Sized.{Sized};
 ghost use Rattle.subobject.specs.Segments.{segmentWith};
 ghost use Rattle.writer_spare.specs.Held.{Held};
@@ -51,9 +51,10 @@ pub fn begin(buf: &mut [u8], writer: Writer, ero: bool, pst: u64) -> Written
     })
 }
 
-// Writes a segment of a form into the rest of the buffer from the present place on. The segment's octets are lent: to hand them on by
-// value takes longer than to write them.
-fn add_in(
+// Writes a segment of SRv6 into the rest of the buffer from the present place on. The segment's octets are lent: to hand them on by
+// value takes longer than to write them. Each form has a function of its own, so that the compiler knows its numbers; what is barred
+// before its NAI leaves first, so that it also knows what a segment of the form has not.
+fn add_srv6(
     buf: &mut [u8],
     form: Form,
     writer: Writer,
@@ -62,15 +63,18 @@ fn add_in(
     nai: &[u8],
     bits: &[u8],
 ) -> Written
-    requires { ⌜ (Held (segmentWith o (now sid) (now nai) (now bits))) × (Sized form) × (Readable form) ⌝ }
+    requires { ⌜ (Held (segmentWith o (now sid) (now nai) (now bits))) × (Sized form) × (Readable form) × (form ≡ srv6Form) ⌝ }
     ensures answer { λ r. ⌜ r ≡ addAnswerIn form (now (buf .entry)) writer (segmentWith o (now (sid .entry)) (now (nai .entry)) (now (bits .entry))) ⌝ }
     ensures buffer { λ _. ⌜ now (buf .exit) ≡ addBufferIn form (now (buf .entry)) writer (segmentWith o (now (sid .entry)) (now (nai .entry)) (now (bits .entry))) ⌝ }
 {
     let h = subobject::head_of(form, o);
     let n = writer_front::nai_octets(form, h.nt);
     let front = writer_front::front(form, o, sid);
+    if front == 0 {
+        return state::refuse(writer_rules::adding_barred(form, h, n), writer);
+    }
     let size = front + n + octets::pick(o.structured, subobject::STRUCTURE_LENGTH, 0);
-    let number = writer_rules::adding(
+    let number = writer_rules::adding_unlabelled(
         form,
         buf.len(),
         writer.ero,
@@ -96,6 +100,53 @@ fn add_in(
     })
 }
 
+// The same of MPLS.
+fn add_mpls(
+    buf: &mut [u8],
+    form: Form,
+    writer: Writer,
+    o: Outline,
+    sid: &[u8],
+    nai: &[u8],
+    bits: &[u8],
+) -> Written
+    requires { ⌜ (Held (segmentWith o (now sid) (now nai) (now bits))) × (Sized form) × (Readable form) × (form ≡ mplsForm) ⌝ }
+    ensures answer { λ r. ⌜ r ≡ addAnswerIn form (now (buf .entry)) writer (segmentWith o (now (sid .entry)) (now (nai .entry)) (now (bits .entry))) ⌝ }
+    ensures buffer { λ _. ⌜ now (buf .exit) ≡ addBufferIn form (now (buf .entry)) writer (segmentWith o (now (sid .entry)) (now (nai .entry)) (now (bits .entry))) ⌝ }
+{
+    let h = subobject::head_of(form, o);
+    let n = writer_front::nai_octets(form, h.nt);
+    let front = writer_front::front(form, o, sid);
+    if front == 0 {
+        return state::refuse(writer_rules::adding_barred(form, h, n), writer);
+    }
+    let size = front + n + octets::pick(o.structured, subobject::STRUCTURE_LENGTH, 0);
+    let number = writer_rules::adding_unstructured(
+        form,
+        buf.len(),
+        writer.ero,
+        writer.at,
+        h,
+        front,
+        n,
+        size,
+        o,
+        sid,
+        nai,
+        bits,
+    );
+    if number != 0 {
+        return state::refuse(number, writer);
+    }
+    let from = writer.at;
+    writer_layout::write(&mut buf[from..], form, h, front, n, size, o, sid, nai, bits);
+    state::accept(Writer {
+        ero: writer.ero,
+        at: from + size,
+        form: writer.form,
+    })
+}
+
 // The same, of the form that the state names.
 pub fn add_parts(
     buf: &mut [u8],
@@ -109,15 +160,10 @@ pub fn add_parts(
     ensures answer { λ r. ⌜ r ≡ addAnswer (now (buf .entry)) writer (segmentWith o (now (sid .entry)) (now (nai .entry)) (now (bits .entry))) ⌝ }
     ensures buffer { λ _. ⌜ now (buf .exit) ≡ addBuffer (now (buf .entry)) writer (segmentWith o (now (sid .entry)) (now (nai .entry)) (now (bits .entry))) ⌝ }
 {
-    add_in(
-        buf,
-        forms::named(writer.form as u64),
-        writer,
-        o,
-        sid,
-        nai,
-        bits,
-    )
+    if writer.form == MPLS_SETUP {
+        return add_mpls(buf, forms::mpls(), writer, o, sid, nai, bits);
+    }
+    add_srv6(buf, forms::srv6(), writer, o, sid, nai, bits)
 }
 
 // The same, of a segment by value.

@@ -7,6 +7,7 @@ use lib.Dec.{eqb, ltb}
 use lib.ListN.{length, drop}
 use borrow.Author.Tests.{eq-eqb, ne-eqb, eqb-true, eqb-false, ltb-false, not-false}
 use native.Mathlib.Omega.{arith}
+use Rattle.answers.specs.Numbers.{lengthWrong, naiUnknown, nothingThere}
 use Rattle.octets.proofs.Said.{either-false, both-true, cond-most}
 use Rattle.objects.specs.Objects.{header, unit}
 use Rattle.forms.specs.declared.Form.{Form}
@@ -16,7 +17,7 @@ use Rattle.subobject.specs.declared.head.Head.{Head}
 use Rattle.subobject.specs.declared.segment.Outline.{Outline}
 use Rattle.subobject.specs.declared.segment.Segment.{Segment}
 use Rattle.subobject.specs.Layout.{bitLengths, structureSize, sidLength, structureThere, expectedLength}
-use Rattle.subobject.specs.Rules.{rule8, rule9, malformed, hasStructure, mostBits, sumAt, rule11, labelAt, timeAt, rule29, rule30}
+use Rattle.subobject.specs.Rules.{rule8, rule9, malformed, hasStructure, mostBits, sumAt, rule11, labelAt, timeAt, hasLabel, rule29, rule30}
 use Rattle.subobject.specs.Segments.{outlineOf, headOfOutline, headOfSegment, subobjectOf, bitsOf, bit}
 use Rattle.writer_spare.specs.Held.{Held}
 use Rattle.writer_spare.specs.Spare.{zeros, tidyOf}
@@ -216,3 +217,43 @@ pub overlong-eleven : (form : Form) (g : Segment) (u : Bool) → g .structured �
     → u ≡ (g .structured && ltb mostBits (sumAt (g .structure) 0)) → u ≡ rule11 (headOfSegment form g) (bitsOf g)
 unfolding rule11 bitsOf
 overlong-eleven form g u t e = e ∙ ap (λ (x : Bool). x && ltb mostBits (sumAt (g .structure) 0)) t
+
+-- What has no structure keeps 11, and what has no label 29 and 30.
+no-structure : (form : Form) (g : Segment) → g .structured ≡ false → hasStructure (headOfSegment form g) ≡ false
+unfolding hasStructure headOfSegment
+no-structure form g e = rw e (go (g .hassid))
+  where
+    go : (a : Bool) → structureThere (bit (not a)) (bit false) ≡ false
+    go true = refl
+    go false = refl
+
+pub no-structure-11 : (form : Form) (g : Segment) → g .structured ≡ false → rule11 (headOfSegment form g) (bitsOf g) ≡ false
+unfolding rule11
+no-structure-11 form g e = ap (λ (x : Bool). x && ltb mostBits (bitsOf g)) (no-structure form g e)
+
+no-label : (form : Form) (g : Segment) → g .labelled ≡ false → hasLabel (headOfSegment form g) ≡ false
+unfolding hasLabel headOfSegment
+no-label form g e = rw e (go (g .hassid))
+  where
+    go : (a : Bool) → (eqb (bit (not a)) 0 && eqb (bit false) 1) ≡ false
+    go true = refl
+    go false = refl
+
+pub no-label-29 : (form : Form) (g : Segment) (label : ℕ) → g .labelled ≡ false → rule29 (headOfSegment form g) label ≡ false
+unfolding rule29
+no-label-29 form g label e = rw (no-label form g e)
+
+pub no-label-30 : (form : Form) (g : Segment) (time : ℕ) → g .labelled ≡ false → rule30 (headOfSegment form g) time ≡ false
+unfolding rule30
+no-label-30 form g time e = rw (no-label form g e)
+
+-- A segment that is barred before its NAI.
+pub barred-number : {form : Form} → Sized form → (room : ℕ) (ero : Bool) (at : ℕ) (g : Segment) (h : Head) (front r : ℕ) → h ≡ headOfSegment form g
+    → front ≡ frontOf form (outlineOf g) (g .sid) → front ≡ 0 → r ≡ cond (rule8 form h) naiUnknown (cond (rule9 h) nothingThere lengthWrong)
+    → r ≡ addNumber form room ero at g
+unfolding addNumber
+barred-number {form} z room ero at g h front r eh ef e0 e = e ∙ rw (eh, go (unfit form ero g) refl)
+  where
+    go : (u : Bool) → unfit form ero g ≡ u → unfit form ero g ≡ true
+    go true q = q
+    go false q = absurd (omega (arith, fit-lead z ero g front ef q .0, fixed-least z, e0))

@@ -1,10 +1,12 @@
 // What adding and finishing refuse, as a number; 0 where they do not.
 ghost use mathlib.Core.Path.{_≡_};
-ghost use mathlib.Core.Bool.{cond};
+ghost use mathlib.Core.Bool.{false, cond};
 ghost use Prim.Native.Nat.{_+_};
+ghost use Rattle.answers.specs.Numbers.{lengthWrong, naiUnknown, nothingThere};
 ghost use Rattle.forms.specs.Forms.{naiLength};
 ghost use Rattle.forms.specs.Sized.{Sized};
 ghost use Rattle.subobject.specs.Layout.{structureSize};
+ghost use Rattle.subobject.specs.Rules.{rule8, rule9};
 ghost use Rattle.subobject.specs.Segments.{headOfOutline, segmentWith};
 ghost use Rattle.writer_spare.specs.Held.{Held};
 ghost use Rattle.writer_layout.specs.Readable.{Readable};
@@ -14,8 +16,22 @@ use forms::Form;
 use subobject::Head;
 use subobject::Outline;
 
-// Adding: 8, 9, 7, 11, 29, 30, then 16. The octets before the NAI, those of the NAI, and all are handed in.
-pub fn adding(
+// Adding what is barred before its NAI: 8, 9, else 7.
+pub fn adding_barred(form: Form, h: Head, n: usize) -> usize
+    requires { ⌜ n ≡ naiLength form (h .nt) ⌝ }
+    ensures number { λ r. ⌜ r ≡ cond (rule8 form h) naiUnknown (cond (rule9 h) nothingThere lengthWrong) ⌝ }
+{
+    if writer_tests::unknown(h.nt, n) {
+        return answers::NAI_UNKNOWN;
+    }
+    if subobject_rules::nine(h) {
+        return answers::NOTHING_THERE;
+    }
+    answers::LENGTH_WRONG
+}
+
+// Adding what has no label: 8, 9, 7, 11, then 16. The octets before the NAI, those of the NAI, and all are handed in.
+pub fn adding_unlabelled(
     form: Form,
     room: usize,
     ero: bool,
@@ -29,7 +45,7 @@ pub fn adding(
     nai: &[u8],
     bits: &[u8],
 ) -> usize
-    requires { ⌜ (Held (segmentWith o (now sid) (now nai) (now bits))) × (h ≡ headOfOutline form o) × (Sized form) × (Readable form) × (front ≡ frontOf form o (now sid)) × (n ≡ naiLength form (o .nt)) × (size ≡ front + n + cond (o .structured) structureSize 0) ⌝ }
+    requires { ⌜ (Held (segmentWith o (now sid) (now nai) (now bits))) × (h ≡ headOfOutline form o) × (Sized form) × (Readable form) × (front ≡ frontOf form o (now sid)) × (n ≡ naiLength form (o .nt)) × (size ≡ front + n + cond (o .structured) structureSize 0) × (o .labelled ≡ false) ⌝ }
     ensures number { λ r. ⌜ r ≡ addNumber form room ero at (segmentWith o (now (sid .entry)) (now (nai .entry)) (now (bits .entry))) ⌝ }
 {
     if writer_tests::unknown(h.nt, n) {
@@ -43,6 +59,39 @@ pub fn adding(
     }
     if writer_tests::overlong(o.structured, bits) {
         return answers::STRUCTURE_TOO_LONG;
+    }
+    if writer_tests::crowded(room, at, size) {
+        return answers::BUFFER_FULL;
+    }
+    0
+}
+
+// Adding what has no structure: 8, 9, 7, 29, 30, then 16.
+pub fn adding_unstructured(
+    form: Form,
+    room: usize,
+    ero: bool,
+    at: usize,
+    h: Head,
+    front: usize,
+    n: usize,
+    size: usize,
+    o: Outline,
+    sid: &[u8],
+    nai: &[u8],
+    bits: &[u8],
+) -> usize
+    requires { ⌜ (Held (segmentWith o (now sid) (now nai) (now bits))) × (h ≡ headOfOutline form o) × (Sized form) × (Readable form) × (front ≡ frontOf form o (now sid)) × (n ≡ naiLength form (o .nt)) × (size ≡ front + n + cond (o .structured) structureSize 0) × (o .structured ≡ false) ⌝ }
+    ensures number { λ r. ⌜ r ≡ addNumber form room ero at (segmentWith o (now (sid .entry)) (now (nai .entry)) (now (bits .entry))) ⌝ }
+{
+    if writer_tests::unknown(h.nt, n) {
+        return answers::NAI_UNKNOWN;
+    }
+    if subobject_rules::nine(h) {
+        return answers::NOTHING_THERE;
+    }
+    if writer_tests::misfit(ero, front, n, o, nai, bits) {
+        return answers::LENGTH_WRONG;
     }
     if writer_tests::label_bad(h, o.labelled, sid) {
         return answers::LABEL_VALUE;

@@ -1,23 +1,20 @@
 use mathlib.Core.Path.{_∙_, ap}
 use Rattle.forms.specs.declared.Form.{Form}
-use Rattle.forms.proofs.Laws.{sized-by}
+use Rattle.forms.proofs.Laws.{form-mpls, form-srv6, srv6-sized, mpls-sized}
 use Rattle.subobject.specs.Segments.{segmentWith}
-use Rattle.writer_layout.proofs.Forms.{readable-by}
+use Rattle.writer_layout.proofs.Forms.{srv6-readable, mpls-readable}
 use Rattle.writer.specs.Writing.{addAnswerIn, addBufferIn}
 use borrow.Author.Needs.{needs}
 use Rattle.writer.proofs.writing.add_parts.Statement.{statement}
 use Rattle.writer.proofs.writing.add_parts.Tie as tie
 
-cast-named : tie.Need-cast-named
-cast-named c = search needs
+mpls-requires : tie.Need-mpls-requires
+mpls-requires c κs = search needs
 
-named-requires : tie.Need-named-requires
-named-requires c κs = search needs
-
-add-in-requires : tie.Need-add-in-requires
-add-in-requires c κs =
-    let b7 = c .before .before .before .before .before .before .before in
-    (b7 .pre, rw (c .named .ensures) (sized-by (b7 .args .writer .form)), rw (c .named .ensures) (readable-by (b7 .args .writer .form)))
+add-mpls-requires : tie.Need-add-mpls-requires
+add-mpls-requires c κs =
+    let e = c .mpls .ensures in
+    (c .before .before .before .before .before .before .before .before .pre, rw e mpls-sized, rw e mpls-readable, e)
 
 same-length : tie.Need-same-length
 same-length c = search needs
@@ -26,12 +23,37 @@ returns : tie.Need-returns
 returns c =
     let b2 = c .before .before in
     let b3 = b2 .before in
-    let b10 = b3 .before .before .before .before .before .before .before in
-    let a = b10 .args in
-    let g = segmentWith (a .o) (a .sid .now) (a .nai .now) (a .bits .now) in (
-      b2 .add-in .ensures .0 ∙ ap (λ (f : Form). addAnswerIn f (a .buf .now) (a .writer) g) (b3 .named .ensures),
-      b2 .add-in .ensures .1 ∙ ap (λ (f : Form). addBufferIn f (a .buf .now) (a .writer) g) (b3 .named .ensures),
+    let b11 = b3 .before .before .before .before .before .before .before .before in
+    let a = b11 .args in
+    let g = segmentWith (a .o) (a .sid .now) (a .nai .now) (a .bits .now) in
+    let e = b3 .mpls .ensures ∙ form-mpls (a .writer .form) (b3 .before .before .if1 .taken) in (
+      b2 .add-mpls .ensures .0 ∙ ap (λ (f : Form). addAnswerIn f (a .buf .now) (a .writer) g) e,
+      b2 .add-mpls .ensures .1 ∙ ap (λ (f : Form). addBufferIn f (a .buf .now) (a .writer) g) e,
+    )
+
+srv6-requires : tie.Need-srv6-requires
+srv6-requires c κs = search needs
+
+add-srv6-requires : tie.Need-add-srv6-requires
+add-srv6-requires c κs =
+    let e = c .srv6 .ensures in
+    (c .before .before .before .before .before .before .before .before .pre, rw e srv6-sized, rw e srv6-readable, e)
+
+same-length-2 : tie.Need-same-length-2
+same-length-2 c = search needs
+
+returns-2 : tie.Need-returns-2
+returns-2 c =
+    let b2 = c .before .before in
+    let b3 = b2 .before in
+    let b11 = b3 .before .before .before .before .before .before .before .before in
+    let a = b11 .args in
+    let g = segmentWith (a .o) (a .sid .now) (a .nai .now) (a .bits .now) in
+    let e = b3 .srv6 .ensures ∙ form-srv6 (a .writer .form) (b3 .before .before .if1 .left) in (
+      b2 .add-srv6 .ensures .0 ∙ ap (λ (f : Form). addAnswerIn f (a .buf .now) (a .writer) g) e,
+      b2 .add-srv6 .ensures .1 ∙ ap (λ (f : Form). addBufferIn f (a .buf .now) (a .writer) g) e,
     )
 
 pub add-parts-spec : {M : Type 1} → statement M
-add-parts-spec = tie.close (tie.spec cast-named named-requires add-in-requires same-length returns)
+add-parts-spec =
+    tie.close (tie.spec mpls-requires add-mpls-requires same-length returns srv6-requires add-srv6-requires same-length-2 returns-2)

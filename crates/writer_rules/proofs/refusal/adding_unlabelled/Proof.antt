@@ -7,16 +7,15 @@ use lib.ListN.{drop}
 use native.Mathlib.Omega.{arith}
 use Rattle.octets.proofs.Said.{cond-most}
 use Rattle.forms.proofs.Laws.{nai-most}
-use Rattle.subobject.specs.declared.head.Head.{Head}
 use Rattle.subobject.specs.declared.segment.Segment.{Segment}
-use Rattle.subobject.specs.Rules.{rule8, rule11, mostBits, sumAt}
+use Rattle.subobject.specs.Rules.{rule8, rule11, mostBits, sumAt, labelAt, timeAt, rule29, rule30}
 use Rattle.subobject.specs.Segments.{headOfSegment, segmentWith, bitsOf}
 use Rattle.writer_spare.specs.Spare.{zeros}
 use Rattle.writer_rules.specs.Refusals.{addNumber, noRoom, unfit}
-use Rattle.writer_rules.proofs.Laws.{unknown-eight, misfit-unfit, Fits, fits-by, overlong-eleven, front-most}
+use Rattle.writer_rules.proofs.Laws.{unknown-eight, misfit-unfit, Fits, fits-by, overlong-eleven, front-most, no-label-29, no-label-30}
 use borrow.Author.Needs.{needs}
-use Rattle.writer_rules.proofs.refusal.adding.Statement.{statement}
-use Rattle.writer_rules.proofs.refusal.adding.Tie as tie
+use Rattle.writer_rules.proofs.refusal.adding_unlabelled.Statement.{statement}
+use Rattle.writer_rules.proofs.refusal.adding_unlabelled.Tie as tie
 
 abbrev seg : tie.Start → Segment
 seg c = segmentWith (c .args .o) (c .args .sid .now) (c .args .nai .now) (c .args .bits .now)
@@ -24,6 +23,12 @@ seg c = segmentWith (c .args .o) (c .args .sid .now) (c .args .nai .now) (c .arg
 head : (c : tie.Start) → c .args .h ≡ headOfSegment (c .args .form) (seg c)
 unfolding headOfSegment
 head c = c .pre .1
+
+unlabelled-29 : (c : tie.Start) → rule29 (c .args .h) (labelAt (c .args .sid .now) 0) ≡ false
+unlabelled-29 c = rw (head c) (no-label-29 (c .args .form) (seg c) (labelAt (c .args .sid .now) 0) (c .pre .7))
+
+unlabelled-30 : (c : tie.Start) → rule30 (c .args .h) (timeAt (c .args .sid .now) 0) ≡ false
+unlabelled-30 c = rw (head c) (no-label-30 (c .args .form) (seg c) (timeAt (c .args .sid .now) 0) (c .pre .7))
 
 eight : (c : tie.Start) (u : Bool) → u ≡ (not (eqb (c .args .h .nt) 0) && eqb (c .args .n) 0) → u ≡ rule8 (c .args .form) (c .args .h)
 eight c u e = unknown-eight (c .args .form) (c .args .h) (c .args .n) u (rw (c .pre .1) (c .pre .5)) e
@@ -112,13 +117,20 @@ returns-4 c =
       sym (eleven b11 _ f (c .before .overlong .ensures)) ∙ c .if4 .taken,
     )
 
-label-bad-requires : tie.Need-label-bad-requires
-label-bad-requires c κs =
-    let b11 = c .before .before .before .before .before .before .before .before .before .before .before in
-    ap (λ (h : Head). h .m) (b11 .pre .1)
+crowded-requires : tie.Need-crowded-requires
+crowded-requires c κs =
+    let start = c .before .before .before .before .before .before .before .before .before .before .before in
+    omega (
+      arith,
+      start .pre .6,
+      start .pre .5,
+      front-most (start .pre .2) (start .args .o) (start .args .sid .now) (start .args .front) (start .pre .4),
+      nai-most (start .pre .2) (start .args .o .nt),
+      cond-most (start .args .o .structured) 8,
+    )
 
 returns-5 : tie.Need-returns-5
-unfolding addNumber
+unfolding addNumber noRoom
 returns-5 c =
     let b2 = c .before .before in
     let b3 = b2 .before in
@@ -131,21 +143,19 @@ returns-5 c =
     let b13 = b9 .before .before .before .before in
     let f = sym (seven b13 _ (b5 .misfit .ensures)) ∙ b4 .if3 .left in
     simp (
+      sym (fit b13 f .all),
       ← head b13,
       sym (eight b13 _ (b9 .unknown .ensures)) ∙ b8 .if1 .left,
       sym (b7 .nine .ensures) ∙ b6 .if2 .left,
       f,
       sym (eleven b13 _ f (b3 .overlong .ensures)) ∙ b2 .if4 .left,
-      sym (c .before .label-bad .ensures) ∙ c .if5 .taken,
+      unlabelled-29 b13,
+      unlabelled-30 b13,
+      sym (c .before .crowded .ensures) ∙ c .if5 .taken,
     )
 
-time-bad-requires : tie.Need-time-bad-requires
-time-bad-requires c κs =
-    let b13 = c .before .before .before .before .before .before .before .before .before .before .before .before .before in
-    ap (λ (h : Head). h .m) (b13 .pre .1)
-
 returns-6 : tie.Need-returns-6
-unfolding addNumber
+unfolding addNumber noRoom
 returns-6 c =
     let b2 = c .before .before in
     let b3 = b2 .before in
@@ -155,92 +165,22 @@ returns-6 c =
     let b7 = b6 .before in
     let b8 = b7 .before in
     let b9 = b8 .before in
-    let b10 = b9 .before in
-    let b11 = b10 .before in
-    let b15 = b11 .before .before .before .before in
-    let f = sym (seven b15 _ (b7 .misfit .ensures)) ∙ b6 .if3 .left in
+    let b13 = b9 .before .before .before .before in
+    let f = sym (seven b13 _ (b5 .misfit .ensures)) ∙ b4 .if3 .left in
     simp (
-      ← head b15,
-      sym (eight b15 _ (b11 .unknown .ensures)) ∙ b10 .if1 .left,
-      sym (b9 .nine .ensures) ∙ b8 .if2 .left,
+      sym (fit b13 f .all),
+      ← head b13,
+      sym (eight b13 _ (b9 .unknown .ensures)) ∙ b8 .if1 .left,
+      sym (b7 .nine .ensures) ∙ b6 .if2 .left,
       f,
-      sym (eleven b15 _ f (b5 .overlong .ensures)) ∙ b4 .if4 .left,
-      sym (b3 .label-bad .ensures) ∙ b2 .if5 .left,
-      sym (c .before .time-bad .ensures) ∙ c .if6 .taken,
+      sym (eleven b13 _ f (b3 .overlong .ensures)) ∙ b2 .if4 .left,
+      unlabelled-29 b13,
+      unlabelled-30 b13,
+      sym (c .before .crowded .ensures) ∙ c .if5 .left,
     )
 
-crowded-requires : tie.Need-crowded-requires
-crowded-requires c κs =
-    let b15 = c .before .before .before .before .before .before .before .before .before .before .before .before .before .before .before in
-    omega (
-      arith,
-      b15 .pre .6,
-      b15 .pre .5,
-      front-most (b15 .pre .2) (b15 .args .o) (b15 .args .sid .now) (b15 .args .front) (b15 .pre .4),
-      nai-most (b15 .pre .2) (b15 .args .o .nt),
-      cond-most (b15 .args .o .structured) 8,
-    )
-
-returns-7 : tie.Need-returns-7
-unfolding addNumber noRoom
-returns-7 c =
-    let b2 = c .before .before in
-    let b3 = b2 .before in
-    let b4 = b3 .before in
-    let b5 = b4 .before in
-    let b6 = b5 .before in
-    let b7 = b6 .before in
-    let b8 = b7 .before in
-    let b9 = b8 .before in
-    let b10 = b9 .before in
-    let b11 = b10 .before in
-    let b12 = b11 .before in
-    let b13 = b12 .before in
-    let b17 = b13 .before .before .before .before in
-    let f = sym (seven b17 _ (b9 .misfit .ensures)) ∙ b8 .if3 .left in
-    simp (
-      sym (fit b17 f .all),
-      ← head b17,
-      sym (eight b17 _ (b13 .unknown .ensures)) ∙ b12 .if1 .left,
-      sym (b11 .nine .ensures) ∙ b10 .if2 .left,
-      f,
-      sym (eleven b17 _ f (b7 .overlong .ensures)) ∙ b6 .if4 .left,
-      sym (b5 .label-bad .ensures) ∙ b4 .if5 .left,
-      sym (b3 .time-bad .ensures) ∙ b2 .if6 .left,
-      sym (c .before .crowded .ensures) ∙ c .if7 .taken,
-    )
-
-returns-8 : tie.Need-returns-8
-unfolding addNumber noRoom
-returns-8 c =
-    let b2 = c .before .before in
-    let b3 = b2 .before in
-    let b4 = b3 .before in
-    let b5 = b4 .before in
-    let b6 = b5 .before in
-    let b7 = b6 .before in
-    let b8 = b7 .before in
-    let b9 = b8 .before in
-    let b10 = b9 .before in
-    let b11 = b10 .before in
-    let b12 = b11 .before in
-    let b13 = b12 .before in
-    let b17 = b13 .before .before .before .before in
-    let f = sym (seven b17 _ (b9 .misfit .ensures)) ∙ b8 .if3 .left in
-    simp (
-      sym (fit b17 f .all),
-      ← head b17,
-      sym (eight b17 _ (b13 .unknown .ensures)) ∙ b12 .if1 .left,
-      sym (b11 .nine .ensures) ∙ b10 .if2 .left,
-      f,
-      sym (eleven b17 _ f (b7 .overlong .ensures)) ∙ b6 .if4 .left,
-      sym (b5 .label-bad .ensures) ∙ b4 .if5 .left,
-      sym (b3 .time-bad .ensures) ∙ b2 .if6 .left,
-      sym (c .before .crowded .ensures) ∙ c .if7 .left,
-    )
-
-pub adding-spec : {M : Type 1} → statement M
-adding-spec =
+pub adding-unlabelled-spec : {M : Type 1} → statement M
+adding-unlabelled-spec =
     tie.close
     (tie.spec
     unknown-requires
@@ -251,10 +191,6 @@ adding-spec =
     returns-3
     overlong-requires
     returns-4
-    label-bad-requires
-    returns-5
-    time-bad-requires
-    returns-6
     crowded-requires
-    returns-7
-    returns-8)
+    returns-5
+    returns-6)

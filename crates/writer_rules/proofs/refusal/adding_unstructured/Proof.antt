@@ -1,0 +1,227 @@
+-- Each return rewrites `addNumber` by the tests made before it; the head is the one that the segment is written with. What the tests find is what the rules say
+-- (`eight`, `seven`); the octets handed in are those of the subobject where the segment is not unfit (`fit`).
+use mathlib.Core.Path.{_≡_, sym, _∙_, ap}
+use mathlib.Core.Bool.{Bool, false, not, _&&_, _||_}
+use lib.Dec.{eqb}
+use lib.ListN.{drop}
+use native.Mathlib.Omega.{arith}
+use Rattle.octets.proofs.Said.{cond-most}
+use Rattle.forms.proofs.Laws.{nai-most}
+use Rattle.subobject.specs.declared.head.Head.{Head}
+use Rattle.subobject.specs.declared.segment.Segment.{Segment}
+use Rattle.subobject.specs.Rules.{rule8, rule11}
+use Rattle.subobject.specs.Segments.{headOfSegment, segmentWith, bitsOf}
+use Rattle.writer_spare.specs.Spare.{zeros}
+use Rattle.writer_rules.specs.Refusals.{addNumber, noRoom, unfit}
+use Rattle.writer_rules.proofs.Laws.{unknown-eight, misfit-unfit, Fits, fits-by, front-most, no-structure-11}
+use borrow.Author.Needs.{needs}
+use Rattle.writer_rules.proofs.refusal.adding_unstructured.Statement.{statement}
+use Rattle.writer_rules.proofs.refusal.adding_unstructured.Tie as tie
+
+abbrev seg : tie.Start → Segment
+seg c = segmentWith (c .args .o) (c .args .sid .now) (c .args .nai .now) (c .args .bits .now)
+
+head : (c : tie.Start) → c .args .h ≡ headOfSegment (c .args .form) (seg c)
+unfolding headOfSegment
+head c = c .pre .1
+
+eight : (c : tie.Start) (u : Bool) → u ≡ (not (eqb (c .args .h .nt) 0) && eqb (c .args .n) 0) → u ≡ rule8 (c .args .form) (c .args .h)
+eight c u e = unknown-eight (c .args .form) (c .args .h) (c .args .n) u (rw (c .pre .1) (c .pre .5)) e
+
+seven : (c : tie.Start) (m : Bool)
+    → m
+    ≡ (eqb (c .args .front) 0
+    || ((not (c .args .ero) && (c .args .o .loose || c .args .o .verify))
+    || not ((c .args .o .structured || zeros (c .args .bits .now)) && zeros (drop (c .args .n) (c .args .nai .now)))))
+    → m ≡ unfit (c .args .form) (c .args .ero) (seg c)
+seven c m e = misfit-unfit (c .pre .2) (c .args .ero) (seg c) (c .args .front) (c .args .n) m (c .pre .0) (c .pre .4) (c .pre .5) e
+
+fit : (c : tie.Start) → unfit (c .args .form) (c .args .ero) (seg c) ≡ false → Fits (c .args .form) (seg c) (c .args .front) (c .args .n) (c .args .size)
+fit c f = fits-by (c .pre .2) (c .args .ero) (seg c) (c .args .front) (c .args .n) (c .args .size) (c .pre .0) (c .pre .4) (c .pre .5) (c .pre .6) f
+
+unstructured : (c : tie.Start) → rule11 (c .args .h) (bitsOf (seg c)) ≡ false
+unstructured c = rw (head c) (no-structure-11 (c .args .form) (seg c) (c .pre .7))
+
+unknown-requires : tie.Need-unknown-requires
+unknown-requires c κs = search needs
+
+returns : tie.Need-returns
+unfolding addNumber
+returns c =
+    let b5 = c .before .before .before .before .before in
+    simp (
+      ← head b5,
+      sym (eight b5 _ (c .before .unknown .ensures)) ∙ c .if1 .taken,
+    )
+
+nine-requires : tie.Need-nine-requires
+nine-requires c κs = search needs
+
+returns-2 : tie.Need-returns-2
+unfolding addNumber
+returns-2 c =
+    let b2 = c .before .before in
+    let b3 = b2 .before in
+    let b7 = b3 .before .before .before .before in
+    simp (
+      ← head b7,
+      sym (eight b7 _ (b3 .unknown .ensures)) ∙ b2 .if1 .left,
+      sym (c .before .nine .ensures) ∙ c .if2 .taken,
+    )
+
+misfit-requires : tie.Need-misfit-requires
+misfit-requires c κs =
+    let b7 = c .before .before .before .before .before .before .before in
+    (b7 .pre .0 .nai, b7 .pre .0 .structure, rw (b7 .pre .5) (b7 .pre .3 .steps (b7 .args .o .nt)))
+
+returns-3 : tie.Need-returns-3
+unfolding addNumber
+returns-3 c =
+    let b2 = c .before .before in
+    let b3 = b2 .before in
+    let b4 = b3 .before in
+    let b5 = b4 .before in
+    let b9 = b5 .before .before .before .before in
+    simp (
+      ← head b9,
+      sym (eight b9 _ (b5 .unknown .ensures)) ∙ b4 .if1 .left,
+      sym (b3 .nine .ensures) ∙ b2 .if2 .left,
+      sym (seven b9 _ (c .before .misfit .ensures)) ∙ c .if3 .taken,
+    )
+
+label-bad-requires : tie.Need-label-bad-requires
+label-bad-requires c κs =
+    let start = c .before .before .before .before .before .before .before .before .before in
+    ap (λ (h : Head). h .m) (start .pre .1)
+
+returns-4 : tie.Need-returns-4
+unfolding addNumber
+returns-4 c =
+    let b2 = c .before .before in
+    let b3 = b2 .before in
+    let b4 = b3 .before in
+    let b5 = b4 .before in
+    let b6 = b5 .before in
+    let b7 = b6 .before in
+    let b11 = b7 .before .before .before .before in
+    let f = sym (seven b11 _ (b3 .misfit .ensures)) ∙ b2 .if3 .left in
+    simp (
+      ← head b11,
+      sym (eight b11 _ (b7 .unknown .ensures)) ∙ b6 .if1 .left,
+      sym (b5 .nine .ensures) ∙ b4 .if2 .left,
+      f,
+      unstructured b11,
+      sym (c .before .label-bad .ensures) ∙ c .if4 .taken,
+    )
+
+time-bad-requires : tie.Need-time-bad-requires
+time-bad-requires c κs =
+    let start = c .before .before .before .before .before .before .before .before .before .before .before in
+    ap (λ (h : Head). h .m) (start .pre .1)
+
+returns-5 : tie.Need-returns-5
+unfolding addNumber
+returns-5 c =
+    let b2 = c .before .before in
+    let b3 = b2 .before in
+    let b4 = b3 .before in
+    let b5 = b4 .before in
+    let b6 = b5 .before in
+    let b7 = b6 .before in
+    let b8 = b7 .before in
+    let b9 = b8 .before in
+    let b13 = b9 .before .before .before .before in
+    let f = sym (seven b13 _ (b5 .misfit .ensures)) ∙ b4 .if3 .left in
+    simp (
+      ← head b13,
+      sym (eight b13 _ (b9 .unknown .ensures)) ∙ b8 .if1 .left,
+      sym (b7 .nine .ensures) ∙ b6 .if2 .left,
+      f,
+      unstructured b13,
+      sym (b3 .label-bad .ensures) ∙ b2 .if4 .left,
+      sym (c .before .time-bad .ensures) ∙ c .if5 .taken,
+    )
+
+crowded-requires : tie.Need-crowded-requires
+crowded-requires c κs =
+    let start = c .before .before .before .before .before .before .before .before .before .before .before .before .before in
+    omega (
+      arith,
+      start .pre .6,
+      start .pre .5,
+      front-most (start .pre .2) (start .args .o) (start .args .sid .now) (start .args .front) (start .pre .4),
+      nai-most (start .pre .2) (start .args .o .nt),
+      cond-most (start .args .o .structured) 8,
+    )
+
+returns-6 : tie.Need-returns-6
+unfolding addNumber noRoom
+returns-6 c =
+    let b2 = c .before .before in
+    let b3 = b2 .before in
+    let b4 = b3 .before in
+    let b5 = b4 .before in
+    let b6 = b5 .before in
+    let b7 = b6 .before in
+    let b8 = b7 .before in
+    let b9 = b8 .before in
+    let b10 = b9 .before in
+    let b11 = b10 .before in
+    let b15 = b11 .before .before .before .before in
+    let f = sym (seven b15 _ (b7 .misfit .ensures)) ∙ b6 .if3 .left in
+    simp (
+      sym (fit b15 f .all),
+      ← head b15,
+      sym (eight b15 _ (b11 .unknown .ensures)) ∙ b10 .if1 .left,
+      sym (b9 .nine .ensures) ∙ b8 .if2 .left,
+      f,
+      unstructured b15,
+      sym (b5 .label-bad .ensures) ∙ b4 .if4 .left,
+      sym (b3 .time-bad .ensures) ∙ b2 .if5 .left,
+      sym (c .before .crowded .ensures) ∙ c .if6 .taken,
+    )
+
+returns-7 : tie.Need-returns-7
+unfolding addNumber noRoom
+returns-7 c =
+    let b2 = c .before .before in
+    let b3 = b2 .before in
+    let b4 = b3 .before in
+    let b5 = b4 .before in
+    let b6 = b5 .before in
+    let b7 = b6 .before in
+    let b8 = b7 .before in
+    let b9 = b8 .before in
+    let b10 = b9 .before in
+    let b11 = b10 .before in
+    let b15 = b11 .before .before .before .before in
+    let f = sym (seven b15 _ (b7 .misfit .ensures)) ∙ b6 .if3 .left in
+    simp (
+      sym (fit b15 f .all),
+      ← head b15,
+      sym (eight b15 _ (b11 .unknown .ensures)) ∙ b10 .if1 .left,
+      sym (b9 .nine .ensures) ∙ b8 .if2 .left,
+      f,
+      unstructured b15,
+      sym (b5 .label-bad .ensures) ∙ b4 .if4 .left,
+      sym (b3 .time-bad .ensures) ∙ b2 .if5 .left,
+      sym (c .before .crowded .ensures) ∙ c .if6 .left,
+    )
+
+pub adding-unstructured-spec : {M : Type 1} → statement M
+adding-unstructured-spec =
+    tie.close
+    (tie.spec
+    unknown-requires
+    returns
+    nine-requires
+    returns-2
+    misfit-requires
+    returns-3
+    label-bad-requires
+    returns-4
+    time-bad-requires
+    returns-5
+    crowded-requires
+    returns-6
+    returns-7)
