@@ -114,18 +114,26 @@ pub struct Stepped {
     pub next: usize,
 }
 
-/// What a segment names beside its octets.
-#[repr(C)]
+/// What a segment names beside its octets: the header's record, `strundevi_outline`, as two numbers. A number is stored and loaded whole; a record stored octet by octet
+/// and loaded as one number makes the processor wait.
+#[repr(C, packed(2))]
 #[derive(Clone, Copy)]
 struct Outline {
-    loose: u8,
-    verify: u8,
-    nt: u8,
-    behaviour: u16,
-    hassid: u8,
-    structured: u8,
-    labelled: u8,
-    complete: u8,
+    first: u64,
+    last: u16,
+}
+
+const _: () = assert!(size_of::<Outline>() == 10 && align_of::<Outline>() == 2 && cfg!(target_endian = "little"));
+
+impl Outline {
+    #[inline]
+    fn of(s: &Segment) -> Self {
+        let at = |octet: u8, place: u32| (octet as u64) << (8 * place);
+        Self {
+            first: at(s.loose, 0) | at(s.verify, 1) | at(s.nt, 2) | (s.behaviour as u64) << 32 | at(s.hassid, 6) | at(s.structured, 7),
+            last: s.labelled as u16 | (s.complete as u16) << 8,
+        }
+    }
 }
 
 #[repr(C)]
@@ -350,9 +358,7 @@ pub fn begin(buffer: &mut [u8], writer: Writer, ero: u8, pst: u64) -> Written {
 
 #[inline]
 pub fn add(buffer: &mut [u8], writer: Writer, segment: &Segment) -> Written {
-    let Segment { loose, verify, nt, behaviour, hassid, ref sid, ref nai, structured, ref structure, labelled, complete } = *segment;
-    let outline = Outline { loose, verify, nt, behaviour, hassid, structured, labelled, complete };
-    unsafe { strundevi_raw_add(buffer.as_mut_ptr(), buffer.len(), writer, outline, sid, nai, structure) }
+    unsafe { strundevi_raw_add(buffer.as_mut_ptr(), buffer.len(), writer, Outline::of(segment), &segment.sid, &segment.nai, &segment.structure) }
 }
 
 #[inline]
