@@ -46,9 +46,9 @@ cut-count t i (suc n) l f g =
     ⊎-elim (λ h. rw (countBelow, g n h (omega arith)) (omega (arith, cut-count t i n h f (λ j y k. g j y (omega arith)))))
     (λ h. omega (arith, count-not t (suc n), count-full (λ j. not (t j)) (suc n) (λ j k. rw (f j (omega arith))))) (from? i n)
 
--- one for a place of which four things hold
-pub one-of-four : (a b d e r s t y : Bool) → r ≡ (a && b) → s ≡ (r && d) → t ≡ (s && e) → t ≡ y → _≡_ {A = ℕ} (cond y 1 0) (cond (a && b && d && e) 1 0)
-one-of-four a b d e r s t y p q o z = let w : y ≡ (a && b && d && e) = cc in ap (λ (x : Bool). cond {A = ℕ} x 1 0) w
+-- one for a place of which three things hold
+pub one-of-three : (a b d r s y : Bool) → r ≡ (a && b) → s ≡ (r && d) → s ≡ y → _≡_ {A = ℕ} (cond y 1 0) (cond (a && b && d) 1 0)
+one-of-three a b d r s y p q z = let w : y ≡ (a && b && d) = cc in ap (λ (x : Bool). cond {A = ℕ} x 1 0) w
 
 -- ---- all pass where none fails
 pub none-fails : (t : ℕ → Bool) (m n : ℕ) → n ≡ countBelow (λ i. not (t i)) m → eqb n 0 ≡ allBelow t m
@@ -64,9 +64,13 @@ none-fails t m n e = test-is (eqb n 0) (allBelow t m) all none
     none : allBelow t m ≡ true → eqb n 0 ≡ true
     none a = eq-eqb n 0 (omega (arith, count-not t m, count-full t m (all-at t m a), e))
 
--- ---- two counts as the code tests them
-pub first-differs : (a b m : ℕ) (e : ℕ) → e ≡ a → (e ≡ m → ⊥) → false ≡ (eqb a m && eqb b m)
-first-differs a b m e q d = rw (ne-eqb a m (λ z. d (q ∙ z)))
+-- ---- three counts as the code tests them
+module _ (a b d m : ℕ) where
+  pub first-differs : (x : ℕ) → x ≡ a → (x ≡ m → ⊥) → false ≡ (eqb a m && eqb b m && eqb d m)
+  first-differs x q n = rw (ne-eqb a m (λ z. n (q ∙ z)))
 
-pub first-same : (a b m e z : ℕ) → e ≡ a → z ≡ b → e ≡ m → eqb z m ≡ (eqb a m && eqb b m)
-first-same a b m e z q p f = rw (eq-eqb a m (sym q ∙ f), p)
+  pub second-differs : (x y : ℕ) → x ≡ a → x ≡ m → y ≡ b → (y ≡ m → ⊥) → false ≡ (eqb a m && eqb b m && eqb d m)
+  second-differs x y q e p n = rw (eq-eqb a m (sym q ∙ e), ne-eqb b m (λ z. n (p ∙ z)))
+
+  pub both-same : (x y z : ℕ) → x ≡ a → x ≡ m → y ≡ b → y ≡ m → z ≡ d → eqb z m ≡ (eqb a m && eqb b m && eqb d m)
+  both-same x y z q e p f w = rw (eq-eqb a m (sym q ∙ e), eq-eqb b m (sym p ∙ f), w)

@@ -15,6 +15,6 @@ bodyB length form = cond (eqb length 0) (eqb form 0) (pathOk length form)
 abbrev pub turnedOf : ℕ → ℕ
 turnedOf length = length / unit + length % unit * 16384
 
--- place i is empty and all its numbers are 0
-unfoldable pub emptyB : List ℕ → List ℕ → List ℕ → List ℕ → ℕ → Bool
-emptyB keys versions lengths forms i = eqb (getD keys i 0) 0 && eqb (getD versions i 0) 0 && eqb (getD lengths i 0) 0 && eqb (getD forms i 0) 0
+-- place i has no key, no length and no form
+unfoldable pub emptyB : List ℕ → List ℕ → List ℕ → ℕ → Bool
+emptyB keys lengths forms i = eqb (getD keys i 0) 0 && eqb (getD lengths i 0) 0 && eqb (getD forms i 0) 0

@@ -12,33 +12,48 @@ use board_record::PLACES;
 use octets::both;
 use octets::wide;
 
-// 1 for an empty place with all numbers 0, else 0.
-fn empty_one(k: u32, v: u64, l: u16, form: u8) -> u8
-    ensures one { λ r. ⌜ r ≡ cond (eqb k 0 && eqb v 0 && eqb l 0 && eqb form 0) 1 0 ⌝ }
+// 1 for a place without key, length and form, else 0.
+fn empty_one(k: u32, l: u16, form: u8) -> u8
+    ensures one { λ r. ⌜ r ≡ cond (eqb k 0 && eqb l 0 && eqb form 0) 1 0 ⌝ }
 {
-    if both(both(both(k == 0, v == 0), l == 0), form == 0) {
+    if both(both(k == 0, l == 0), form == 0) {
         1
     } else {
         0
     }
 }
 
-// How many places are empty, with all their numbers 0.
-fn empties<'a>(
-    keys: &'a [u32; 128],
-    versions: &'a [u64; 128],
-    lengths: &'a [u16; 128],
-    forms: &'a [u8; 128],
-) -> usize
-    ensures count { λ r. ⌜ r ≡ countBelow (emptyB (now (keys .entry)) (now (versions .entry)) (now (lengths .entry)) (now (forms .entry))) places ⌝ }
+// How many places have no key, no length and no form.
+fn empties<'a>(keys: &'a [u32; 128], lengths: &'a [u16; 128], forms: &'a [u8; 128]) -> usize
+    ensures count { λ r. ⌜ r ≡ countBelow (emptyB (now (keys .entry)) (now (lengths .entry)) (now (forms .entry))) places ⌝ }
 {
     let mut none: u8 = 0;
     let mut i: usize = 0;
     while i < PLACES {
-        none += empty_one(keys[i], versions[i], lengths[i], forms[i]);
+        none += empty_one(keys[i], lengths[i], forms[i]);
         i += 1;
     }
     wide(none)
+}
+
+// 1 for the version 0, else 0.
+fn unborn_one(v: u64) -> usize
+    ensures one { λ r. ⌜ r ≡ cond (eqb v 0) 1 0 ⌝ }
+{
+    if v == 0 { 1 } else { 0 }
+}
+
+// How many versions are 0. They are counted by themselves: beside the narrow numbers the compiler would take two places at a time.
+fn unborn(versions: &[u64; 128]) -> usize
+    ensures count { λ r. ⌜ r ≡ countBelow (λ j. eqb (getD (now (versions .entry)) j 0) 0) places ⌝ }
+{
+    let mut none: usize = 0;
+    let mut i: usize = 0;
+    while i < PLACES {
+        none += unborn_one(versions[i]);
+        i += 1;
+    }
+    none
 }
 
 // 1 for 0, else 0.
@@ -61,7 +76,7 @@ fn zeros(order: &[u8; 128]) -> usize
     wide(none)
 }
 
-// Whether all places but i are empty, and all numbers but i are 0.
+// Whether all places but i are empty, and all versions and all numbers but i are 0.
 pub fn closed<'a>(
     keys: &'a [u32; 128],
     versions: &'a [u64; 128],
@@ -72,11 +87,15 @@ pub fn closed<'a>(
 ) -> bool
     requires { ⌜ i ≤ places ⌝ }
     ensures closed { λ r.
-        let empty = countBelow (emptyB (now (keys .entry)) (now (versions .entry)) (now (lengths .entry)) (now (forms .entry))) places in
+        let empty = countBelow (emptyB (now (keys .entry)) (now (lengths .entry)) (now (forms .entry))) places in
+        let unborn = countBelow (λ j. eqb (getD (now (versions .entry)) j 0) 0) places in
         let zero = countBelow (λ j. eqb (getD (now (order .entry)) j 0) 0) places in
-        ⌜ r ≡ (eqb empty (places - i) && eqb zero (places - i)) ⌝ }
+        ⌜ r ≡ (eqb empty (places - i) && eqb unborn (places - i) && eqb zero (places - i)) ⌝ }
 {
-    if empties(keys, versions, lengths, forms) != PLACES - i {
+    if empties(keys, lengths, forms) != PLACES - i {
+        return false;
+    }
+    if unborn(versions) != PLACES - i {
         return false;
     }
     zeros(order) == PLACES - i

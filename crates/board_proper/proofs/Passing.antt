@@ -205,15 +205,17 @@ module _ (b : Table) (order : List ℕ) where
 
   -- ---- where the order ends before number i of the row
   abbrev none? : ℕ → Bool
-  none? p = emptyB (b .keys) (b .versions) (b .lengths) (b .forms) p
+  none? p = emptyB (b .keys) (b .lengths) (b .forms) p
 
-  none-is : (p : ℕ) → none? p ≡ true → (keyAt b p ≡ 0) × (versionAt b p ≡ 0) × (lengthAt b p ≡ 0) × (formAt b p ≡ 0)
+  abbrev unborn? : ℕ → Bool
+  unborn? p = eqb (versionAt b p) 0
+
+  none-is : (p : ℕ) → none? p ≡ true → (keyAt b p ≡ 0) × (lengthAt b p ≡ 0) × (formAt b p ≡ 0)
   unfolding emptyB
   none-is p e =
-      let s = both-true (eqb (keyAt b p) 0 && eqb (versionAt b p) 0 && eqb (lengthAt b p) 0) (eqb (formAt b p) 0) e in
-      let t = both-true (eqb (keyAt b p) 0 && eqb (versionAt b p) 0) (eqb (lengthAt b p) 0) (s .0) in
-      let u = both-true (eqb (keyAt b p) 0) (eqb (versionAt b p) 0) (t .0) in
-      (eqb-true (keyAt b p) 0 (u .0), eqb-true (versionAt b p) 0 (u .1), eqb-true (lengthAt b p) 0 (t .1), eqb-true (formAt b p) 0 (s .1))
+      let s = both-true (eqb (keyAt b p) 0 && eqb (lengthAt b p) 0) (eqb (formAt b p) 0) e in
+      let t = both-true (eqb (keyAt b p) 0) (eqb (lengthAt b p) 0) (s .0) in
+      (eqb-true (keyAt b p) 0 (t .0), eqb-true (lengthAt b p) 0 (t .1), eqb-true (formAt b p) 0 (s .1))
 
   module _ (i last : ℕ) (l : i ≤ places) (a : Along i last) where
     hit-used : (p : ℕ) → hits (λ j. true) (placeOn order) i p ≡ true → Used b p
@@ -233,15 +235,23 @@ module _ (b : Table) (order : List ℕ) where
             ⊎-elim (λ e. e) (λ d. absurd (omega (arith, count-chained b order c (i - 1) (omega arith) (a .risen .low (i - 1) (omega (arith, d))), d)))
             (same? (countBelow (usedB b) places) i)
 
-    stop-count : places ≤ placeOn order i → i < places → (n : ℕ) → n ≡ countBelow none? places → (n ≡ places - i → ⊥) → false ≡ (properB b && inOrder b order)
-    unfolding emptyB usedB
-    stop-count g m n e d =
-        refuted (λ p c. d (omega (arith, e, count-same (λ q. not (usedB b q)) none? 128 (same p), count-not (usedB b) 128, named-used c (c .rest i m g) m)))
-      where
-        same : Proper b → (q : ℕ) → q < 128 → none? q ≡ not (not (eqb (keyAt b q) 0))
-        same p q k = ⊎-elim
-            (λ y. rw (eq-eqb (keyAt b q) 0 y, eq-eqb (versionAt b q) 0 (p .empty-version q k y), eq-eqb (lengthAt b q) 0 (p .empty-length q k y), eq-eqb (formAt b q) 0 (p .empty-form q k y)))
-            (λ y. rw (ne-eqb (keyAt b q) 0 y)) (same? (keyAt b q) 0)
+    -- a test that passes exactly at the places that are not used: in a proper table as many pass as the order does not name
+    stop-count : (t : ℕ → Bool) → (Proper b → (q : ℕ) → q < 128 → t q ≡ not (not (eqb (keyAt b q) 0))) → places ≤ placeOn order i → i < places → (n : ℕ)
+        → n ≡ countBelow t places → (n ≡ places - i → ⊥) → false ≡ (properB b && inOrder b order)
+    unfolding usedB
+    stop-count t same g m n e d =
+        refuted (λ p c. d (omega (arith, e, count-same (λ q. not (usedB b q)) t 128 (same p), count-not (usedB b) 128, named-used c (c .rest i m g) m)))
+
+    none-same : Proper b → (q : ℕ) → q < 128 → none? q ≡ not (not (eqb (keyAt b q) 0))
+    unfolding emptyB
+    none-same p q k = ⊎-elim
+        (λ y. rw (eq-eqb (keyAt b q) 0 y, eq-eqb (lengthAt b q) 0 (p .empty-length q k y), eq-eqb (formAt b q) 0 (p .empty-form q k y)))
+        (λ y. rw (ne-eqb (keyAt b q) 0 y)) (same? (keyAt b q) 0)
+
+    unborn-same : Proper b → (q : ℕ) → q < 128 → unborn? q ≡ not (not (eqb (keyAt b q) 0))
+    unborn-same p q k = ⊎-elim
+        (λ y. rw (eq-eqb (keyAt b q) 0 y, eq-eqb (versionAt b q) 0 (p .empty-version q k y)))
+        (λ y. rw (ne-eqb (keyAt b q) 0 y, ne-eqb (versionAt b q) 0 (λ z. omega (arith, z, p .version-least q k y)))) (same? (keyAt b q) 0)
 
     -- the numbers so far are not 0
     some : (j : ℕ) → j < i → getD order j 0 ≡ 0 → ⊥
@@ -259,23 +269,32 @@ module _ (b : Table) (order : List ℕ) where
         counted c =
             cut-count (λ j. eqb (getD order j 0) 0) i 128 l (λ j k. ne-eqb (getD order j 0) 0 (some j k)) (λ j y k. eq-eqb (getD order j 0) 0 (zero-at c j y k))
 
-    -- both at once
+    -- all at once
     abbrev closed? : Bool
-    closed? = eqb (countBelow none? places) (places - i) && eqb (countBelow (λ j. eqb (getD order j 0) 0) places) (places - i)
+    closed? =
+        eqb (countBelow none? places) (places - i) && eqb (countBelow unborn? places) (places - i) && eqb (countBelow (λ j. eqb (getD order j 0) 0) places) (places - i)
 
     pub stop-closed : places ≤ placeOn order i → i < places → (r : Bool) → r ≡ closed? → not r ≡ true → false ≡ (properB b && inOrder b order)
     stop-closed g m r f n =
-        ⊎-elim (λ y. ⊎-elim (λ z. absurd (true≢false (sym (both y z) ∙ sym f ∙ not-true r n))) (λ d. stop-zeros g m _ refl d)
-        (same? (countBelow (λ j. eqb (getD order j 0) 0) places) (places - i))) (λ d. stop-count g m _ refl d) (same? (countBelow none? places) (places - i))
+        ⊎-elim (λ x. ⊎-elim (λ y. ⊎-elim (λ z. absurd (true≢false (sym (all x y z) ∙ sym f ∙ not-true r n))) (λ d. stop-zeros g m _ refl d)
+        (same? (countBelow (λ j. eqb (getD order j 0) 0) places) (places - i))) (λ d. stop-count unborn? unborn-same g m _ refl d)
+        (same? (countBelow unborn? places) (places - i))) (λ d. stop-count none? none-same g m _ refl d) (same? (countBelow none? places) (places - i))
       where
-        both : countBelow none? places ≡ places - i → countBelow (λ j. eqb (getD order j 0) 0) places ≡ places - i → closed? ≡ true
-        both y z =
-            rw (eq-eqb (countBelow none? places) (places - i) y, eq-eqb (countBelow (λ j. eqb (getD order j 0) 0) places) (places - i) z)
+        all : countBelow none? places ≡ places - i → countBelow unborn? places ≡ places - i → countBelow (λ j. eqb (getD order j 0) 0) places ≡ places - i → closed? ≡ true
+        all x y z =
+            rw (
+              eq-eqb (countBelow none? places) (places - i) x,
+              eq-eqb (countBelow unborn? places) (places - i) y,
+              eq-eqb (countBelow (λ j. eqb (getD order j 0) 0) places) (places - i) z,
+            )
 
-    pub is-closed : (r : Bool) → r ≡ closed? → not r ≡ false → (countBelow none? places ≡ places - i) × (countBelow (λ j. eqb (getD order j 0) 0) places ≡ places - i)
+    pub is-closed : (r : Bool) → r ≡ closed? → not r ≡ false
+        → (countBelow none? places ≡ places - i) × (countBelow unborn? places ≡ places - i) × (countBelow (λ j. eqb (getD order j 0) 0) places ≡ places - i)
     is-closed r f n =
-        let t = both-true (eqb (countBelow none? places) (places - i)) (eqb (countBelow (λ j. eqb (getD order j 0) 0) places) (places - i)) (said-yes r _ f n) in
-        (eqb-true _ _ (t .0), eqb-true _ _ (t .1))
+        let s = both-true (eqb (countBelow none? places) (places - i) && eqb (countBelow unborn? places) (places - i)) (eqb (countBelow (λ j. eqb (getD order j 0) 0) places) (places - i))
+        (said-yes r _ f n) in
+        let t = both-true (eqb (countBelow none? places) (places - i)) (eqb (countBelow unborn? places) (places - i)) (s .0) in
+        (eqb-true _ _ (t .0), eqb-true _ _ (t .1), eqb-true _ _ (s .1))
 
     pub clear-at : (n : ℕ) → n ≡ countBelow (λ j. eqb (getD order j 0) 0) places → n ≡ places - i → (j : ℕ) → i ≤ j → j < places → getD order j 0 ≡ 0
     clear-at n e f j h k =
@@ -376,26 +395,43 @@ module _ (b : Table) (order : List ℕ) where
             go true e = let y = hits-where (λ j. true) (placeOn order) i p e in on (y .at) (y .here) (y .is)
             go false e = absurd (omega (arith, count-less (hits (λ j. true) (placeOn order) i) 128 p k e, all-hit))
 
-    pub end-short : (n : ℕ) → n ≡ countBelow none? places → n ≡ places - i → ((j : ℕ) → i ≤ j → j < places → getD order j 0 ≡ 0)
+    -- Where a test fails at the places that the order names, and passes at as many as it does not, it fails at no other place.
+    named-where : (t : ℕ → Bool) → ((x : ℕ) → x < places → hits (λ j. true) (placeOn order) i x ≡ true → t x ≡ false) → countBelow t places ≡ places - i
+        → (p : ℕ) → p < places → t p ≡ false → hits (λ j. true) (placeOn order) i p ≡ true
+    named-where t fails e p k w = count-equal (hits (λ j. true) (placeOn order) i) (λ x. not (t x)) 128 shown fewer p k (rw w)
+      where
+        fewer : countBelow (λ x. not (t x)) 128 ≤ countBelow (hits (λ j. true) (placeOn order) i) 128
+        fewer = omega (arith, count-not t 128, all-hit, e)
+
+        shown : (x : ℕ) → x < 128 → hits (λ j. true) (placeOn order) i x ≡ true → not (t x) ≡ true
+        shown x u h = rw (fails x u h)
+
+    none-fails-at : (x : ℕ) → x < places → hits (λ j. true) (placeOn order) i x ≡ true → none? x ≡ false
+    none-fails-at x u h = go (none? x) refl
+      where
+        go : (y : Bool) → none? x ≡ y → y ≡ false
+        go true w = absurd (hit-used x h (none-is x w .0))
+        go false w = refl
+
+    unborn-fails-at : (x : ℕ) → x < places → hits (λ j. true) (placeOn order) i x ≡ true → unborn? x ≡ false
+    unborn-fails-at x u h =
+        let y = hits-where (λ j. true) (placeOn order) i x h in
+        ne-eqb (versionAt b x) 0 (λ z. omega (arith, a .risen .above (y .at) (y .here), ap (versionAt b) (y .is), z))
+
+    pub end-short : (m n : ℕ) → m ≡ countBelow none? places → m ≡ places - i → n ≡ countBelow unborn? places → n ≡ places - i
+        → ((j : ℕ) → i ≤ j → j < places → getD order j 0 ≡ 0)
         → allBelow (newB (along (b .keys) order)) i ≡ true → b .floor ≤ b .version → b .version ≤ versionMost → last ≤ b .version → true ≡ (properB b && inOrder b order)
-    end-short n e f rest new low high top = well seen rest new low high top
+    end-short m n e f g h rest new low high top = well seen rest new low high top
       where
         seen : (p : ℕ) → p < places → Seen p
         seen p k = pick (none? p) refl
           where
-            shown : countBelow (λ x. not (none? x)) 128 ≤ countBelow (hits (λ j. true) (placeOn order) i) 128
-            shown = omega (arith, count-not none? 128, all-hit, e, f)
-
-            hit-shown : (x : ℕ) → x < 128 → hits (λ j. true) (placeOn order) i x ≡ true → not (none? x) ≡ true
-            hit-shown x u t = not-none (none? x) refl
-              where
-                not-none : (y : Bool) → none? x ≡ y → not y ≡ true
-                not-none true w = absurd (hit-used x t (none-is x w .0))
-                not-none false w = refl
+            born : keyAt b p ≡ 0 → (y : Bool) → unborn? p ≡ y → versionAt b p ≡ 0
+            born z true w = eqb-true (versionAt b p) 0 w
+            born z false w = absurd (hit-used p (named-where unborn? unborn-fails-at (sym g ∙ h) p k w) z)
 
             pick : (y : Bool) → none? p ≡ y → Seen p
-            pick true w = let t = none-is p w in off (t .0) (t .1) (t .2) (t .3)
+            pick true w = let t = none-is p w in off (t .0) (born (t .0) (unborn? p) refl) (t .1) (t .2)
             pick false w =
-                let y = hits-where (λ j. true) (placeOn order) i p
-                (count-equal (hits (λ j. true) (placeOn order) i) (λ x. not (none? x)) 128 hit-shown shown p k (rw w)) in
+                let y = hits-where (λ j. true) (placeOn order) i p (named-where none? none-fails-at (sym e ∙ f) p k w) in
                 on (y .at) (y .here) (y .is)

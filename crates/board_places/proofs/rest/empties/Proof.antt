@@ -10,10 +10,10 @@ use Rattle.board_places.proofs.rest.empties.Statement.{statement}
 use Rattle.board_places.proofs.rest.empties.Tie as tie
 
 abbrev Inv-loop : tie.InvT-loop
-Inv-loop keys versions lengths forms none₀ i₀ none i = (i ≤ places) × (none ≡ countBelow (emptyB keys versions lengths forms) i)
+Inv-loop keys lengths forms none₀ i₀ none i = (i ≤ places) × (none ≡ countBelow (emptyB keys lengths forms) i)
 
 abbrev μ-loop : tie.MeasureT-loop
-μ-loop keys versions lengths forms none₀ i₀ none i = places - i
+μ-loop keys lengths forms none₀ i₀ none i = places - i
 
 loop-holds : tie.Need-loop-holds Inv-loop μ-loop
 loop-holds c = (omega arith, count-none _)
@@ -30,21 +30,15 @@ mul-empty-one-2 c = omega arith
 element-copy-out-empty-one-2 : tie.Need-element-copy-out-empty-one-2 Inv-loop μ-loop
 element-copy-out-empty-one-2 c = omega arith
 
-mul-empty-one-3 : tie.Need-mul-empty-one-3 Inv-loop μ-loop
-mul-empty-one-3 c = omega arith
-
 element-copy-out-empty-one-3 : tie.Need-element-copy-out-empty-one-3 Inv-loop μ-loop
 element-copy-out-empty-one-3 c = omega arith
-
-element-copy-out-empty-one-4 : tie.Need-element-copy-out-empty-one-4 Inv-loop μ-loop
-element-copy-out-empty-one-4 c = omega arith
 
 empty-one-requires : tie.Need-empty-one-requires Inv-loop μ-loop
 empty-one-requires c κs = search needs
 
 add-none : tie.Need-add-none Inv-loop μ-loop
 unfolding emptyB
-add-none c = omega (arith, count-small _ _ _ _ (c .before .before .before .before .before .loop-test .taken) (c .before .before .before .before .before .before .loop .inv .1) (c .empty-one .ensures))
+add-none c = omega (arith, count-small _ _ _ _ (c .before .before .before .before .loop-test .taken) (c .before .before .before .before .before .loop .inv .1) (c .empty-one .ensures))
 
 add-i : tie.Need-add-i Inv-loop μ-loop
 add-i c = omega arith
@@ -55,8 +49,8 @@ loop-less c = omega arith
 loop-again : tie.Need-loop-again Inv-loop μ-loop
 unfolding emptyB
 loop-again c =
-    let b5 = c .before .before .before .before .before in
-    (omega (arith, b5 .loop-test .taken), count-more _ _ _ _ (b5 .before .loop .inv .1) (c .empty-one .ensures))
+    let b4 = c .before .before .before .before in
+    (omega (arith, b4 .loop-test .taken), count-more _ _ _ _ (b4 .before .loop .inv .1) (c .empty-one .ensures))
 
 wide-requires : tie.Need-wide-requires Inv-loop μ-loop
 wide-requires c κs = search needs
@@ -75,9 +69,7 @@ empties-spec =
     element-copy-out-empty-one
     mul-empty-one-2
     element-copy-out-empty-one-2
-    mul-empty-one-3
     element-copy-out-empty-one-3
-    element-copy-out-empty-one-4
     empty-one-requires
     add-none
     add-i

@@ -119,9 +119,9 @@ returns-7 c =
     let order = args .order .now in
     let inv = b8 .before .loop .inv in
     let all = is-closed t order _ _ (inv .0) (inv .1) _ (c .before .before .before .closed .ensures) (c .before .before .if7 .left) in
-    let rest = clear-at t order _ _ (inv .0) (inv .1) _ refl (all .1) in
+    let rest = clear-at t order _ _ (inv .0) (inv .1) _ refl (all .2) in
     end-tops t order _ (args .tops .now) _ _ (inv .0) (inv .3) (inv .1 .risen) rest _
-    (end-short t order _ _ (inv .0) (inv .1) _ refl (all .0) rest (inv .2 .fine)
+    (end-short t order _ _ (inv .0) (inv .1) _ _ refl (all .0) refl (all .1) rest (inv .2 .fine)
     (b12 .before .before .before .if1 .left) (b12 .before .before .if2 .left)
     (b4 .if6 .left)) (c .same .ensures)
 
