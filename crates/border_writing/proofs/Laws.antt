@@ -5,6 +5,7 @@ use mathlib.Core.List.{List}
 use mathlib.Core.Bool.{Bool}
 use lib.ListN.{length}
 use native.Mathlib.Omega.{arith}
+use Rattle.forms.specs.declared.Form.{Form}
 use Rattle.forms.specs.Forms.{formOf}
 use Rattle.subobject.specs.declared.segment.Outline.{Outline}
 use Rattle.subobject.specs.declared.segment.Segment.{Segment}
@@ -27,12 +28,9 @@ pub by-writer : (answer : Writer → Written) (buffer : Writer → List ℕ) (w 
     → (r ≡ writtenOut (answer (writerIn x))) × (after ≡ buffer (writerIn x))
 by-writer answer buffer w v r after x f e g h = (h ∙ ap writtenOut (e ∙ ap answer f), g ∙ ap buffer f)
 
--- The same where they hang on an outline too.
-pub by-both : (answer : Writer → Outline → Written) (buffer : Writer → Outline → List ℕ) (w : Writer) (o : Outline) (v : Written) (r : WrittenRecord)
-    (after : List ℕ) (x : WriterRecord) (y : OutlineRecord) → w ≡ writerIn x → o ≡ outlineIn y → v ≡ answer w o → after ≡ buffer w o → r ≡ writtenOut v
-    → (r ≡ writtenOut (answer (writerIn x) (outlineIn y))) × (after ≡ buffer (writerIn x) (outlineIn y))
-by-both answer buffer w o v r after x y f p e g h =
-    (h ∙ ap writtenOut (e ∙ ap (λ (a : Writer). answer a o) f ∙ ap (answer (writerIn x)) p), g ∙ ap (λ (a : Writer). buffer a o) f ∙ ap (buffer (writerIn x)) p)
+-- What hangs on a form and an outline, of those that are the same.
+pub by-form : {A : Type 0} (f : Form → Outline → A) {r : A} {m n : Form} {o p : Outline} → r ≡ f m o → m ≡ n → o ≡ p → r ≡ f n p
+by-form f {r} {m} {n} {o} {p} e i j = e ∙ ap (λ (x : Form). f x o) i ∙ ap (f n) j
 
 -- Adding hands back the kind and the form that it was given.
 pub state-kept : (b : List ℕ) (w : Writer) (g : Segment) (v : Written) → v ≡ addAnswer b w g → (v .writer .ero ≡ w .ero) × (v .writer .form ≡ w .form)
@@ -51,19 +49,19 @@ state-kept b w g v e =
     forms ℕ.zero new q = q
     forms (ℕ.suc n) new q = refl
 
--- A record that is handed back with another place only; its flag is 0 or 1.
-flag-back : (n : ℕ) → n ≤ 1 → flagOf (isYes n) ≡ n
-flag-back ℕ.zero h = refl
-flag-back (ℕ.suc ℕ.zero) h = refl
-flag-back (ℕ.suc (ℕ.suc n)) h = absurd (omega arith)
-
-pub kept-out : (x : WriterRecord) (v : Written) (d : VerdictRecord) → d ≡ verdictOut (v .verdict) → v .writer .ero ≡ isYes (x .ero) → v .writer .form ≡ x .form
-    → x .ero ≤ 1 → _≡_ {A = WrittenRecord} (record { verdict = d; writer = record { ero = x .ero; form = x .form; at = v .writer .at } }) (writtenOut v)
-kept-out x v d e q f h =
-    let k : flagOf (v .writer .ero) ≡ x .ero = ap flagOf q ∙ flag-back (x .ero) h in
-    sym (by-parts (sym e) k f)
+-- A record that is handed back with another place only.
+pub placed-out : (x : WriterRecord) (v : Written) (d : VerdictRecord) → d ≡ verdictOut (v .verdict) → x .ero ≡ flagOf (v .writer .ero)
+    → x .form ≡ v .writer .form
+    → _≡_ {A = WrittenRecord} (record { verdict = d; writer = record { ero = x .ero; form = x .form; at = v .writer .at } }) (writtenOut v)
+placed-out x v d e k f = by-parts e k f
   where
     by-parts : {a b : VerdictRecord} {m n s t : ℕ} → a ≡ b → m ≡ n → s ≡ t
         → _≡_ {A = WrittenRecord} (record { verdict = a; writer = record { ero = m; form = s; at = v .writer .at } })
         (record { verdict = b; writer = record { ero = n; form = t; at = v .writer .at } })
     by-parts i j l = cc
+
+-- A flag that is 0 or 1 comes back as it was.
+pub flag-back : (n : ℕ) → n ≤ 1 → n ≡ flagOf (isYes n)
+flag-back ℕ.zero h = refl
+flag-back (ℕ.suc ℕ.zero) h = refl
+flag-back (ℕ.suc (ℕ.suc n)) h = absurd (omega arith)

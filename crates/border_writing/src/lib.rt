@@ -3,7 +3,7 @@
 ghost use mathlib.Core.Path.{_≡_};
 ghost use Rattle.subobject.specs.Segments.{segmentWith};
 ghost use Rattle.writer.specs.Writing.{beginAnswer, beginBuffer, addAnswer, addBuffer, finishAnswer, finishBuffer};
-ghost use Rattle.border_records.specs.Records.{isYes};
+ghost use Rattle.border_records.specs.Records.{isYes, flagOf};
 ghost use Rattle.border_segment.specs.Segments.{outlineIn};
 ghost use Rattle.border_answers.specs.Handing.{writerIn, writtenOut};
 use border_answers::WriterRecord;
@@ -11,17 +11,69 @@ use border_answers::WrittenRecord;
 use border_answers::writer_in;
 use border_answers::written_out;
 use border_segment::OutlineRecord;
+use writer::Writer;
+use writer::Written;
+
+// What a call hands back, where the record that came has the same kind and form: it goes back as it came, with another place. A caller that loads
+// kind and form as one number then does not wait for two octets stored one by one.
+fn placed(came: WriterRecord, w: Written) -> WrittenRecord
+    requires { ⌜ (came .ero ≡ flagOf (w .writer .ero)) × (came .form ≡ w .writer .form) ⌝ }
+    ensures placed { λ r. ⌜ r ≡ writtenOut w ⌝ }
+{
+    let verdict = w.verdict;
+    let next = w.writer;
+    let mut kept = came;
+    kept.at = next.at;
+    WrittenRecord {
+        verdict: border_records::verdict_out(verdict),
+        writer: kept,
+    }
+}
+
+// The same of any record that came.
+fn handed(came: WriterRecord, w: Written) -> WrittenRecord
+    ensures handed { λ r. ⌜ r ≡ writtenOut w ⌝ }
+{
+    let next = w.writer;
+    if came.ero != border_records::flag_of(next.ero) {
+        return written_out(w);
+    }
+    if came.form != next.form {
+        return written_out(w);
+    }
+    placed(came, w)
+}
 
 // Writes the header with length 4. The setup type names the form, SRv6's if it names none, and the state keeps it.
 pub fn begin(buffer: &mut [u8], writer: WriterRecord, ero: u8, pst: u64) -> WrittenRecord
     ensures answer { λ r. ⌜ r ≡ writtenOut (beginAnswer (now (buffer .entry)) (writerIn writer) (isYes ero) pst) ⌝ }
     ensures octets { λ _. ⌜ now (buffer .exit) ≡ beginBuffer (now (buffer .entry)) (writerIn writer) (isYes ero) ⌝ }
 {
-    written_out(writer::begin(buffer, writer_in(writer), border_records::yes(ero), pst))
+    let w = writer::begin(buffer, writer_in(writer), border_records::yes(ero), pst);
+    handed(writer, w)
 }
 
-// Writes a segment from the present place on. The segment's octets are lent. A record whose flag is 0 or 1 is handed back as it came, with another place: a caller
-// that loads kind and form as one number does not wait for two octets stored one by one.
+// A segment of the form that the state names. The form is asked first, so that the compiler takes of an outline only what that form looks at.
+fn added(
+    buffer: &mut [u8],
+    state: Writer,
+    outline: OutlineRecord,
+    sid: &[u8; 16],
+    nai: &[u8; 40],
+    structure: &[u8; 4],
+) -> Written
+    ensures answer { λ r. ⌜ r ≡ addAnswer (now (buffer .entry)) state (segmentWith (outlineIn outline) (now (sid .entry)) (now (nai .entry)) (now (structure .entry))) ⌝ }
+    ensures octets { λ _. ⌜ now (buffer .exit) ≡ addBuffer (now (buffer .entry)) state (segmentWith (outlineIn outline) (now (sid .entry)) (now (nai .entry)) (now (structure .entry))) ⌝ }
+{
+    if state.form == writer::MPLS_SETUP {
+        let labels = border_segment::outline_in(outline);
+        return writer::add_mpls(buffer, forms::mpls(), state, labels, sid, nai, structure);
+    }
+    let beside = border_segment::outline_in(outline);
+    writer::add_srv6(buffer, forms::srv6(), state, beside, sid, nai, structure)
+}
+
+// Writes a segment from the present place on. The segment's octets are lent.
 pub fn add(
     buffer: &mut [u8],
     writer: WriterRecord,
@@ -33,20 +85,11 @@ pub fn add(
     ensures answer { λ r. ⌜ r ≡ writtenOut (addAnswer (now (buffer .entry)) (writerIn writer) (segmentWith (outlineIn outline) (now (sid .entry)) (now (nai .entry)) (now (structure .entry)))) ⌝ }
     ensures octets { λ _. ⌜ now (buffer .exit) ≡ addBuffer (now (buffer .entry)) (writerIn writer) (segmentWith (outlineIn outline) (now (sid .entry)) (now (nai .entry)) (now (structure .entry))) ⌝ }
 {
-    let state = writer_in(writer);
-    let beside = border_segment::outline_in(outline);
-    let w = writer::add_parts(buffer, state, beside, sid, nai, structure);
+    let w = added(buffer, writer_in(writer), outline, sid, nai, structure);
     if writer.ero > 1 {
         return written_out(w);
     }
-    let verdict = w.verdict;
-    let next = w.writer;
-    let mut kept = writer;
-    kept.at = next.at;
-    WrittenRecord {
-        verdict: border_records::verdict_out(verdict),
-        writer: kept,
-    }
+    placed(writer, w)
 }
 
 // Writes the length.

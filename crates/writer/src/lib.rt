@@ -7,7 +7,9 @@ mod writing;
 
 pub use state::Writer;
 pub use state::Written;
+pub use writing::MPLS_SETUP;
 pub use writing::add;
-pub use writing::add_parts;
+pub use writing::add_mpls;
+pub use writing::add_srv6;
 pub use writing::begin;
 pub use writing::finish;

@@ -2,10 +2,8 @@
 // and a length of 2 octets that counts the 4 octets of the header.
 ghost use mathlib.Core.Path.{_≡_};
 ghost use Rattle.forms.specs.Forms.{srv6Form, mplsForm, formOf};
-ghost use Rattle.forms.specs.Sized.{Sized};
 ghost use Rattle.subobject.specs.Segments.{segmentWith};
 ghost use Rattle.writer_spare.specs.Held.{Held};
-ghost use Rattle.writer_layout.specs.Readable.{Readable};
 ghost use Rattle.writer.specs.Writing.{beginAnswer, beginBuffer, addAnswerIn, addBufferIn, addAnswer, addBuffer, finishAnswer, finishBuffer};
 use super::state;
 use super::state::Writer;
@@ -18,7 +16,7 @@ use subobject::Segment;
 const TYPE_OCTET: u8 = (objects::OBJECT_TYPE * objects::TYPE_WORTH) as u8;
 
 // The setup types of the two forms, as the state keeps them.
-const MPLS_SETUP: u8 = objects::MPLS_SETUP as u8;
+pub const MPLS_SETUP: u8 = objects::MPLS_SETUP as u8;
 
 const SRV6_SETUP: u8 = objects::SRV6_SETUP as u8;
 
@@ -54,7 +52,7 @@ pub fn begin(buf: &mut [u8], writer: Writer, ero: bool, pst: u64) -> Written
 // Writes a segment of SRv6 into the rest of the buffer from the present place on. The segment's octets are lent: to hand them on by
 // value takes longer than to write them. Each form has a function of its own, so that the compiler knows its numbers; what is barred
 // before its NAI leaves first, so that it also knows what a segment of the form has not.
-fn add_srv6(
+pub fn add_srv6(
     buf: &mut [u8],
     form: Form,
     writer: Writer,
@@ -63,7 +61,7 @@ fn add_srv6(
     nai: &[u8],
     bits: &[u8],
 ) -> Written
-    requires { ⌜ (Held (segmentWith o (now sid) (now nai) (now bits))) × (Sized form) × (Readable form) × (form ≡ srv6Form) ⌝ }
+    requires { ⌜ (Held (segmentWith o (now sid) (now nai) (now bits))) × (form ≡ srv6Form) ⌝ }
     ensures answer { λ r. ⌜ r ≡ addAnswerIn form (now (buf .entry)) writer (segmentWith o (now (sid .entry)) (now (nai .entry)) (now (bits .entry))) ⌝ }
     ensures buffer { λ _. ⌜ now (buf .exit) ≡ addBufferIn form (now (buf .entry)) writer (segmentWith o (now (sid .entry)) (now (nai .entry)) (now (bits .entry))) ⌝ }
 {
@@ -101,7 +99,7 @@ fn add_srv6(
 }
 
 // The same of MPLS.
-fn add_mpls(
+pub fn add_mpls(
     buf: &mut [u8],
     form: Form,
     writer: Writer,
@@ -110,7 +108,7 @@ fn add_mpls(
     nai: &[u8],
     bits: &[u8],
 ) -> Written
-    requires { ⌜ (Held (segmentWith o (now sid) (now nai) (now bits))) × (Sized form) × (Readable form) × (form ≡ mplsForm) ⌝ }
+    requires { ⌜ (Held (segmentWith o (now sid) (now nai) (now bits))) × (form ≡ mplsForm) ⌝ }
     ensures answer { λ r. ⌜ r ≡ addAnswerIn form (now (buf .entry)) writer (segmentWith o (now (sid .entry)) (now (nai .entry)) (now (bits .entry))) ⌝ }
     ensures buffer { λ _. ⌜ now (buf .exit) ≡ addBufferIn form (now (buf .entry)) writer (segmentWith o (now (sid .entry)) (now (nai .entry)) (now (bits .entry))) ⌝ }
 {
@@ -148,7 +146,7 @@ fn add_mpls(
 }
 
 // The same, of the form that the state names.
-pub fn add_parts(
+fn add_parts(
     buf: &mut [u8],
     writer: Writer,
     o: Outline,

@@ -106,11 +106,7 @@ module _ (form : Form) (o : Outline) (sid : List ℕ) where
   unfolding frontOf
   front-before e q = q ∙ rw e
 
--- What both forms have alike: an NAI of no octets for NT 0, and the longest for NT 6.
-pub nai-none : (form : Form) → Known form → 0 ≡ naiLength form 0
-unfolding naiLength
-nai-none form k = subst (λ (f : Form). 0 ≡ naiLength f 0) k (of-both (λ (f : Form). 0 ≡ naiLength f 0) refl refl (form .setup))
-
+-- Both forms have the longest NAI alike, that of NT 6.
 pub nai-longest : (form : Form) → Known form → naiLength srv6Form 6 ≡ naiLength form 6
 unfolding naiLength
 nai-longest form k =

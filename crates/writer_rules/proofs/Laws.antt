@@ -1,23 +1,24 @@
 -- What an acceptance says, in the order of specs/Refusals. Assumes nothing.
 use Prim.Native.Nat.{ℕ, suc, _+_, _%_, _≤_}
 use mathlib.Core.Path.{_≡_, refl, sym, _∙_, ap}
-use mathlib.Core.Bool.{Bool, true, false, cond, not, _&&_, _||_}
+use mathlib.Core.Bool.{Bool, true, false, false≢true, cond, not, _&&_, _||_}
 use mathlib.Core.List.{List}
 use lib.Dec.{eqb, ltb}
 use lib.ListN.{length, drop}
 use borrow.Author.Tests.{eq-eqb, ne-eqb, eqb-true, eqb-false, ltb-false, not-false}
 use native.Mathlib.Omega.{arith}
 use Rattle.answers.specs.Numbers.{lengthWrong, naiUnknown, nothingThere}
-use Rattle.octets.proofs.Said.{either-false, both-true, cond-most}
+use Rattle.octets.proofs.Said.{either-false, both-true, and-false, cond-most}
 use Rattle.objects.specs.Objects.{header, unit}
 use Rattle.forms.specs.declared.Form.{Form}
 use Rattle.forms.specs.Forms.{naiLength, knows}
 use Rattle.forms.specs.Sized.{Sized}
+use Rattle.forms.proofs.Laws.{nai-none}
 use Rattle.subobject.specs.declared.head.Head.{Head}
 use Rattle.subobject.specs.declared.segment.Outline.{Outline}
 use Rattle.subobject.specs.declared.segment.Segment.{Segment}
 use Rattle.subobject.specs.Layout.{bitLengths, structureSize, sidLength, structureThere, expectedLength}
-use Rattle.subobject.specs.Rules.{rule8, rule9, malformed, hasStructure, mostBits, sumAt, rule11, labelAt, timeAt, hasLabel, rule29, rule30}
+use Rattle.subobject.specs.Rules.{rule8, flagF, rule9, malformed, hasStructure, mostBits, sumAt, rule11, labelAt, timeAt, hasLabel, rule29, rule30}
 use Rattle.subobject.specs.Segments.{outlineOf, headOfOutline, headOfSegment, subobjectOf, bitsOf, bit}
 use Rattle.writer_spare.specs.Held.{Held}
 use Rattle.writer_spare.specs.Spare.{zeros, tidyOf}
@@ -124,15 +125,53 @@ front-lead form o sid front e b = e ∙ sym (cond-no (barred form o sid) 0 (lead
 
 -- what adding finds, from its looks -----------------------------------------------------------------------------
 
--- 8, by the octets of the NAI.
-pub unknown-eight : (form : Form) (h : Head) (n : ℕ) (u : Bool) → n ≡ naiLength form (h .nt) → u ≡ (not (eqb (h .nt) 0) && eqb n 0) → u ≡ rule8 form h
+-- 8 and 9, by the octets of the NAI. A segment with an NAI breaks neither.
+eight-no : (form : Form) (h : Head) → (h .nt ≡ 0 → ⊥) → (naiLength form (h .nt) ≡ 0 → ⊥) → rule8 form h ≡ false
 unfolding rule8 knows
-unknown-eight form h n u e q = q ∙ rw e (go (eqb (h .nt) 0) (eqb (naiLength form (h .nt)) 0))
-  where
-    go : (a b : Bool) → (not a && b) ≡ not (a || not b)
-    go true b = refl
-    go false true = refl
-    go false false = refl
+eight-no form h a b = rw (ne-eqb (h .nt) 0 a, ne-eqb (naiLength form (h .nt)) 0 b)
+
+eight-none : (form : Form) (h : Head) → h .nt ≡ 0 → rule8 form h ≡ false
+unfolding rule8 knows
+eight-none form h e = rw (eq-eqb (h .nt) 0 e)
+
+eight-yes : (form : Form) (h : Head) → (h .nt ≡ 0 → ⊥) → naiLength form (h .nt) ≡ 0 → rule8 form h ≡ true
+unfolding rule8 knows
+eight-yes form h a e = rw (ne-eqb (h .nt) 0 a, eq-eqb (naiLength form (h .nt)) 0 e)
+
+nine-no : (h : Head) → h .f ≡ flagF (h .nt) → (h .nt ≡ 0 → ⊥) → rule9 h ≡ false
+unfolding rule9
+nine-no h f a = rw (f, ne-eqb (h .nt) 0 a) (and-false (eqb (h .s) 1))
+
+module _ (form : Form) (h : Head) (n : ℕ) (e : n ≡ naiLength form (h .nt)) (f : h .f ≡ flagF (h .nt)) where
+  some-nt : (n ≡ 0 → ⊥) → h .nt ≡ 0 → ⊥
+  some-nt a q = a (e ∙ sym (nai-none form (h .nt) q))
+
+  pub nameless-nai : (n ≡ 0 → ⊥) → 0 ≡ cond (rule8 form h) naiUnknown (cond (rule9 h) nothingThere 0)
+  nameless-nai a = rw (eight-no form h (some-nt a) (λ q. a (e ∙ q)), nine-no h f (some-nt a))
+
+  pub nameless-nine : rule9 h ≡ true → nothingThere ≡ cond (rule8 form h) naiUnknown (cond (rule9 h) nothingThere 0)
+  nameless-nine t = go (eqb (h .nt) 0) refl
+    where
+      go : (b : Bool) → eqb (h .nt) 0 ≡ b → nothingThere ≡ cond (rule8 form h) naiUnknown (cond (rule9 h) nothingThere 0)
+      go true q = rw (eight-none form h (eqb-true (h .nt) 0 q), t)
+      go false q = absurd (false≢true (sym (nine-no h f (eqb-false (h .nt) 0 q)) ∙ t))
+
+  pub nameless-eight : n ≡ 0 → (h .nt ≡ 0 → ⊥) → naiUnknown ≡ cond (rule8 form h) naiUnknown (cond (rule9 h) nothingThere 0)
+  nameless-eight q a = rw (eight-yes form h a (sym e ∙ q))
+
+  pub nameless-not : h .nt ≡ 0 → rule9 h ≡ false → 0 ≡ cond (rule8 form h) naiUnknown (cond (rule9 h) nothingThere 0)
+  nameless-not q t = rw (eight-none form h q, t)
+
+-- What that answers, in the order of the rules.
+pub nameless-first : (a b : Bool) (r x : ℕ) → r ≡ cond a naiUnknown (cond b nothingThere 0) → (r ≡ 0 → ⊥) → r ≡ cond a naiUnknown (cond b nothingThere x)
+nameless-first true b r x e n = e
+nameless-first false true r x e n = e
+nameless-first false false r x e n = absurd (n e)
+
+pub nameless-none : (a b : Bool) (r : ℕ) → r ≡ cond a naiUnknown (cond b nothingThere 0) → r ≡ 0 → (a ≡ false) × (b ≡ false)
+nameless-none a b r e z =
+    let p = no-refusal a 7 _ (sym e ∙ z) in
+    (p .0, no-refusal b 8 0 (p .1) .0)
 
 -- 7, by what bars a segment before its NAI.
 pub misfit-unfit : {form : Form} → Sized form → (ero : Bool) (g : Segment) (front n : ℕ) (m : Bool) → Held g → front ≡ frontOf form (outlineOf g) (g .sid)

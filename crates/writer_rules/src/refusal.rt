@@ -6,7 +6,7 @@ ghost use Rattle.answers.specs.Numbers.{lengthWrong, naiUnknown, nothingThere};
 ghost use Rattle.forms.specs.Forms.{naiLength};
 ghost use Rattle.forms.specs.Sized.{Sized};
 ghost use Rattle.subobject.specs.Layout.{structureSize};
-ghost use Rattle.subobject.specs.Rules.{rule8, rule9};
+ghost use Rattle.subobject.specs.Rules.{rule8, rule9, flagF};
 ghost use Rattle.subobject.specs.Segments.{headOfOutline, segmentWith};
 ghost use Rattle.writer_spare.specs.Held.{Held};
 ghost use Rattle.writer_layout.specs.Readable.{Readable};
@@ -16,16 +16,31 @@ use forms::Form;
 use subobject::Head;
 use subobject::Outline;
 
-// Adding what is barred before its NAI: 8, 9, else 7.
-pub fn adding_barred(form: Form, h: Head, n: usize) -> usize
-    requires { ⌜ n ≡ naiLength form (h .nt) ⌝ }
-    ensures number { λ r. ⌜ r ≡ cond (rule8 form h) naiUnknown (cond (rule9 h) nothingThere lengthWrong) ⌝ }
+// 8, 9, else 0, by the octets of the NAI: a segment with an NAI breaks neither.
+fn nameless(form: Form, h: Head, n: usize) -> usize
+    requires { ⌜ (n ≡ naiLength form (h .nt)) × (h .f ≡ flagF (h .nt)) ⌝ }
+    ensures number { λ r. ⌜ r ≡ cond (rule8 form h) naiUnknown (cond (rule9 h) nothingThere 0) ⌝ }
 {
-    if writer_tests::unknown(h.nt, n) {
-        return answers::NAI_UNKNOWN;
+    if n != 0 {
+        return 0;
     }
     if subobject_rules::nine(h) {
         return answers::NOTHING_THERE;
+    }
+    if h.nt != subobject::NO_NAI {
+        return answers::NAI_UNKNOWN;
+    }
+    0
+}
+
+// Adding what is barred before its NAI: 8, 9, else 7.
+pub fn adding_barred(form: Form, h: Head, n: usize) -> usize
+    requires { ⌜ (n ≡ naiLength form (h .nt)) × (h .f ≡ flagF (h .nt)) ⌝ }
+    ensures number { λ r. ⌜ r ≡ cond (rule8 form h) naiUnknown (cond (rule9 h) nothingThere lengthWrong) ⌝ }
+{
+    let first = nameless(form, h, n);
+    if first != 0 {
+        return first;
     }
     answers::LENGTH_WRONG
 }
@@ -48,11 +63,9 @@ pub fn adding_unlabelled(
     requires { ⌜ (Held (segmentWith o (now sid) (now nai) (now bits))) × (h ≡ headOfOutline form o) × (Sized form) × (Readable form) × (front ≡ frontOf form o (now sid)) × (n ≡ naiLength form (o .nt)) × (size ≡ front + n + cond (o .structured) structureSize 0) × (o .labelled ≡ false) ⌝ }
     ensures number { λ r. ⌜ r ≡ addNumber form room ero at (segmentWith o (now (sid .entry)) (now (nai .entry)) (now (bits .entry))) ⌝ }
 {
-    if writer_tests::unknown(h.nt, n) {
-        return answers::NAI_UNKNOWN;
-    }
-    if subobject_rules::nine(h) {
-        return answers::NOTHING_THERE;
+    let first = nameless(form, h, n);
+    if first != 0 {
+        return first;
     }
     if writer_tests::misfit(ero, front, n, o, nai, bits) {
         return answers::LENGTH_WRONG;
@@ -84,11 +97,9 @@ pub fn adding_unstructured(
     requires { ⌜ (Held (segmentWith o (now sid) (now nai) (now bits))) × (h ≡ headOfOutline form o) × (Sized form) × (Readable form) × (front ≡ frontOf form o (now sid)) × (n ≡ naiLength form (o .nt)) × (size ≡ front + n + cond (o .structured) structureSize 0) × (o .structured ≡ false) ⌝ }
     ensures number { λ r. ⌜ r ≡ addNumber form room ero at (segmentWith o (now (sid .entry)) (now (nai .entry)) (now (bits .entry))) ⌝ }
 {
-    if writer_tests::unknown(h.nt, n) {
-        return answers::NAI_UNKNOWN;
-    }
-    if subobject_rules::nine(h) {
-        return answers::NOTHING_THERE;
+    let first = nameless(form, h, n);
+    if first != 0 {
+        return first;
     }
     if writer_tests::misfit(ero, front, n, o, nai, bits) {
         return answers::LENGTH_WRONG;

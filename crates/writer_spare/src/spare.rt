@@ -98,8 +98,8 @@ pub fn rest_tidy(n: usize, structured: bool, nai: &[u8], bits: &[u8]) -> bool
     requires { ⌜ (length (now nai) ≡ naiSize) × (length (now bits) ≡ bitLengths) × Step n ⌝ }
     ensures tidy { λ r. ⌜ r ≡ ((structured || zeros (now (bits .entry))) && zeros (drop n (now (nai .entry)))) ⌝ }
 {
-    if !unused(structured, bits) {
+    if !nai_tidy(nai, n) {
         return false;
     }
-    nai_tidy(nai, n)
+    unused(structured, bits)
 }

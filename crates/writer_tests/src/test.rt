@@ -4,7 +4,7 @@ ghost use mathlib.Core.Bool.{not, _&&_, _||_};
 ghost use Prim.Native.Nat.{_+_, _<_};
 ghost use lib.Dec.{eqb, ltb};
 ghost use lib.ListN.{length, drop};
-ghost use Rattle.subobject.specs.Layout.{noNai, naiSize, bitLengths};
+ghost use Rattle.subobject.specs.Layout.{naiSize, bitLengths};
 ghost use Rattle.subobject.specs.Rules.{mostBits, sumAt, labelAt, timeAt, rule29, rule30};
 ghost use Rattle.subobject.specs.Segments.{bit};
 ghost use Rattle.writer_spare.specs.Spare.{zeros};
@@ -26,13 +26,6 @@ pub fn misfit(ero: bool, front: usize, n: usize, o: Outline, nai: &[u8], bits: &
         return true;
     }
     !writer_spare::rest_tidy(n, o.structured, nai, bits)
-}
-
-// An NT that the form does not know has an NAI of no octets.
-pub fn unknown(nt: usize, n: usize) -> bool
-    ensures unknown { λ r. ⌜ r ≡ (not (eqb nt noNai) && eqb n 0) ⌝ }
-{
-    octets::both(nt != subobject::NO_NAI, n == 0)
 }
 
 // Four bit lengths, where they are there, sum above 128.

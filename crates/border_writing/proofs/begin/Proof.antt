@@ -15,8 +15,8 @@ yes-requires c κs = search needs
 begin-requires : tie.Need-begin-requires
 begin-requires c κs = search needs
 
-written-out-requires : tie.Need-written-out-requires
-written-out-requires c κs = search needs
+handed-requires : tie.Need-handed-requires
+handed-requires c κs = search needs
 
 same-length : tie.Need-same-length
 same-length c = search needs
@@ -30,7 +30,7 @@ returns c =
     let kind = isYes (args .ero) in
     let f = rw (c .before .before .before .before .yes .ensures) at e in
     by-writer (λ (w : Writer). beginAnswer b w kind (args .pst)) (λ (w : Writer). beginBuffer b w kind) _ _ _ _ (args .writer)
-    (came .writer-in .ensures) (f .0) (f .1) (c .written-out .ensures)
+    (came .writer-in .ensures) (f .0) (f .1) (c .handed .ensures)
 
 pub begin-spec : {M : Type 1} → statement M
 begin-spec =
@@ -39,6 +39,6 @@ begin-spec =
     writer-in-requires
     yes-requires
     begin-requires
-    written-out-requires
+    handed-requires
     same-length
     returns)

@@ -1,8 +1,7 @@
 use mathlib.Core.Path.{_∙_, ap}
 use Rattle.forms.specs.declared.Form.{Form}
-use Rattle.forms.proofs.Laws.{form-mpls, form-srv6, srv6-sized, mpls-sized}
+use Rattle.forms.proofs.Laws.{form-mpls, form-srv6}
 use Rattle.subobject.specs.Segments.{segmentWith}
-use Rattle.writer_layout.proofs.Forms.{srv6-readable, mpls-readable}
 use Rattle.writer.specs.Writing.{addAnswerIn, addBufferIn}
 use borrow.Author.Needs.{needs}
 use Rattle.writer.proofs.writing.add_parts.Statement.{statement}
@@ -13,8 +12,7 @@ mpls-requires c κs = search needs
 
 add-mpls-requires : tie.Need-add-mpls-requires
 add-mpls-requires c κs =
-    let e = c .mpls .ensures in
-    (c .before .before .before .before .before .before .before .before .pre, rw e mpls-sized, rw e mpls-readable, e)
+    (c .before .before .before .before .before .before .before .before .pre, c .mpls .ensures)
 
 same-length : tie.Need-same-length
 same-length c = search needs
@@ -36,8 +34,7 @@ srv6-requires c κs = search needs
 
 add-srv6-requires : tie.Need-add-srv6-requires
 add-srv6-requires c κs =
-    let e = c .srv6 .ensures in
-    (c .before .before .before .before .before .before .before .before .pre, rw e srv6-sized, rw e srv6-readable, e)
+    (c .before .before .before .before .before .before .before .before .pre, c .srv6 .ensures)
 
 same-length-2 : tie.Need-same-length-2
 same-length-2 c = search needs

@@ -1,15 +1,19 @@
 -- An acceptance says that the place is good and the segment fits (`taken`), so that the rest of the buffer can be lent; `placed-back` puts it back. The octets handed
 -- to `adding_unlabelled` and `write` are those of the subobject (`fit`).
 use Prim.Native.Nat.{ℕ, _+_}
-use mathlib.Core.Path.{_≡_, sym, _∙_, ap}
+use mathlib.Core.Path.{_≡_, refl, sym, _∙_, ap}
 use lib.ListN.{length, length-drop}
 use native.Mathlib.Omega.{arith}
 use Rattle.octets.proofs.Laws.{placed-back, rest-lent}
 use Rattle.forms.specs.Forms.{naiLength}
+use Rattle.forms.specs.Sized.{Sized}
+use Rattle.forms.proofs.Laws.{srv6-sized}
 use Rattle.subobject.specs.declared.head.Head.{Head}
 use Rattle.subobject.specs.declared.segment.Segment.{Segment}
 use Rattle.subobject.specs.Rules.{rule8, rule9}
 use Rattle.subobject.specs.Segments.{headOfSegment, segmentWith, subobjectOf}
+use Rattle.writer_layout.specs.Readable.{Readable}
+use Rattle.writer_layout.proofs.Forms.{srv6-readable}
 use Rattle.writer_rules.specs.Refusals.{addNumber}
 use Rattle.writer_rules.proofs.Laws.{Taken, taken, Fits, fits-by, front-most, barred-number}
 use Rattle.writer.specs.Writing.{addAnswerIn, addBufferIn, acceptedAs}
@@ -21,6 +25,12 @@ use Rattle.writer.proofs.writing.add_srv6.Tie as tie
 
 abbrev seg : tie.Start → Segment
 seg c = segmentWith (c .args .o) (c .args .sid .now) (c .args .nai .now) (c .args .bits .now)
+
+sized : (c : tie.Start) → Sized (c .args .form)
+sized c = rw (c .pre .1) srv6-sized
+
+readable : (c : tie.Start) → Readable (c .args .form)
+readable c = rw (c .pre .1) srv6-readable
 
 head : (c : tie.After-head-of) → c .head-of .result ≡ headOfSegment (c .before .before .before .before .before .args .form) (seg (c .before .before .before .before .before))
 unfolding headOfSegment
@@ -51,7 +61,7 @@ fit : (c : tie.Else2)
 fit c =
     let t = start c in
     let b4 = c .before .before .before .before in
-    fits-by (t .pre .1) (t .args .writer .ero) (seg t) (b4 .front .result) (b4 .before .nai-octets .result)
+    fits-by (sized t) (t .args .writer .ero) (seg t) (b4 .front .result) (b4 .before .nai-octets .result)
     (b4 .front .result + b4 .before .nai-octets .result + c .before .before .pick .result)
     (t .pre .0) (b4 .front .ensures) (octets (b4 .before))
     (ap (λ (x : ℕ). b4 .front .result + b4 .before .nai-octets .result + x) (c .before .before .pick .ensures .0)) (taken-in c .fit)
@@ -60,13 +70,15 @@ head-of-requires : tie.Need-head-of-requires
 head-of-requires c κs = search needs
 
 nai-octets-requires : tie.Need-nai-octets-requires
-nai-octets-requires c κs = search needs
+nai-octets-requires c κs = readable (c .before .before .before .before .before) .setup
 
 front-requires : tie.Need-front-requires
-front-requires c κs = search needs
+front-requires c κs = let t = c .before .before .before .before .before .before in (t .pre .0 .sid, readable t .setup)
 
 adding-barred-requires : tie.Need-adding-barred-requires
-adding-barred-requires c κs = search needs
+adding-barred-requires c κs =
+    let b2 = c .before .before in
+    (b2 .nai-octets .ensures .0, rw (b2 .before .head-of .ensures .0) refl)
 
 refuse-requires : tie.Need-refuse-requires
 refuse-requires c κs = search needs
@@ -81,7 +93,7 @@ returns c =
     let a = t .args in
     let r = c .before .adding-barred .result in
     let n : r ≡ addNumber (a .form) (length (a .buf .now)) (a .writer .ero) (a .writer .at) (seg t)
-    = barred-number (t .pre .1) _ _ _ (seg t) (b5 .head-of .result) (b3 .front .result) r (head b5) (b3 .front .ensures) (b2 .if1 .taken)
+    = barred-number (sized t) _ _ _ (seg t) (b5 .head-of .result) (b3 .front .result) r (head b5) (b3 .front .ensures) (b2 .if1 .taken)
     (c .before .adding-barred .ensures) in
     let h = b5 .head-of .result in
     let z = barred-refused (rule8 (a .form) h) (rule9 h) r (c .before .adding-barred .ensures) in
@@ -91,7 +103,7 @@ add-size : tie.Need-add-size
 add-size c =
     let b2 = c .before .before in
     let b8 = b2 .before .before .before .before .before .before in
-    omega (arith, front-most (b8 .pre .1) (b8 .args .o) (b8 .args .sid .now) _ (c .before .front .ensures), b2 .nai-octets .ensures .1)
+    omega (arith, front-most (sized b8) (b8 .args .o) (b8 .args .sid .now) _ (c .before .front .ensures), b2 .nai-octets .ensures .1)
 
 pick-requires : tie.Need-pick-requires
 pick-requires c κs = search needs
@@ -101,7 +113,7 @@ add-size-2 c =
     let b2 = c .before .before in
     let b3 = b2 .before in
     let b9 = b3 .before .before .before .before .before .before in
-    omega (arith, front-most (b9 .pre .1) (b9 .args .o) (b9 .args .sid .now) _ (b2 .front .ensures), b3 .nai-octets .ensures .1, c .pick .ensures .1)
+    omega (arith, front-most (sized b9) (b9 .args .o) (b9 .args .sid .now) _ (b2 .front .ensures), b3 .nai-octets .ensures .1, c .pick .ensures .1)
 
 adding-unlabelled-requires : tie.Need-adding-unlabelled-requires
 adding-unlabelled-requires c κs =
@@ -111,12 +123,12 @@ adding-unlabelled-requires c κs =
     let b9 = b4 .before .before .before .before .before in (
       b9 .pre .0,
       b4 .head-of .ensures .0,
-      b9 .pre .1,
-      b9 .pre .2,
+      sized b9,
+      readable b9,
       b2 .front .ensures,
       octets (b3),
       rw (c .pick .ensures .0),
-      srv6-unlabelled (b9 .args .o) (b9 .args .sid .now) (b2 .front .result) (b9 .pre .3) (b2 .front .ensures) (c .before .if1 .left),
+      srv6-unlabelled (b9 .args .o) (b9 .args .sid .now) (b2 .front .result) (b9 .pre .1) (b2 .front .ensures) (c .before .if1 .left),
     )
 
 refuse-requires-2 : tie.Need-refuse-requires-2
@@ -149,8 +161,8 @@ write-requires c κs =
       b7 .head-of .ensures .0,
       ap (rule8 (b12 .args .form)) (head (b7)) ∙ t .r8,
       simp (rest-lent, length-drop) (omega (arith, t .place .inside, t .end .inside)),
-      b12 .pre .1,
-      b12 .pre .2,
+      sized b12,
+      readable b12,
       rw (head (b7)) (f .parts),
       rw (head (b7)) (f .there),
     )

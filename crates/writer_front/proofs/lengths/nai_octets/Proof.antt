@@ -1,12 +1,13 @@
 use mathlib.Core.Path.{_∙_}
 use native.Mathlib.Omega.{arith}
-use Rattle.writer_front.proofs.Laws.{nai-none, nai-longest}
+use Rattle.forms.proofs.Laws.{nai-none}
+use Rattle.writer_front.proofs.Laws.{nai-longest}
 use borrow.Author.Needs.{needs}
 use Rattle.writer_front.proofs.lengths.nai_octets.Statement.{statement}
 use Rattle.writer_front.proofs.lengths.nai_octets.Tie as tie
 
 returns : tie.Need-returns
-returns c = (rw (c .if1 .taken) (nai-none (c .before .args .form) (c .before .pre)), omega arith)
+returns c = (nai-none _ _ (c .if1 .taken), omega arith)
 
 srv6-requires : tie.Need-srv6-requires
 srv6-requires c κs = search needs

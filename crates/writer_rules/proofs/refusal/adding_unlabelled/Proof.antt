@@ -1,18 +1,20 @@
 -- Each return rewrites `addNumber` by the tests made before it; the head is the one that the segment is written with. What the tests find is what the rules say
--- (`eight`, `seven`, `eleven`); the octets handed in are those of the subobject where the segment is not unfit (`fit`).
-use mathlib.Core.Path.{_≡_, sym, _∙_, ap}
-use mathlib.Core.Bool.{Bool, false, not, _&&_, _||_}
+-- (`neither`, `seven`, `eleven`); the octets handed in are those of the subobject where the segment is not unfit (`fit`).
+use Prim.Native.Nat.{ℕ}
+use mathlib.Core.Path.{_≡_, refl, sym, _∙_, ap}
+use mathlib.Core.Bool.{Bool, false, cond, not, _&&_, _||_}
 use lib.Dec.{eqb, ltb}
 use lib.ListN.{drop}
 use native.Mathlib.Omega.{arith}
+use Rattle.answers.specs.Numbers.{naiUnknown, nothingThere}
 use Rattle.octets.proofs.Said.{cond-most}
 use Rattle.forms.proofs.Laws.{nai-most}
 use Rattle.subobject.specs.declared.segment.Segment.{Segment}
-use Rattle.subobject.specs.Rules.{rule8, rule11, mostBits, sumAt, labelAt, timeAt, rule29, rule30}
+use Rattle.subobject.specs.Rules.{rule8, rule9, rule11, mostBits, sumAt, labelAt, timeAt, rule29, rule30}
 use Rattle.subobject.specs.Segments.{headOfSegment, segmentWith, bitsOf}
 use Rattle.writer_spare.specs.Spare.{zeros}
 use Rattle.writer_rules.specs.Refusals.{addNumber, noRoom, unfit}
-use Rattle.writer_rules.proofs.Laws.{unknown-eight, misfit-unfit, Fits, fits-by, overlong-eleven, front-most, no-label-29, no-label-30}
+use Rattle.writer_rules.proofs.Laws.{nameless-first, nameless-none, misfit-unfit, Fits, fits-by, overlong-eleven, front-most, no-label-29, no-label-30}
 use borrow.Author.Needs.{needs}
 use Rattle.writer_rules.proofs.refusal.adding_unlabelled.Statement.{statement}
 use Rattle.writer_rules.proofs.refusal.adding_unlabelled.Tie as tie
@@ -30,8 +32,14 @@ unlabelled-29 c = rw (head c) (no-label-29 (c .args .form) (seg c) (labelAt (c .
 unlabelled-30 : (c : tie.Start) → rule30 (c .args .h) (timeAt (c .args .sid .now) 0) ≡ false
 unlabelled-30 c = rw (head c) (no-label-30 (c .args .form) (seg c) (timeAt (c .args .sid .now) 0) (c .pre .7))
 
-eight : (c : tie.Start) (u : Bool) → u ≡ (not (eqb (c .args .h .nt) 0) && eqb (c .args .n) 0) → u ≡ rule8 (c .args .form) (c .args .h)
-eight c u e = unknown-eight (c .args .form) (c .args .h) (c .args .n) u (rw (c .pre .1) (c .pre .5)) e
+-- 8 and 9: the number that they give, or that neither is broken.
+first : (c : tie.Start) (r x : ℕ) → r ≡ cond (rule8 (c .args .form) (c .args .h)) naiUnknown (cond (rule9 (c .args .h)) nothingThere 0) → (r ≡ 0 → ⊥)
+    → r ≡ cond (rule8 (c .args .form) (c .args .h)) naiUnknown (cond (rule9 (c .args .h)) nothingThere x)
+first c r x = nameless-first (rule8 (c .args .form) (c .args .h)) (rule9 (c .args .h)) r x
+
+neither : (c : tie.Start) (r : ℕ) → r ≡ cond (rule8 (c .args .form) (c .args .h)) naiUnknown (cond (rule9 (c .args .h)) nothingThere 0) → r ≡ 0
+    → (rule8 (c .args .form) (c .args .h) ≡ false) × (rule9 (c .args .h) ≡ false)
+neither c r = nameless-none (rule8 (c .args .form) (c .args .h)) (rule9 (c .args .h)) r
 
 seven : (c : tie.Start) (m : Bool)
     → m
@@ -48,20 +56,21 @@ eleven : (c : tie.Start) (u : Bool) → unfit (c .args .form) (c .args .ero) (se
     → u ≡ (c .args .o .structured && ltb mostBits (sumAt (c .args .bits .now) 0)) → u ≡ rule11 (c .args .h) (bitsOf (seg c))
 eleven c u f e = overlong-eleven (c .args .form) (seg c) u (fit c f .there) e ∙ rw (head c)
 
-unknown-requires : tie.Need-unknown-requires
-unknown-requires c κs = search needs
+nameless-requires : tie.Need-nameless-requires
+nameless-requires c κs =
+    let start = c .before .before .before in
+    (rw (start .pre .1) (start .pre .5), rw (start .pre .1) refl)
 
 returns : tie.Need-returns
 unfolding addNumber
 returns c =
     let b5 = c .before .before .before .before .before in
-    simp (
-      ← head b5,
-      sym (eight b5 _ (c .before .unknown .ensures)) ∙ c .if1 .taken,
-    )
+    rw (← head b5) (first b5 _ _ (c .before .nameless .ensures) (c .if1 .taken))
 
-nine-requires : tie.Need-nine-requires
-nine-requires c κs = search needs
+misfit-requires : tie.Need-misfit-requires
+misfit-requires c κs =
+    let start = c .before .before .before .before .before in
+    (start .pre .0 .nai, start .pre .0 .structure, rw (start .pre .5) (start .pre .3 .steps (start .args .o .nt)))
 
 returns-2 : tie.Need-returns-2
 unfolding addNumber
@@ -69,16 +78,16 @@ returns-2 c =
     let b2 = c .before .before in
     let b3 = b2 .before in
     let b7 = b3 .before .before .before .before in
+    let n = neither b7 _ (b3 .nameless .ensures) (b2 .if1 .left) in
     simp (
       ← head b7,
-      sym (eight b7 _ (b3 .unknown .ensures)) ∙ b2 .if1 .left,
-      sym (c .before .nine .ensures) ∙ c .if2 .taken,
+      n .0,
+      n .1,
+      sym (seven b7 _ (c .before .misfit .ensures)) ∙ c .if2 .taken,
     )
 
-misfit-requires : tie.Need-misfit-requires
-misfit-requires c κs =
-    let b7 = c .before .before .before .before .before .before .before in
-    (b7 .pre .0 .nai, b7 .pre .0 .structure, rw (b7 .pre .5) (b7 .pre .3 .steps (b7 .args .o .nt)))
+overlong-requires : tie.Need-overlong-requires
+overlong-requires c κs = search needs
 
 returns-3 : tie.Need-returns-3
 unfolding addNumber
@@ -88,18 +97,30 @@ returns-3 c =
     let b4 = b3 .before in
     let b5 = b4 .before in
     let b9 = b5 .before .before .before .before in
+    let f = sym (seven b9 _ (b3 .misfit .ensures)) ∙ b2 .if2 .left in
+    let n = neither b9 _ (b5 .nameless .ensures) (b4 .if1 .left) in
     simp (
       ← head b9,
-      sym (eight b9 _ (b5 .unknown .ensures)) ∙ b4 .if1 .left,
-      sym (b3 .nine .ensures) ∙ b2 .if2 .left,
-      sym (seven b9 _ (c .before .misfit .ensures)) ∙ c .if3 .taken,
+      n .0,
+      n .1,
+      f,
+      sym (eleven b9 _ f (c .before .overlong .ensures)) ∙ c .if3 .taken,
     )
 
-overlong-requires : tie.Need-overlong-requires
-overlong-requires c κs = search needs
+crowded-requires : tie.Need-crowded-requires
+crowded-requires c κs =
+    let start = c .before .before .before .before .before .before .before .before .before in
+    omega (
+      arith,
+      start .pre .6,
+      start .pre .5,
+      front-most (start .pre .2) (start .args .o) (start .args .sid .now) (start .args .front) (start .pre .4),
+      nai-most (start .pre .2) (start .args .o .nt),
+      cond-most (start .args .o .structured) 8,
+    )
 
 returns-4 : tie.Need-returns-4
-unfolding addNumber
+unfolding addNumber noRoom
 returns-4 c =
     let b2 = c .before .before in
     let b3 = b2 .before in
@@ -108,25 +129,18 @@ returns-4 c =
     let b6 = b5 .before in
     let b7 = b6 .before in
     let b11 = b7 .before .before .before .before in
-    let f = sym (seven b11 _ (b3 .misfit .ensures)) ∙ b2 .if3 .left in
+    let f = sym (seven b11 _ (b5 .misfit .ensures)) ∙ b4 .if2 .left in
+    let n = neither b11 _ (b7 .nameless .ensures) (b6 .if1 .left) in
     simp (
+      sym (fit b11 f .all),
       ← head b11,
-      sym (eight b11 _ (b7 .unknown .ensures)) ∙ b6 .if1 .left,
-      sym (b5 .nine .ensures) ∙ b4 .if2 .left,
+      n .0,
+      n .1,
       f,
-      sym (eleven b11 _ f (c .before .overlong .ensures)) ∙ c .if4 .taken,
-    )
-
-crowded-requires : tie.Need-crowded-requires
-crowded-requires c κs =
-    let start = c .before .before .before .before .before .before .before .before .before .before .before in
-    omega (
-      arith,
-      start .pre .6,
-      start .pre .5,
-      front-most (start .pre .2) (start .args .o) (start .args .sid .now) (start .args .front) (start .pre .4),
-      nai-most (start .pre .2) (start .args .o .nt),
-      cond-most (start .args .o .structured) 8,
+      sym (eleven b11 _ f (b3 .overlong .ensures)) ∙ b2 .if3 .left,
+      unlabelled-29 b11,
+      unlabelled-30 b11,
+      sym (c .before .crowded .ensures) ∙ c .if4 .taken,
     )
 
 returns-5 : tie.Need-returns-5
@@ -138,59 +152,31 @@ returns-5 c =
     let b5 = b4 .before in
     let b6 = b5 .before in
     let b7 = b6 .before in
-    let b8 = b7 .before in
-    let b9 = b8 .before in
-    let b13 = b9 .before .before .before .before in
-    let f = sym (seven b13 _ (b5 .misfit .ensures)) ∙ b4 .if3 .left in
+    let b11 = b7 .before .before .before .before in
+    let f = sym (seven b11 _ (b5 .misfit .ensures)) ∙ b4 .if2 .left in
+    let n = neither b11 _ (b7 .nameless .ensures) (b6 .if1 .left) in
     simp (
-      sym (fit b13 f .all),
-      ← head b13,
-      sym (eight b13 _ (b9 .unknown .ensures)) ∙ b8 .if1 .left,
-      sym (b7 .nine .ensures) ∙ b6 .if2 .left,
+      sym (fit b11 f .all),
+      ← head b11,
+      n .0,
+      n .1,
       f,
-      sym (eleven b13 _ f (b3 .overlong .ensures)) ∙ b2 .if4 .left,
-      unlabelled-29 b13,
-      unlabelled-30 b13,
-      sym (c .before .crowded .ensures) ∙ c .if5 .taken,
-    )
-
-returns-6 : tie.Need-returns-6
-unfolding addNumber noRoom
-returns-6 c =
-    let b2 = c .before .before in
-    let b3 = b2 .before in
-    let b4 = b3 .before in
-    let b5 = b4 .before in
-    let b6 = b5 .before in
-    let b7 = b6 .before in
-    let b8 = b7 .before in
-    let b9 = b8 .before in
-    let b13 = b9 .before .before .before .before in
-    let f = sym (seven b13 _ (b5 .misfit .ensures)) ∙ b4 .if3 .left in
-    simp (
-      sym (fit b13 f .all),
-      ← head b13,
-      sym (eight b13 _ (b9 .unknown .ensures)) ∙ b8 .if1 .left,
-      sym (b7 .nine .ensures) ∙ b6 .if2 .left,
-      f,
-      sym (eleven b13 _ f (b3 .overlong .ensures)) ∙ b2 .if4 .left,
-      unlabelled-29 b13,
-      unlabelled-30 b13,
-      sym (c .before .crowded .ensures) ∙ c .if5 .left,
+      sym (eleven b11 _ f (b3 .overlong .ensures)) ∙ b2 .if3 .left,
+      unlabelled-29 b11,
+      unlabelled-30 b11,
+      sym (c .before .crowded .ensures) ∙ c .if4 .left,
     )
 
 pub adding-unlabelled-spec : {M : Type 1} → statement M
 adding-unlabelled-spec =
     tie.close
     (tie.spec
-    unknown-requires
+    nameless-requires
     returns
-    nine-requires
-    returns-2
     misfit-requires
-    returns-3
+    returns-2
     overlong-requires
-    returns-4
+    returns-3
     crowded-requires
-    returns-5
-    returns-6)
+    returns-4
+    returns-5)

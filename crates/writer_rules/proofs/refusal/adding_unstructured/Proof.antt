@@ -1,19 +1,21 @@
 -- Each return rewrites `addNumber` by the tests made before it; the head is the one that the segment is written with. What the tests find is what the rules say
--- (`eight`, `seven`); the octets handed in are those of the subobject where the segment is not unfit (`fit`).
-use mathlib.Core.Path.{_≡_, sym, _∙_, ap}
-use mathlib.Core.Bool.{Bool, false, not, _&&_, _||_}
+-- (`neither`, `seven`); the octets handed in are those of the subobject where the segment is not unfit (`fit`).
+use Prim.Native.Nat.{ℕ}
+use mathlib.Core.Path.{_≡_, refl, sym, _∙_, ap}
+use mathlib.Core.Bool.{Bool, false, cond, not, _&&_, _||_}
 use lib.Dec.{eqb}
 use lib.ListN.{drop}
 use native.Mathlib.Omega.{arith}
+use Rattle.answers.specs.Numbers.{naiUnknown, nothingThere}
 use Rattle.octets.proofs.Said.{cond-most}
 use Rattle.forms.proofs.Laws.{nai-most}
 use Rattle.subobject.specs.declared.head.Head.{Head}
 use Rattle.subobject.specs.declared.segment.Segment.{Segment}
-use Rattle.subobject.specs.Rules.{rule8, rule11}
+use Rattle.subobject.specs.Rules.{rule8, rule9, rule11}
 use Rattle.subobject.specs.Segments.{headOfSegment, segmentWith, bitsOf}
 use Rattle.writer_spare.specs.Spare.{zeros}
 use Rattle.writer_rules.specs.Refusals.{addNumber, noRoom, unfit}
-use Rattle.writer_rules.proofs.Laws.{unknown-eight, misfit-unfit, Fits, fits-by, front-most, no-structure-11}
+use Rattle.writer_rules.proofs.Laws.{nameless-first, nameless-none, misfit-unfit, Fits, fits-by, front-most, no-structure-11}
 use borrow.Author.Needs.{needs}
 use Rattle.writer_rules.proofs.refusal.adding_unstructured.Statement.{statement}
 use Rattle.writer_rules.proofs.refusal.adding_unstructured.Tie as tie
@@ -25,8 +27,14 @@ head : (c : tie.Start) → c .args .h ≡ headOfSegment (c .args .form) (seg c)
 unfolding headOfSegment
 head c = c .pre .1
 
-eight : (c : tie.Start) (u : Bool) → u ≡ (not (eqb (c .args .h .nt) 0) && eqb (c .args .n) 0) → u ≡ rule8 (c .args .form) (c .args .h)
-eight c u e = unknown-eight (c .args .form) (c .args .h) (c .args .n) u (rw (c .pre .1) (c .pre .5)) e
+-- 8 and 9: the number that they give, or that neither is broken.
+first : (c : tie.Start) (r x : ℕ) → r ≡ cond (rule8 (c .args .form) (c .args .h)) naiUnknown (cond (rule9 (c .args .h)) nothingThere 0) → (r ≡ 0 → ⊥)
+    → r ≡ cond (rule8 (c .args .form) (c .args .h)) naiUnknown (cond (rule9 (c .args .h)) nothingThere x)
+first c r x = nameless-first (rule8 (c .args .form) (c .args .h)) (rule9 (c .args .h)) r x
+
+neither : (c : tie.Start) (r : ℕ) → r ≡ cond (rule8 (c .args .form) (c .args .h)) naiUnknown (cond (rule9 (c .args .h)) nothingThere 0) → r ≡ 0
+    → (rule8 (c .args .form) (c .args .h) ≡ false) × (rule9 (c .args .h) ≡ false)
+neither c r = nameless-none (rule8 (c .args .form) (c .args .h)) (rule9 (c .args .h)) r
 
 seven : (c : tie.Start) (m : Bool)
     → m
@@ -42,20 +50,21 @@ fit c f = fits-by (c .pre .2) (c .args .ero) (seg c) (c .args .front) (c .args .
 unstructured : (c : tie.Start) → rule11 (c .args .h) (bitsOf (seg c)) ≡ false
 unstructured c = rw (head c) (no-structure-11 (c .args .form) (seg c) (c .pre .7))
 
-unknown-requires : tie.Need-unknown-requires
-unknown-requires c κs = search needs
+nameless-requires : tie.Need-nameless-requires
+nameless-requires c κs =
+    let start = c .before .before .before in
+    (rw (start .pre .1) (start .pre .5), rw (start .pre .1) refl)
 
 returns : tie.Need-returns
 unfolding addNumber
 returns c =
     let b5 = c .before .before .before .before .before in
-    simp (
-      ← head b5,
-      sym (eight b5 _ (c .before .unknown .ensures)) ∙ c .if1 .taken,
-    )
+    rw (← head b5) (first b5 _ _ (c .before .nameless .ensures) (c .if1 .taken))
 
-nine-requires : tie.Need-nine-requires
-nine-requires c κs = search needs
+misfit-requires : tie.Need-misfit-requires
+misfit-requires c κs =
+    let start = c .before .before .before .before .before in
+    (start .pre .0 .nai, start .pre .0 .structure, rw (start .pre .5) (start .pre .3 .steps (start .args .o .nt)))
 
 returns-2 : tie.Need-returns-2
 unfolding addNumber
@@ -63,16 +72,18 @@ returns-2 c =
     let b2 = c .before .before in
     let b3 = b2 .before in
     let b7 = b3 .before .before .before .before in
+    let n = neither b7 _ (b3 .nameless .ensures) (b2 .if1 .left) in
     simp (
       ← head b7,
-      sym (eight b7 _ (b3 .unknown .ensures)) ∙ b2 .if1 .left,
-      sym (c .before .nine .ensures) ∙ c .if2 .taken,
+      n .0,
+      n .1,
+      sym (seven b7 _ (c .before .misfit .ensures)) ∙ c .if2 .taken,
     )
 
-misfit-requires : tie.Need-misfit-requires
-misfit-requires c κs =
-    let b7 = c .before .before .before .before .before .before .before in
-    (b7 .pre .0 .nai, b7 .pre .0 .structure, rw (b7 .pre .5) (b7 .pre .3 .steps (b7 .args .o .nt)))
+label-bad-requires : tie.Need-label-bad-requires
+label-bad-requires c κs =
+    let start = c .before .before .before .before .before .before .before in
+    ap (λ (h : Head). h .m) (start .pre .1)
 
 returns-3 : tie.Need-returns-3
 unfolding addNumber
@@ -82,15 +93,19 @@ returns-3 c =
     let b4 = b3 .before in
     let b5 = b4 .before in
     let b9 = b5 .before .before .before .before in
+    let f = sym (seven b9 _ (b3 .misfit .ensures)) ∙ b2 .if2 .left in
+    let n = neither b9 _ (b5 .nameless .ensures) (b4 .if1 .left) in
     simp (
       ← head b9,
-      sym (eight b9 _ (b5 .unknown .ensures)) ∙ b4 .if1 .left,
-      sym (b3 .nine .ensures) ∙ b2 .if2 .left,
-      sym (seven b9 _ (c .before .misfit .ensures)) ∙ c .if3 .taken,
+      n .0,
+      n .1,
+      f,
+      unstructured b9,
+      sym (c .before .label-bad .ensures) ∙ c .if3 .taken,
     )
 
-label-bad-requires : tie.Need-label-bad-requires
-label-bad-requires c κs =
+time-bad-requires : tie.Need-time-bad-requires
+time-bad-requires c κs =
     let start = c .before .before .before .before .before .before .before .before .before in
     ap (λ (h : Head). h .m) (start .pre .1)
 
@@ -104,23 +119,32 @@ returns-4 c =
     let b6 = b5 .before in
     let b7 = b6 .before in
     let b11 = b7 .before .before .before .before in
-    let f = sym (seven b11 _ (b3 .misfit .ensures)) ∙ b2 .if3 .left in
+    let f = sym (seven b11 _ (b5 .misfit .ensures)) ∙ b4 .if2 .left in
+    let n = neither b11 _ (b7 .nameless .ensures) (b6 .if1 .left) in
     simp (
       ← head b11,
-      sym (eight b11 _ (b7 .unknown .ensures)) ∙ b6 .if1 .left,
-      sym (b5 .nine .ensures) ∙ b4 .if2 .left,
+      n .0,
+      n .1,
       f,
       unstructured b11,
-      sym (c .before .label-bad .ensures) ∙ c .if4 .taken,
+      sym (b3 .label-bad .ensures) ∙ b2 .if3 .left,
+      sym (c .before .time-bad .ensures) ∙ c .if4 .taken,
     )
 
-time-bad-requires : tie.Need-time-bad-requires
-time-bad-requires c κs =
+crowded-requires : tie.Need-crowded-requires
+crowded-requires c κs =
     let start = c .before .before .before .before .before .before .before .before .before .before .before in
-    ap (λ (h : Head). h .m) (start .pre .1)
+    omega (
+      arith,
+      start .pre .6,
+      start .pre .5,
+      front-most (start .pre .2) (start .args .o) (start .args .sid .now) (start .args .front) (start .pre .4),
+      nai-most (start .pre .2) (start .args .o .nt),
+      cond-most (start .args .o .structured) 8,
+    )
 
 returns-5 : tie.Need-returns-5
-unfolding addNumber
+unfolding addNumber noRoom
 returns-5 c =
     let b2 = c .before .before in
     let b3 = b2 .before in
@@ -131,27 +155,18 @@ returns-5 c =
     let b8 = b7 .before in
     let b9 = b8 .before in
     let b13 = b9 .before .before .before .before in
-    let f = sym (seven b13 _ (b5 .misfit .ensures)) ∙ b4 .if3 .left in
+    let f = sym (seven b13 _ (b7 .misfit .ensures)) ∙ b6 .if2 .left in
+    let n = neither b13 _ (b9 .nameless .ensures) (b8 .if1 .left) in
     simp (
+      sym (fit b13 f .all),
       ← head b13,
-      sym (eight b13 _ (b9 .unknown .ensures)) ∙ b8 .if1 .left,
-      sym (b7 .nine .ensures) ∙ b6 .if2 .left,
+      n .0,
+      n .1,
       f,
       unstructured b13,
-      sym (b3 .label-bad .ensures) ∙ b2 .if4 .left,
-      sym (c .before .time-bad .ensures) ∙ c .if5 .taken,
-    )
-
-crowded-requires : tie.Need-crowded-requires
-crowded-requires c κs =
-    let start = c .before .before .before .before .before .before .before .before .before .before .before .before .before in
-    omega (
-      arith,
-      start .pre .6,
-      start .pre .5,
-      front-most (start .pre .2) (start .args .o) (start .args .sid .now) (start .args .front) (start .pre .4),
-      nai-most (start .pre .2) (start .args .o .nt),
-      cond-most (start .args .o .structured) 8,
+      sym (b5 .label-bad .ensures) ∙ b4 .if3 .left,
+      sym (b3 .time-bad .ensures) ∙ b2 .if4 .left,
+      sym (c .before .crowded .ensures) ∙ c .if5 .taken,
     )
 
 returns-6 : tie.Need-returns-6
@@ -165,63 +180,33 @@ returns-6 c =
     let b7 = b6 .before in
     let b8 = b7 .before in
     let b9 = b8 .before in
-    let b10 = b9 .before in
-    let b11 = b10 .before in
-    let b15 = b11 .before .before .before .before in
-    let f = sym (seven b15 _ (b7 .misfit .ensures)) ∙ b6 .if3 .left in
+    let b13 = b9 .before .before .before .before in
+    let f = sym (seven b13 _ (b7 .misfit .ensures)) ∙ b6 .if2 .left in
+    let n = neither b13 _ (b9 .nameless .ensures) (b8 .if1 .left) in
     simp (
-      sym (fit b15 f .all),
-      ← head b15,
-      sym (eight b15 _ (b11 .unknown .ensures)) ∙ b10 .if1 .left,
-      sym (b9 .nine .ensures) ∙ b8 .if2 .left,
+      sym (fit b13 f .all),
+      ← head b13,
+      n .0,
+      n .1,
       f,
-      unstructured b15,
-      sym (b5 .label-bad .ensures) ∙ b4 .if4 .left,
-      sym (b3 .time-bad .ensures) ∙ b2 .if5 .left,
-      sym (c .before .crowded .ensures) ∙ c .if6 .taken,
-    )
-
-returns-7 : tie.Need-returns-7
-unfolding addNumber noRoom
-returns-7 c =
-    let b2 = c .before .before in
-    let b3 = b2 .before in
-    let b4 = b3 .before in
-    let b5 = b4 .before in
-    let b6 = b5 .before in
-    let b7 = b6 .before in
-    let b8 = b7 .before in
-    let b9 = b8 .before in
-    let b10 = b9 .before in
-    let b11 = b10 .before in
-    let b15 = b11 .before .before .before .before in
-    let f = sym (seven b15 _ (b7 .misfit .ensures)) ∙ b6 .if3 .left in
-    simp (
-      sym (fit b15 f .all),
-      ← head b15,
-      sym (eight b15 _ (b11 .unknown .ensures)) ∙ b10 .if1 .left,
-      sym (b9 .nine .ensures) ∙ b8 .if2 .left,
-      f,
-      unstructured b15,
-      sym (b5 .label-bad .ensures) ∙ b4 .if4 .left,
-      sym (b3 .time-bad .ensures) ∙ b2 .if5 .left,
-      sym (c .before .crowded .ensures) ∙ c .if6 .left,
+      unstructured b13,
+      sym (b5 .label-bad .ensures) ∙ b4 .if3 .left,
+      sym (b3 .time-bad .ensures) ∙ b2 .if4 .left,
+      sym (c .before .crowded .ensures) ∙ c .if5 .left,
     )
 
 pub adding-unstructured-spec : {M : Type 1} → statement M
 adding-unstructured-spec =
     tie.close
     (tie.spec
-    unknown-requires
+    nameless-requires
     returns
-    nine-requires
-    returns-2
     misfit-requires
-    returns-3
+    returns-2
     label-bad-requires
-    returns-4
+    returns-3
     time-bad-requires
-    returns-5
+    returns-4
     crowded-requires
-    returns-6
-    returns-7)
+    returns-5
+    returns-6)
