@@ -92,18 +92,18 @@ module _ (g : Segment) (no-m : g .labelled ≡ false) (no-c : g .complete ≡ fa
   r30 = rw unlabelled
 
   -- and what refuses it.
-  pub number-alone : (room : ℕ) (ero : Bool) (at : ℕ) → addNumber srv6Form room ero at g ≡ numberAlone room ero at g
+  pub number-alone : (room : ℕ) (ero : Bool) (at : ℕ) → addNumber srv6Form ero at room g ≡ numberAlone ero at room g
   unfolding addNumber noRoom
   number-alone room ero at = rw (r8, r9, unfit-alone ero, r11, r29, r30, octets-alone g)
 
   -- **Added under every setup type but 1, it is refused as SRv6's own or written as SRv6's own.**
   pub added-alone : (b : List ℕ) (w : Writer) → (w .form ≡ mplsSetup → ⊥)
       → addAnswer b w g
-      ≡ answered (numberAlone (length b) (w .ero) (w .at) g) w (record { ero = w .ero; at = w .at + length (octetsAlone g); form = w .form })
+      ≡ answered (numberAlone (w .ero) (w .at) (length b) g) w (record { ero = w .ero; at = w .at + length (octetsAlone g); form = w .form })
   unfolding addAnswerIn
   added-alone b w n = rw (← form-srv6 (w .form) n, number-alone (length b) (w .ero) (w .at), octets-alone g)
 
   pub written-alone : (b : List ℕ) (w : Writer) → (w .form ≡ mplsSetup → ⊥)
-      → addBuffer b w g ≡ kept (numberAlone (length b) (w .ero) (w .at) g) b (placed b (w .at) (octetsAlone g))
+      → addBuffer b w g ≡ kept (numberAlone (w .ero) (w .at) (length b) g) b (placed b (w .at) (octetsAlone g))
   unfolding addBufferIn
   written-alone b w n = rw (← form-srv6 (w .form) n, number-alone (length b) (w .ero) (w .at), octets-alone g)

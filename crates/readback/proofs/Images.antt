@@ -76,7 +76,7 @@ moved form body g gs f u =
     }
 
 finished : (form : Form) {ero : Bool} (body rest b : List ℕ) (w : Writer) → w .at ≡ 4 + length body → b ≡ headerOf ero 4 ++ (body ++ rest)
-    → finishNumber (length b) (w .at) ≡ 0 → Under form ero body [] (finishRun b w)
+    → finishNumber (w .at) (length b) ≡ 0 → Under form ero body [] (finishRun b w)
 unfolding finishAnswer finishBuffer headerOf placed over
 finished form {ero} body rest b w ea eb e =
     let d = done (length b) (w .at) e in
@@ -91,20 +91,20 @@ finished form {ero} body rest b w ea eb e =
       filled = rw n (λ z. d .filled (omega arith));
     }
 
-pub finish-number : (b : List ℕ) (w : Writer) → finishAnswer b w .verdict .number ≡ finishNumber (length b) (w .at)
+pub finish-number : (b : List ℕ) (w : Writer) → finishAnswer b w .verdict .number ≡ finishNumber (w .at) (length b)
 unfolding finishAnswer
-finish-number b w = number-answered (finishNumber (length b) (w .at)) w w
+finish-number b w = number-answered (finishNumber (w .at) (length b)) w w
 
-pub add-number : (b : List ℕ) (w : Writer) (g : Segment) → addAnswer b w g .verdict .number ≡ addNumber (formOf (w .form)) (length b) (w .ero) (w .at) g
+pub add-number : (b : List ℕ) (w : Writer) (g : Segment) → addAnswer b w g .verdict .number ≡ addNumber (formOf (w .form)) (w .ero) (w .at) (length b) g
 unfolding addAnswerIn
-add-number b w g = number-answered (addNumber (formOf (w .form)) (length b) (w .ero) (w .at) g) w _
+add-number b w g = number-answered (addNumber (formOf (w .form)) (w .ero) (w .at) (length b) g) w _
 
 pub begin-number : (b : List ℕ) (w : Writer) (ero : Bool) (pst : ℕ) → beginAnswer b w ero pst .verdict .number ≡ beginNumber (length b)
 unfolding beginAnswer
 begin-number b w ero pst = number-answered (beginNumber (length b)) w _
 
 -- A call that accepts hands on its state and its buffer.
-pub add-onward : (b : List ℕ) (w : Writer) (g : Segment) (next : List ℕ → Writer → Run) → addNumber (formOf (w .form)) (length b) (w .ero) (w .at) g ≡ 0
+pub add-onward : (b : List ℕ) (w : Writer) (g : Segment) (next : List ℕ → Writer → Run) → addNumber (formOf (w .form)) (w .ero) (w .at) (length b) g ≡ 0
     → onward (addRun b w g) next
     ≡ next (placed b (w .at) (subobjectOf (formOf (w .form)) g)) (record { ero = w .ero; at = w .at + length (subobjectOf (formOf (w .form)) g); form = w .form })
 unfolding addAnswerIn addBufferIn
@@ -124,7 +124,7 @@ unfolding addsRun headerOf
 adds [] body rest b w ee ea eb a = finished (formOf (w .form)) body rest b w ea eb (sym (finish-number b w) ∙ a)
 adds {ero} (g ∷ gs) body rest b w ee ea eb a =
     let form = formOf (w .form) in
-    let n = went-on (addRun b w g) (λ b′ w′. addsRun b′ w′ gs) a (addNumber form (length b) (w .ero) (w .at) g) (add-number b w g) in
+    let n = went-on (addRun b w g) (λ b′ w′. addsRun b′ w′ gs) a (addNumber form (w .ero) (w .at) (length b) g) (add-number b w g) in
     let x = subobjectOf form g in
     let q = add-onward b w g (λ b′ w′. addsRun b′ w′ gs) n in
     let e1 : placed b (w .at) x ≡ (headerOf ero 4 ++ body) ++ (x ++ drop (length x) rest)

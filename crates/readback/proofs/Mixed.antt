@@ -54,11 +54,11 @@ unfolding headerOf placed over
 finished ero b tail n at e = rw e
 
 -- The last finish, on either buffer.
-ended : {ero : Bool} (b c : List ℕ) (w : Writer) → Alike ero b c → finishNumber (length b) (w .at) ≡ 0 → finishRun b w ≡ finishRun c w
+ended : {ero : Bool} (b c : List ℕ) (w : Writer) → Alike ero b c → finishNumber (w .at) (length b) ≡ 0 → finishRun b w ≡ finishRun c w
 unfolding finishAnswer finishBuffer
 ended {ero} b c w a e =
     let l = same-length a in
-    let f : finishNumber (length c) (w .at) ≡ 0 = rw l at e in
+    let f : finishNumber (w .at) (length c) ≡ 0 = rw l at e in
     rw (e, f, finished ero b (a .tail) (a .n) (w .at) (a .first), finished ero c (a .tail) (a .m) (w .at) (a .second))
 
 none-left : {ero : Bool} (b c : List ℕ) (w : Writer) → Alike ero b c → Accepted (actsRun b w []) → actsRun b w [] ≡ addsRun c w (takenFrom b w [])
@@ -70,30 +70,30 @@ abbrev behind : Writer → Segment → Writer
 behind w g = record { ero = w .ero; at = w .at + length (subobjectOf (formOf (w .form)) g); form = w .form }
 
 -- An add that is accepted goes on.
-adds-on : (c : List ℕ) (w : Writer) (g : Segment) (gs : List Segment) → addNumber (formOf (w .form)) (length c) (w .ero) (w .at) g ≡ 0
+adds-on : (c : List ℕ) (w : Writer) (g : Segment) (gs : List Segment) → addNumber (formOf (w .form)) (w .ero) (w .at) (length c) g ≡ 0
     → addsRun c w (g ∷ gs) ≡ addsRun (placed c (w .at) (subobjectOf (formOf (w .form)) g)) (behind w g) gs
 unfolding addsRun
 adds-on c w g gs e = add-onward c w g (λ b′ w′. addsRun b′ w′ gs) e
 
 -- What a call leaves, by its number.
-after-add : (b : List ℕ) (w : Writer) (g : Segment) (cs : List WriterCall) → addNumber (formOf (w .form)) (length b) (w .ero) (w .at) g ≡ 0
+after-add : (b : List ℕ) (w : Writer) (g : Segment) (cs : List WriterCall) → addNumber (formOf (w .form)) (w .ero) (w .at) (length b) g ≡ 0
     → (actsRun b w (adding g ∷ cs) ≡ actsRun (placed b (w .at) (subobjectOf (formOf (w .form)) g)) (behind w g) cs)
     × (takenFrom b w (adding g ∷ cs) ≡ g ∷ takenFrom (placed b (w .at) (subobjectOf (formOf (w .form)) g)) (behind w g) cs)
 unfolding actsRun takenFrom addAnswerIn addBufferIn
 after-add b w g cs e = (rw e, rw e)
 
-after-refused : (b : List ℕ) (w : Writer) (g : Segment) (cs : List WriterCall) (k : ℕ) → addNumber (formOf (w .form)) (length b) (w .ero) (w .at) g ≡ suc k
+after-refused : (b : List ℕ) (w : Writer) (g : Segment) (cs : List WriterCall) (k : ℕ) → addNumber (formOf (w .form)) (w .ero) (w .at) (length b) g ≡ suc k
     → (actsRun b w (adding g ∷ cs) ≡ actsRun b w cs) × (takenFrom b w (adding g ∷ cs) ≡ takenFrom b w cs)
 unfolding actsRun takenFrom addAnswerIn addBufferIn
 after-refused b w g cs k e = (rw e, rw e)
 
-after-finish : (b : List ℕ) (w : Writer) (cs : List WriterCall) → finishNumber (length b) (w .at) ≡ 0
+after-finish : (b : List ℕ) (w : Writer) (cs : List WriterCall) → finishNumber (w .at) (length b) ≡ 0
     → (actsRun b w (finishing ∷ cs) ≡ actsRun (placed b 2 (hi (w .at) ∷ lo (w .at) ∷ [])) w cs)
     × (takenFrom b w (finishing ∷ cs) ≡ takenFrom (placed b 2 (hi (w .at) ∷ lo (w .at) ∷ [])) w cs)
 unfolding actsRun takenFrom finishAnswer finishBuffer
 after-finish b w cs e = (rw e, rw e)
 
-after-unfinished : (b : List ℕ) (w : Writer) (cs : List WriterCall) (k : ℕ) → finishNumber (length b) (w .at) ≡ suc k
+after-unfinished : (b : List ℕ) (w : Writer) (cs : List WriterCall) (k : ℕ) → finishNumber (w .at) (length b) ≡ suc k
     → (actsRun b w (finishing ∷ cs) ≡ actsRun b w cs) × (takenFrom b w (finishing ∷ cs) ≡ takenFrom b w cs)
 unfolding actsRun takenFrom finishAnswer finishBuffer
 after-unfinished b w cs k e = (rw e, rw e)
@@ -103,7 +103,7 @@ abbrev Same : Bool → List WriterCall → Type 0
 Same ero cs = (b c : List ℕ) (w : Writer) → Alike ero b c → Accepted (actsRun b w cs) → actsRun b w cs ≡ addsRun c w (takenFrom b w cs)
 
 add-turn : {ero : Bool} (g : Segment) (cs : List WriterCall) → Same ero cs → (b c : List ℕ) (w : Writer) → Alike ero b c → Accepted (actsRun b w (adding g ∷ cs))
-    → (n : ℕ) → addNumber (formOf (w .form)) (length b) (w .ero) (w .at) g ≡ n → actsRun b w (adding g ∷ cs) ≡ addsRun c w (takenFrom b w (adding g ∷ cs))
+    → (n : ℕ) → addNumber (formOf (w .form)) (w .ero) (w .at) (length b) g ≡ n → actsRun b w (adding g ∷ cs) ≡ addsRun c w (takenFrom b w (adding g ∷ cs))
 add-turn g cs ih b c w a e ℕ.zero q =
     let x = subobjectOf (formOf (w .form)) g in
     let w′ = behind w g in
@@ -117,7 +117,7 @@ add-turn g cs ih b c w a e (ℕ.suc k) q =
     p .0 ∙ ih b c w a (rw (p .0) at e) ∙ sym (ap (addsRun c w) (p .1))
 
 finish-turn : {ero : Bool} (cs : List WriterCall) → Same ero cs → (b c : List ℕ) (w : Writer) → Alike ero b c → Accepted (actsRun b w (finishing ∷ cs))
-    → (n : ℕ) → finishNumber (length b) (w .at) ≡ n → actsRun b w (finishing ∷ cs) ≡ addsRun c w (takenFrom b w (finishing ∷ cs))
+    → (n : ℕ) → finishNumber (w .at) (length b) ≡ n → actsRun b w (finishing ∷ cs) ≡ addsRun c w (takenFrom b w (finishing ∷ cs))
 finish-turn {ero} cs ih b c w a e ℕ.zero q =
     let p = after-finish b w cs q in
     let d = placed b 2 (hi (w .at) ∷ lo (w .at) ∷ []) in
@@ -130,8 +130,8 @@ finish-turn cs ih b c w a e (ℕ.suc k) q =
 
 acts : {ero : Bool} (cs : List WriterCall) → Same ero cs
 acts [] b c w a e = none-left b c w a e
-acts (adding g ∷ cs) b c w a e = add-turn g cs (acts cs) b c w a e (addNumber (formOf (w .form)) (length b) (w .ero) (w .at) g) refl
-acts (finishing ∷ cs) b c w a e = finish-turn cs (acts cs) b c w a e (finishNumber (length b) (w .at)) refl
+acts (adding g ∷ cs) b c w a e = add-turn g cs (acts cs) b c w a e (addNumber (formOf (w .form)) (w .ero) (w .at) (length b) g) refl
+acts (finishing ∷ cs) b c w a e = finish-turn cs (acts cs) b c w a e (finishNumber (w .at) (length b)) refl
 
 begun : (b : List ℕ) (ero : Bool) → over (headerOf ero 4) b ≡ headerOf ero 4 ++ drop 4 b
 unfolding headerOf over

@@ -171,7 +171,7 @@ pub record Reads (form : Form) (ero : Bool) (s : List ℕ) (at : ℕ) (g : Segme
   pub r8 : rule8 form (headOfSegment form g) ≡ false
   pub r9 : rule9 (headOfSegment form g) ≡ false
   pub formed : malformed (headOfSegment form g) ≡ false
-  pub r11 : rule11 (headOfSegment form g) (bitsAt form s at (headOfSegment form g)) ≡ false
+  pub r11 : rule11 (headOfSegment form g) (bitsAt form (headOfSegment form g) s at) ≡ false
   pub r29 : rule29 (headOfSegment form g) (labelAt s (at + form .fixed)) ≡ false
   pub r30 : rule30 (headOfSegment form g) (timeAt s (at + form .fixed)) ≡ false
   pub strays : straysAt form s ero at ≡ noStrays
@@ -193,10 +193,10 @@ sum-back {s} {at} x t l =
 
 module _ {form : Form} (z : Sized form) (r : Readable form) {s : List ℕ} {at : ℕ} (g : Segment) (t : Stands s at (subobjectOf form g)) (h : Held g) where
   bits-back : (g .structured && not (g .hassid)) ≡ false → rule11 (headOfSegment form g) (bitsOf g) ≡ false → (b : Bool) → g .structured ≡ b
-      → rule11 (headOfSegment form g) (bitsAt form s at (headOfSegment form g)) ≡ false
+      → rule11 (headOfSegment form g) (bitsAt form (headOfSegment form g) s at) ≡ false
   unfolding bitsOf headOfSegment
   bits-back n e true q = rw (sum-back (g .structure) (stands-bits z r g t h q n) (h .structure)) e
-  bits-back n e false q = bits-off (headOfSegment form g) (bitsAt form s at (headOfSegment form g)) (there form g n ∙ q)
+  bits-back n e false q = bits-off (headOfSegment form g) (bitsAt form (headOfSegment form g) s at) (there form g n ∙ q)
 
   sid-stands : hasLabel (headOfSegment form g) ≡ true → Stands s (at + form .fixed) (take (form .sid) (g .sid))
   sid-stands e = rw (label-sid form (headOfSegment form g) e) at (stands-sid z r g t)

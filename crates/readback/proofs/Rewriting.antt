@@ -196,7 +196,7 @@ unfolding badPlace
 proper at room l f h k = rw (le-ltb at 4 l, eq-eqb (at % 4) 0 f, within at room h k)
 
 add-taken : (form : Form) (ero : Bool) (room at : ℕ) (g : Segment) → Fit form ero g → 4 ≤ at → at % 4 ≡ 0
-    → at + length (subobjectOf form g) ≤ room → at + length (subobjectOf form g) ≤ 65532 → addNumber form room ero at g ≡ 0
+    → at + length (subobjectOf form g) ≤ room → at + length (subobjectOf form g) ≤ 65532 → addNumber form ero at room g ≡ 0
 unfolding addNumber noRoom
 add-taken form ero room at g t l f h k =
     rw (
@@ -210,7 +210,7 @@ add-taken form ero room at g t l f h k =
       within (at + length (subobjectOf form g)) room h k,
     )
 
-finish-taken : (room : ℕ) (w : Writer) → 4 < w .at → w .at % 4 ≡ 0 → w .at ≤ room → w .at ≤ 65532 → finishNumber room (w .at) ≡ 0
+finish-taken : (room : ℕ) (w : Writer) → 4 < w .at → w .at % 4 ≡ 0 → w .at ≤ room → w .at ≤ 65532 → finishNumber (w .at) room ≡ 0
 unfolding finishNumber
 finish-taken room w l f h k = rw (proper (w .at) room (omega arith) f h k, ne-eqb (w .at) 4 (λ z. omega arith))
 

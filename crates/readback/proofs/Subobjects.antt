@@ -41,7 +41,7 @@ pub record Sound (form : Form) (ero : Bool) (s : List ℕ) (at : ℕ) : Type 0 w
   pub r8 : rule8 form (headAt form s ero at) ≡ false
   pub r9 : rule9 (headAt form s ero at) ≡ false
   pub r7 : rule7 form (headAt form s ero at) ≡ false
-  pub r11 : rule11 (headAt form s ero at) (bitsAt form s at (headAt form s ero at)) ≡ false
+  pub r11 : rule11 (headAt form s ero at) (bitsAt form (headAt form s ero at) s at) ≡ false
   pub r29 : rule29 (headAt form s ero at) (labelAt s (at + form .fixed)) ≡ false
   pub r30 : rule30 (headAt form s ero at) (timeAt s (at + form .fixed)) ≡ false
   pub inside : at + octetOf s (at + 1) ≤ length s

@@ -44,8 +44,8 @@ abbrev pub unfitAlone : Bool → Segment → Bool
 unfitAlone ero g = (g .structured && not (g .hassid)) || ((not ero && (g .loose || g .verify)) || not (tidyAlone g))
 
 -- "Adding checks 8, 9, 7 (..), 11, then 16."
-abbrev pub numberAlone : ℕ → Bool → ℕ → Segment → ℕ
-numberAlone room ero at g =
+abbrev pub numberAlone : Bool → ℕ → ℕ → Segment → ℕ
+numberAlone ero at room g =
     cond (not (eqb (g .nt) 0 || (eqb (g .nt) 2 || (eqb (g .nt) 4 || eqb (g .nt) 6)))) 8
     (cond (eqb (sOf g) 1 && eqb (fOf g) 1) 9
     (cond (unfitAlone ero g) 7

@@ -104,7 +104,7 @@ module _ (s : List ℕ) (ero : Bool) (at : ℕ) where
       rw (nai-alone (head .nt), formed)
       (or-false (not (eqb (head .f) (cond (eqb (head .nt) 0) 1 0))) (not (eqb (head .size) (lengthAlone (head .nt) (head .s) (head .t)))))
 
-  r11 : rule11 head (bitsAt srv6Form s at head) ≡ (structured (head .s) (head .t) && ltb 128 (fourFrom s (structureAlone at (head .nt))))
+  r11 : rule11 head (bitsAt srv6Form head s at) ≡ (structured (head .s) (head .t) && ltb 128 (fourFrom s (structureAlone at (head .nt))))
   unfolding rule11 hasStructure sumAt
   r11 = rw (nai-alone (head .nt))
 

@@ -61,7 +61,7 @@ unfolding headAt headOf
 head-kind form s ero at = refl
 
 pub good-made : (form : Form) (s : List ℕ) (ero n : Bool) (at : ℕ) (h : Head) → h ≡ headAt form s ero at → h .kind ≡ form .kind → rule8 form h ≡ false → rule9 h ≡ false
-    → rule7 form h ≡ false → rule10 h ero n ≡ false → rule11 h (bitsAt form s at h) ≡ false → rule29 h (labelAt s (sidPlace form at)) ≡ false
+    → rule7 form h ≡ false → rule10 h ero n ≡ false → rule11 h (bitsAt form h s at) ≡ false → rule29 h (labelAt s (sidPlace form at)) ≡ false
     → rule30 h (timeAt s (sidPlace form at)) ≡ false → Good form s ero n at
 good-made form s ero n at h e k a b c d f g i =
     record {

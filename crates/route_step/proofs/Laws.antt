@@ -37,7 +37,7 @@ pub record Sound (form : Form) (s : List ℕ) (ero : Bool) (at : ℕ) : Type 0 w
   pub r8 : rule8 form (headAt form s ero at) ≡ false
   pub r9 : rule9 (headAt form s ero at) ≡ false
   pub r7 : rule7 form (headAt form s ero at) ≡ false
-  pub r11 : rule11 (headAt form s ero at) (bitsAt form s at (headAt form s ero at)) ≡ false
+  pub r11 : rule11 (headAt form s ero at) (bitsAt form (headAt form s ero at) s at) ≡ false
   pub r29 : rule29 (headAt form s ero at) (labelAt s (sidPlace form at)) ≡ false
   pub r30 : rule30 (headAt form s ero at) (timeAt s (sidPlace form at)) ≡ false
 
@@ -46,13 +46,13 @@ unfolding stepVerdict
 accepted-sound form s ero at z =
     go (outside s at) refl (fitsIn (octetOf s (at + 1)) (length s - at)) refl (eqb (headAt form s ero at .kind) (form .kind)) refl
     (rule8 form (headAt form s ero at)) refl (rule9 (headAt form s ero at)) refl (rule7 form (headAt form s ero at)) refl
-    (rule11 (headAt form s ero at) (bitsAt form s at (headAt form s ero at))) refl (rule29 (headAt form s ero at) (labelAt s (sidPlace form at))) refl
+    (rule11 (headAt form s ero at) (bitsAt form (headAt form s ero at) s at)) refl (rule29 (headAt form s ero at) (labelAt s (sidPlace form at))) refl
     (rule30 (headAt form s ero at) (timeAt s (sidPlace form at))) refl z
   where
     go : (o : Bool) → outside s at ≡ o → (f : Bool) → fitsIn (octetOf s (at + 1)) (length s - at) ≡ f
         → (k : Bool) → eqb (headAt form s ero at .kind) (form .kind) ≡ k → (a : Bool) → rule8 form (headAt form s ero at) ≡ a
         → (b : Bool) → rule9 (headAt form s ero at) ≡ b → (c : Bool) → rule7 form (headAt form s ero at) ≡ c
-        → (d : Bool) → rule11 (headAt form s ero at) (bitsAt form s at (headAt form s ero at)) ≡ d
+        → (d : Bool) → rule11 (headAt form s ero at) (bitsAt form (headAt form s ero at) s at) ≡ d
         → (l : Bool) → rule29 (headAt form s ero at) (labelAt s (sidPlace form at)) ≡ l
         → (t : Bool) → rule30 (headAt form s ero at) (timeAt s (sidPlace form at)) ≡ t
         → cond o (refusedBy 15 0) (cond (not f) (refusedBy 4 0) (cond (not k) (refusedBy 14 0)

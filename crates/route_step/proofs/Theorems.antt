@@ -69,7 +69,7 @@ module _ (s : List ℕ) (ero : Bool) (pst : ℕ) where
     pub r8 : rule8 (formOf pst) (headAt (formOf pst) s ero at) ≡ false
     pub r9 : rule9 (headAt (formOf pst) s ero at) ≡ false
     pub r7 : rule7 (formOf pst) (headAt (formOf pst) s ero at) ≡ false
-    pub r11 : rule11 (headAt (formOf pst) s ero at) (bitsAt (formOf pst) s at (headAt (formOf pst) s ero at)) ≡ false
+    pub r11 : rule11 (headAt (formOf pst) s ero at) (bitsAt (formOf pst) (headAt (formOf pst) s ero at) s at) ≡ false
     pub r29 : rule29 (headAt (formOf pst) s ero at) (labelAt s (sidPlace (formOf pst) at)) ≡ false
     pub r30 : rule30 (headAt (formOf pst) s ero at) (timeAt s (sidPlace (formOf pst) at)) ≡ false
 

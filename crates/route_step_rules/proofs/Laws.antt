@@ -23,7 +23,7 @@ use Rattle.route_step_rules.specs.StepRules.{headVerdict, stepVerdict}
 
 -- ---- 14, 8, 9, 7, 11, 29, 30
 module _ (form : Form) (s : List ℕ) (at : ℕ) (h : Head) where
-  pub other-kind : {r : Verdict} {k : ℕ} → k ≡ form .kind → (h .kind ≡ k → ⊥) → r ≡ refusedBy 14 0 → r ≡ headVerdict form s at h
+  pub other-kind : {r : Verdict} {k : ℕ} → k ≡ form .kind → (h .kind ≡ k → ⊥) → r ≡ refusedBy 14 0 → r ≡ headVerdict form h s at
   unfolding headVerdict
   other-kind q n e = e ∙ sym (rw (ne-eqb (h .kind) (form .kind) (λ z. n (z ∙ sym q))))
 
@@ -31,36 +31,36 @@ module _ (form : Form) (s : List ℕ) (at : ℕ) (h : Head) where
     same-kind : eqb (h .kind) (form .kind) ≡ true
     same-kind = eq-eqb (h .kind) (form .kind) (own ∙ q)
 
-    pub stops-8 : {r : Verdict} → rule8 form h ≡ true → r ≡ refusedBy 8 at → r ≡ headVerdict form s at h
+    pub stops-8 : {r : Verdict} → rule8 form h ≡ true → r ≡ refusedBy 8 at → r ≡ headVerdict form h s at
     unfolding headVerdict
     stops-8 a e = e ∙ sym (rw (same-kind, a))
 
     module _ (a : rule8 form h ≡ false) where
-      pub stops-9 : {r : Verdict} → rule9 h ≡ true → r ≡ refusedBy 9 at → r ≡ headVerdict form s at h
+      pub stops-9 : {r : Verdict} → rule9 h ≡ true → r ≡ refusedBy 9 at → r ≡ headVerdict form h s at
       unfolding headVerdict
       stops-9 b e = e ∙ sym (rw (same-kind, a, b))
 
-      pub stops-7 : {r : Verdict} → rule9 h ≡ false → rule7 form h ≡ true → r ≡ refusedBy 7 at → r ≡ headVerdict form s at h
+      pub stops-7 : {r : Verdict} → rule9 h ≡ false → rule7 form h ≡ true → r ≡ refusedBy 7 at → r ≡ headVerdict form h s at
       unfolding headVerdict
       stops-7 b c e = e ∙ sym (rw (same-kind, a, b, c))
 
       module _ (b : rule9 h ≡ false) (c : rule7 form h ≡ false) where
-        pub stops-11 : {r : Verdict} → rule11 h (bitsAt form s at h) ≡ true → r ≡ refusedBy 11 at → r ≡ headVerdict form s at h
+        pub stops-11 : {r : Verdict} → rule11 h (bitsAt form h s at) ≡ true → r ≡ refusedBy 11 at → r ≡ headVerdict form h s at
         unfolding headVerdict
         stops-11 d e = e ∙ sym (rw (same-kind, a, b, c, d))
 
-        pub stops-29 : {r : Verdict} → rule11 h (bitsAt form s at h) ≡ false → rule29 h (labelAt s (sidPlace form at)) ≡ true → r ≡ refusedBy 29 0
-            → r ≡ headVerdict form s at h
+        pub stops-29 : {r : Verdict} → rule11 h (bitsAt form h s at) ≡ false → rule29 h (labelAt s (sidPlace form at)) ≡ true → r ≡ refusedBy 29 0
+            → r ≡ headVerdict form h s at
         unfolding headVerdict
         stops-29 d l e = e ∙ sym (rw (same-kind, a, b, c, d, l))
 
-        pub stops-30 : {r : Verdict} → rule11 h (bitsAt form s at h) ≡ false → rule29 h (labelAt s (sidPlace form at)) ≡ false
-            → rule30 h (timeAt s (sidPlace form at)) ≡ true → r ≡ refusedBy 30 0 → r ≡ headVerdict form s at h
+        pub stops-30 : {r : Verdict} → rule11 h (bitsAt form h s at) ≡ false → rule29 h (labelAt s (sidPlace form at)) ≡ false
+            → rule30 h (timeAt s (sidPlace form at)) ≡ true → r ≡ refusedBy 30 0 → r ≡ headVerdict form h s at
         unfolding headVerdict
         stops-30 d l t e = e ∙ sym (rw (same-kind, a, b, c, d, l, t))
 
-        pub unbroken : {r : Verdict} → rule11 h (bitsAt form s at h) ≡ false → rule29 h (labelAt s (sidPlace form at)) ≡ false
-            → rule30 h (timeAt s (sidPlace form at)) ≡ false → r ≡ acceptedWith 0 → r ≡ headVerdict form s at h
+        pub unbroken : {r : Verdict} → rule11 h (bitsAt form h s at) ≡ false → rule29 h (labelAt s (sidPlace form at)) ≡ false
+            → rule30 h (timeAt s (sidPlace form at)) ≡ false → r ≡ acceptedWith 0 → r ≡ headVerdict form h s at
         unfolding headVerdict
         unbroken d l t e = e ∙ sym (rw (same-kind, a, b, c, d, l, t))
 
@@ -80,10 +80,10 @@ module _ (form : Form) (s : List ℕ) (ero : Bool) (at : ℕ) where
     unfolding stepVerdict
     stops-4 b e = e ∙ sym (rw (a, b))
 
-    pub goes-on : {r : Verdict} {h : Head} → not (fitsIn (octetOf s (at + 1)) (length s - at)) ≡ false → h ≡ headAt form s ero at → r ≡ headVerdict form s at h
+    pub goes-on : {r : Verdict} {h : Head} → not (fitsIn (octetOf s (at + 1)) (length s - at)) ≡ false → h ≡ headAt form s ero at → r ≡ headVerdict form h s at
         → r ≡ stepVerdict form s ero at
     unfolding stepVerdict headVerdict
-    goes-on b q e = e ∙ ap (headVerdict form s at) q ∙ sym (rw (a, b))
+    goes-on b q e = e ∙ ap (λ (x : Head). headVerdict form x s at) q ∙ sym (rw (a, b))
 
     pub room : not (fitsIn (octetOf s (at + 1)) (length s - at)) ≡ false → at + 4 ≤ length s
     room b = omega (arith, fit (octetOf s (at + 1)) (length s - at) b, inside s at a)

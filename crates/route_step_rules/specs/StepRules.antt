@@ -18,13 +18,13 @@ use Rattle.frame.specs.Frames.{fitsIn}
 use Rattle.route_step_tests.specs.Places.{outside}
 
 -- 14, then 8, 9, 7, 11, 29, 30, of the subobject at a place by the head found there. As in judging, 29 and 30 name no place.
-abbrev pub headChecks : Form → List ℕ → ℕ → Head → List Check
-headChecks form s at h =
+abbrev pub headChecks : Form → Head → List ℕ → ℕ → List Check
+headChecks form h s at =
     check noneOfForm 0 (not (eqb (h .kind) (form .kind)))
     ∷ check naiUnknown at (rule8 form h)
     ∷ check nothingThere at (rule9 h)
     ∷ check lengthWrong at (rule7 form h)
-    ∷ check structureTooLong at (rule11 h (bitsAt form s at h))
+    ∷ check structureTooLong at (rule11 h (bitsAt form h s at))
     ∷ check labelValue 0 (rule29 h (labelAt s (sidPlace form at)))
     ∷ check labelFormat 0 (rule30 h (timeAt s (sidPlace form at)))
     ∷ []
@@ -34,10 +34,10 @@ abbrev pub stepChecks : Form → List ℕ → Bool → ℕ → List Check
 stepChecks form s ero at =
     check noSuchSegment 0 (outside s at)
     ∷ check frameBroken 0 (not (fitsIn (octetOf s (at + 1)) (length s - at)))
-    ∷ headChecks form s at (headAt form s ero at)
+    ∷ headChecks form (headAt form s ero at) s at
 
-unfoldable pub headVerdict : Form → List ℕ → ℕ → Head → Verdict
-headVerdict form s at h = firstBroken (headChecks form s at h) (acceptedWith 0)
+unfoldable pub headVerdict : Form → Head → List ℕ → ℕ → Verdict
+headVerdict form h s at = firstBroken (headChecks form h s at) (acceptedWith 0)
 
 unfoldable pub stepVerdict : Form → List ℕ → Bool → ℕ → Verdict
 stepVerdict form s ero at = firstBroken (stepChecks form s ero at) (acceptedWith 0)

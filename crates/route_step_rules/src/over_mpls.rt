@@ -11,7 +11,7 @@ use subobject::Head;
 // The first broken rule of a subobject with this head.
 fn rules_at(form: Form, s: &[u8], at: usize, h: Head) -> Verdict
     requires { ⌜ (at < length (now s)) × Sized form × Shortest form 4 × (at + h .size ≤ length (now s)) ⌝ }
-    ensures verdict { λ r. ⌜ r ≡ headVerdict form (now (s .entry)) at h ⌝ }
+    ensures verdict { λ r. ⌜ r ≡ headVerdict form h (now (s .entry)) at ⌝ }
 {
     if h.kind != octets::wide(form.kind) {
         return answers::refused(answers::NONE_OF_FORM, 0);

@@ -52,8 +52,8 @@ unfoldable pub sumAt : List ℕ → ℕ → ℕ
 sumAt s at = octetOf s at + octetOf s (at + 1) + octetOf s (at + 2) + octetOf s (at + 3)
 
 -- The sum of the four bit lengths of the subobject at a place.
-abbrev pub bitsAt : Form → List ℕ → ℕ → Head → ℕ
-bitsAt form s at h = sumAt s (structurePlace form at (h .nt))
+abbrev pub bitsAt : Form → Head → List ℕ → ℕ → ℕ
+bitsAt form h s at = sumAt s (structurePlace form at (h .nt))
 
 -- A label stack entry: 20 bits of label, 3 of TC, 1 of S, 8 of TTL. It stands where the SID does, if there is a SID and M is 1.
 unfoldable pub labelAt : List ℕ → ℕ → ℕ
@@ -94,7 +94,7 @@ pub record Subject : Type 0 where
 -- The subobject at a place, by its head.
 abbrev pub subjectBy : Form → Head → List ℕ → Bool → Bool → ℕ → Subject
 subjectBy form h s ero n at =
-    record { form = form; head = h; bits = bitsAt form s at h; label = labelAt s (sidPlace form at); time = timeAt s (sidPlace form at); ero = ero; n = n }
+    record { form = form; head = h; bits = bitsAt form h s at; label = labelAt s (sidPlace form at); time = timeAt s (sidPlace form at); ero = ero; n = n }
 
 abbrev pub subjectAt : Form → List ℕ → Bool → Bool → ℕ → Subject
 subjectAt form s ero n at = subjectBy form (headAt form s ero at) s ero n at

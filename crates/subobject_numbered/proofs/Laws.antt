@@ -23,5 +23,5 @@ unplaced number at a b c d e =
 
 -- 11, from the sum where the code looks for it.
 pub eleven-made : (form : Form) (h : Head) (s : List ℕ) (at fixed sid nai sum : ℕ) (r : Bool) → fixed ≡ form .fixed → sid ≡ form .sid → nai ≡ naiLength form (h .nt)
-    → sum ≡ sumAt s (at + fixed + sid + nai) → r ≡ rule11 h sum → r ≡ rule11 h (bitsAt form s at h)
+    → sum ≡ sumAt s (at + fixed + sid + nai) → r ≡ rule11 h sum → r ≡ rule11 h (bitsAt form h s at)
 eleven-made form h s at fixed sid nai sum r ef es en em er = er ∙ ap (λ (x : ℕ). rule11 h x) (em ∙ rw (ef, es, en))

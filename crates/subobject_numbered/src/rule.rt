@@ -33,7 +33,7 @@ pub fn place(number: usize, at: usize) -> usize
 // 11 for the subobject at `at`. Only a structure's octets are read.
 pub fn too_long(form: Form, s: &[u8], at: usize, h: Head) -> bool
     requires { ⌜ (at < length (now s)) × Sized form ⌝ }
-    ensures broken { λ r. ⌜ r ≡ rule11 h (bitsAt form (now (s .entry)) at h) ⌝ }
+    ensures broken { λ r. ⌜ r ≡ rule11 h (bitsAt form h (now (s .entry)) at) ⌝ }
 {
     if subobject::structured(h) {
         let fixed = octets::wide(form.fixed);

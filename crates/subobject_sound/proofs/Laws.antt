@@ -50,7 +50,7 @@ structure-last form h at r e t q =
 
 -- and 11 asks for its sum.
 pub eleven-kept : (form : Form) (h : Head) (s : List ℕ) (at p sum : ℕ) (b : Bool) → sum ≡ sumAt s p → p ≡ structurePlace form at (h .nt) → b ≡ leb sum mostBits → b ≡ true
-    → rule11 h (bitsAt form s at h) ≡ false
+    → rule11 h (bitsAt form h s at) ≡ false
 unfolding rule11
 eleven-kept form h s at p sum b e q l z =
     let few : sum ≤ mostBits = leb-true sum mostBits (sym l ∙ z) in

@@ -58,7 +58,7 @@ fn sum_in(s: &[u8], at: usize) -> usize
 // 11. A structure ends a subobject of the expected length.
 pub fn structure_sound(form: Form, s: &[u8], at: usize, h: Head) -> bool
     requires { ⌜ (h .size ≡ expectedLength form (h .nt) (h .s) (h .t)) × (at + h .size ≤ length (now s)) ⌝ }
-    ensures sound { λ r. ⌜ (r ≡ true → rule11 h (bitsAt form (now (s .entry)) at h) ≡ false) ⌝ }
+    ensures sound { λ r. ⌜ (r ≡ true → rule11 h (bitsAt form h (now (s .entry)) at) ≡ false) ⌝ }
 {
     if subobject::structured(h) {
         return sum_in(s, at + h.size - subobject::STRUCTURE_LENGTH) <= subobject::MOST_BITS;

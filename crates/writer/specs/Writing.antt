@@ -57,11 +57,11 @@ beginBuffer b w ero = kept (beginNumber (length b)) b (over (headerOf ero header
 -- A segment of a form:
 unfoldable pub addAnswerIn : Form → List ℕ → Writer → Segment → Written
 addAnswerIn form b w g =
-    answered (addNumber form (length b) (w .ero) (w .at) g) w (record { ero = w .ero; at = w .at + length (subobjectOf form g); form = w .form })
+    answered (addNumber form (w .ero) (w .at) (length b) g) w (record { ero = w .ero; at = w .at + length (subobjectOf form g); form = w .form })
 
 -- "each segment is written into the rest of the lent buffer from the present place on; octets behind it stay."
 unfoldable pub addBufferIn : Form → List ℕ → Writer → Segment → List ℕ
-addBufferIn form b w g = kept (addNumber form (length b) (w .ero) (w .at) g) b (placed b (w .at) (subobjectOf form g))
+addBufferIn form b w g = kept (addNumber form (w .ero) (w .at) (length b) g) b (placed b (w .at) (subobjectOf form g))
 
 -- The form is the one that the state names.
 abbrev pub addAnswer : List ℕ → Writer → Segment → Written
@@ -73,8 +73,8 @@ addBuffer b w g = addBufferIn (formOf (w .form)) b w g
 -- finish -------------------------------------------------------------------------------------------------------
 
 unfoldable pub finishAnswer : List ℕ → Writer → Written
-finishAnswer b w = answered (finishNumber (length b) (w .at)) w w
+finishAnswer b w = answered (finishNumber (w .at) (length b)) w w
 
 -- "Begin writes the header .., finish the length", at octets 2 and 3 of the object.
 unfoldable pub finishBuffer : List ℕ → Writer → List ℕ
-finishBuffer b w = kept (finishNumber (length b) (w .at)) b (placed b lengthPlace (hi (w .at) ∷ lo (w .at) ∷ []))
+finishBuffer b w = kept (finishNumber (w .at) (length b)) b (placed b lengthPlace (hi (w .at) ∷ lo (w .at) ∷ []))

@@ -15,6 +15,11 @@ use subobject::Segment;
 // Type 1 in the high 4 bits; the low bits are 0.
 const TYPE_OCTET: u8 = (objects::OBJECT_TYPE * objects::TYPE_WORTH) as u8;
 
+// The two octets of an object's length.
+const HIGH: usize = objects::LENGTH_PLACE;
+
+const LOW: usize = objects::LENGTH_PLACE + 1;
+
 // The setup types of the two forms, as the state keeps them.
 pub const MPLS_SETUP: u8 = objects::MPLS_SETUP as u8;
 
@@ -40,8 +45,8 @@ pub fn begin(buf: &mut [u8], writer: Writer, ero: bool, pst: u64) -> Written
     }
     buf[objects::CLASS_PLACE] = octets::pick(ero, objects::ERO_CLASS, objects::RRO_CLASS) as u8;
     buf[objects::TYPE_PLACE] = TYPE_OCTET;
-    buf[2] = 0;
-    buf[3] = objects::HEADER as u8;
+    buf[HIGH] = 0;
+    buf[LOW] = objects::HEADER as u8;
     state::accept(Writer {
         ero: ero,
         at: objects::HEADER,
@@ -192,7 +197,7 @@ pub fn finish(buf: &mut [u8], writer: Writer) -> Written
         return state::refuse(number, writer);
     }
     let at = writer.at;
-    buf[2] = (at / 256 % 256) as u8;
-    buf[3] = (at % 256) as u8;
+    buf[HIGH] = (at / 256 % 256) as u8;
+    buf[LOW] = (at % 256) as u8;
     state::accept(writer)
 }

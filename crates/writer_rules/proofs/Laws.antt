@@ -76,7 +76,7 @@ pub record Taken (form : Form) (room : ℕ) (ero : Bool) (at : ℕ) (g : Segment
   pub place : Proper at room
   pub end : Within (at + length (subobjectOf form g)) room
 
-pub taken : (form : Form) (room : ℕ) (ero : Bool) (at : ℕ) (g : Segment) → addNumber form room ero at g ≡ 0 → Taken form room ero at g
+pub taken : (form : Form) (room : ℕ) (ero : Bool) (at : ℕ) (g : Segment) → addNumber form ero at room g ≡ 0 → Taken form room ero at g
 unfolding addNumber noRoom
 taken form room ero at g e =
     let h = headOfSegment form g in
@@ -101,7 +101,7 @@ pub record Done (room at : ℕ) : Type 0 where
   pub place : Proper at room
   pub filled : at ≡ header → ⊥
 
-pub done : (room at : ℕ) → finishNumber room at ≡ 0 → Done room at
+pub done : (room at : ℕ) → finishNumber at room ≡ 0 → Done room at
 unfolding finishNumber
 done room at e =
     let e16 = no-refusal (badPlace at room) 15 _ e in
@@ -289,7 +289,7 @@ no-label-30 form g time e = rw (no-label form g e)
 -- A segment that is barred before its NAI.
 pub barred-number : {form : Form} → Sized form → (room : ℕ) (ero : Bool) (at : ℕ) (g : Segment) (h : Head) (front r : ℕ) → h ≡ headOfSegment form g
     → front ≡ frontOf form (outlineOf g) (g .sid) → front ≡ 0 → r ≡ cond (rule8 form h) naiUnknown (cond (rule9 h) nothingThere lengthWrong)
-    → r ≡ addNumber form room ero at g
+    → r ≡ addNumber form ero at room g
 unfolding addNumber
 barred-number {form} z room ero at g h front r eh ef e0 e = e ∙ rw (eh, go (unfit form ero g) refl)
   where

@@ -28,8 +28,8 @@ noRoom form at room g = badPlace at room || passes (at + length (subobjectOf for
 
 -- "Adding checks 8, 9, 7 (..), 11, then 16"; "29 and 30 after 11, before 16". The head is the one that the segment is written with: "F follows from NT". A label
 -- and its TTL are those of the segment's SID.
-unfoldable pub addNumber : Form → ℕ → Bool → ℕ → Segment → ℕ
-addNumber form room ero at g =
+unfoldable pub addNumber : Form → Bool → ℕ → ℕ → Segment → ℕ
+addNumber form ero at room g =
     cond (rule8 form (headOfSegment form g)) naiUnknown
     (cond (rule9 (headOfSegment form g)) nothingThere
     (cond (unfit form ero g) lengthWrong
@@ -41,4 +41,4 @@ addNumber form room ero at g =
 
 -- "A place under 4, no multiple of 4 or past that end, is 16 too; else a finish at place 4 is 5."
 unfoldable pub finishNumber : ℕ → ℕ → ℕ
-finishNumber room at = cond (badPlace at room) bufferFull (cond (eqb at header) routeEmpty 0)
+finishNumber at room = cond (badPlace at room) bufferFull (cond (eqb at header) routeEmpty 0)

@@ -61,7 +61,7 @@ pub fn adding_unlabelled(
     bits: &[u8],
 ) -> usize
     requires { ⌜ (Held (segmentWith o (now sid) (now nai) (now bits))) × (h ≡ headOfOutline form o) × (Sized form) × (Readable form) × (front ≡ frontOf form o (now sid)) × (n ≡ naiLength form (o .nt)) × (size ≡ front + n + cond (o .structured) structureSize 0) × (o .labelled ≡ false) ⌝ }
-    ensures number { λ r. ⌜ r ≡ addNumber form room ero at (segmentWith o (now (sid .entry)) (now (nai .entry)) (now (bits .entry))) ⌝ }
+    ensures number { λ r. ⌜ r ≡ addNumber form ero at room (segmentWith o (now (sid .entry)) (now (nai .entry)) (now (bits .entry))) ⌝ }
 {
     let first = nameless(form, h, n);
     if first != 0 {
@@ -95,7 +95,7 @@ pub fn adding_unstructured(
     bits: &[u8],
 ) -> usize
     requires { ⌜ (Held (segmentWith o (now sid) (now nai) (now bits))) × (h ≡ headOfOutline form o) × (Sized form) × (Readable form) × (front ≡ frontOf form o (now sid)) × (n ≡ naiLength form (o .nt)) × (size ≡ front + n + cond (o .structured) structureSize 0) × (o .structured ≡ false) ⌝ }
-    ensures number { λ r. ⌜ r ≡ addNumber form room ero at (segmentWith o (now (sid .entry)) (now (nai .entry)) (now (bits .entry))) ⌝ }
+    ensures number { λ r. ⌜ r ≡ addNumber form ero at room (segmentWith o (now (sid .entry)) (now (nai .entry)) (now (bits .entry))) ⌝ }
 {
     let first = nameless(form, h, n);
     if first != 0 {
@@ -118,7 +118,7 @@ pub fn adding_unstructured(
 
 // Finishing: 16, else 5.
 pub fn finishing(room: usize, at: usize) -> usize
-    ensures number { λ r. ⌜ r ≡ finishNumber room at ⌝ }
+    ensures number { λ r. ⌜ r ≡ finishNumber at room ⌝ }
 {
     if writer_tests::misplaced(at, room) {
         return answers::BUFFER_FULL;

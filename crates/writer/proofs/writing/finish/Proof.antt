@@ -9,7 +9,7 @@ use borrow.Author.Needs.{needs}
 use Rattle.writer.proofs.writing.finish.Statement.{statement}
 use Rattle.writer.proofs.writing.finish.Tie as tie
 
-free : (c : tie.Else1) → finishNumber (length (c .before .before .before .args .buf .now)) (c .before .before .before .args .writer .at) ≡ 0
+free : (c : tie.Else1) → finishNumber (c .before .before .before .args .writer .at) (length (c .before .before .before .args .buf .now)) ≡ 0
 free c = sym (c .before .finishing .ensures) ∙ c .if1 .left
 
 fits : (c : tie.Else1) → Done (length (c .before .before .before .args .buf .now)) (c .before .before .before .args .writer .at)
