@@ -20,7 +20,8 @@ use Rattle.frame.specs.Checks.{Check, firstBroken}
 use Rattle.frame.specs.Frames.{Apart, ended, headed, fitsIn, apartOf, placesOf, kindAt, anyIs, otherThan, mixedAt, rule4, rule5, rule6, rule6Place, rule14, frameOf}
 use Rattle.frame.proofs.Checks.{None, none-first, none-append}
 use Rattle.frame.proofs.Laws.{Over, over-starts, over-ends, over-next, long-enough}
-use Rattle.route_walk.specs.Walk.{checksBy, checksAt, subobjectChecks, walkOf}
+use Rattle.frame.specs.Rows.{checksBy}
+use Rattle.route_walk.specs.Walk.{checksAt, subobjectChecks, walkOf}
 use Rattle.route_glance.specs.Settled.{Settled, SettledBy, strayWorth}
 
 -- The places gone over, turned round, before others.

@@ -1,33 +1,28 @@
 -- The rules of a step through a route: the subobject at a place, looked at by itself. The rules are document 01's, without those that hang on the whole route or
 -- on a session: 5, 6, 13, 10, 12.
 use Prim.Native.Nat.{ℕ, _+_, _-_}
-use mathlib.Core.List.{List, [], _∷_}
-use mathlib.Core.Bool.{Bool, not}
+use mathlib.Core.List.{List, _∷_}
+use mathlib.Core.Bool.{Bool, true, not}
 use lib.Dec.{eqb}
 use lib.ListN.{length}
 use Rattle.answers.specs.declared.verdict.Verdict.{Verdict}
-use Rattle.answers.specs.Numbers.{frameBroken, lengthWrong, naiUnknown, nothingThere, structureTooLong, noneOfForm, noSuchSegment, labelValue, labelFormat}
+use Rattle.answers.specs.Numbers.{frameBroken, sidNeeded, noneOfForm, noSuchSegment}
 use Rattle.answers.specs.Verdicts.{acceptedWith}
 use Rattle.octets.specs.Octets.{octetOf}
 use Rattle.forms.specs.declared.Form.{Form}
 use Rattle.subobject.specs.declared.head.Head.{Head}
-use Rattle.subobject.specs.Layout.{sidPlace, headAt}
-use Rattle.subobject.specs.Rules.{rule7, rule8, rule9, rule11, rule29, rule30, bitsAt, labelAt, timeAt}
+use Rattle.subobject.specs.Layout.{headAt}
+use Rattle.subobject.specs.Rules.{subjectBy, rules}
 use Rattle.frame.specs.Checks.{Check, check, firstBroken}
 use Rattle.frame.specs.Frames.{fitsIn}
+use Rattle.frame.specs.Rows.{checksBy, without}
 use Rattle.route_step_tests.specs.Places.{outside}
 
--- 14, then 8, 9, 7, 11, 29, 30, of the subobject at a place by the head found there. As in judging, 29 and 30 name no place.
+-- 14, then the rules of a subobject in the order of their table but for 10 (8, 9, 7, 11, 29, 30), of the subobject at a place by the head found there. Only 10
+-- looks at ERO or RRO and at N.
 abbrev pub headChecks : Form → Head → List ℕ → ℕ → List Check
 headChecks form h s at =
-    check noneOfForm 0 (not (eqb (h .kind) (form .kind)))
-    ∷ check naiUnknown at (rule8 form h)
-    ∷ check nothingThere at (rule9 h)
-    ∷ check lengthWrong at (rule7 form h)
-    ∷ check structureTooLong at (rule11 h (bitsAt form h s at))
-    ∷ check labelValue 0 (rule29 h (labelAt s (sidPlace form at)))
-    ∷ check labelFormat 0 (rule30 h (timeAt s (sidPlace form at)))
-    ∷ []
+    check noneOfForm 0 (not (eqb (h .kind) (form .kind))) ∷ checksBy (without sidNeeded rules) (subjectBy form h s true true at) at
 
 -- Before them 15 and 4.
 abbrev pub stepChecks : Form → List ℕ → Bool → ℕ → List Check

@@ -2,19 +2,15 @@
 -- the first broken one gives. The rules and their table stand in subobject/specs/Rules.
 use Prim.Native.Nat.{ℕ}
 use mathlib.Core.List.{List, [], _∷_, _++_}
-use mathlib.Core.Bool.{Bool, cond}
+use mathlib.Core.Bool.{Bool}
 use Rattle.answers.specs.declared.verdict.Verdict.{Verdict}
 use Rattle.answers.specs.Verdicts.{carryingBoth}
 use Rattle.forms.specs.declared.Form.{Form}
-use Rattle.subobject.specs.Rules.{Subject, subjectAt, Row, rules}
+use Rattle.subobject.specs.Rules.{subjectAt, rules}
 use Rattle.subobject_strays.specs.Strays.{strayIn}
-use Rattle.frame.specs.Checks.{Check, check, firstBroken}
+use Rattle.frame.specs.Checks.{Check, firstBroken}
 use Rattle.frame.specs.Frames.{placesOf}
-
--- The rows of the table as checks of one subobject. The place is "for 6 to 11 the octet of the subobject at fault, .. otherwise 0".
-abbrev pub checksBy : List Row → Subject → ℕ → List Check
-checksBy [] x place = []
-checksBy (r ∷ rs) x place = check (r .number) (cond (r .placed) place 0) (r .broken x) ∷ checksBy rs x place
+use Rattle.frame.specs.Rows.{checksBy}
 
 -- The checks of the subobject at a place.
 abbrev pub checksAt : Form → List ℕ → Bool → Bool → ℕ → List Check

@@ -99,7 +99,7 @@ subjectBy form h s ero n at =
 abbrev pub subjectAt : Form → List ℕ → Bool → Bool → ℕ → Subject
 subjectAt form s ero n at = subjectBy form (headAt form s ero at) s ero n at
 
--- A ruleRow of the table: a rule's number, whether its refusal names the octet of the subobject, and when it is broken.
+-- A row of the table: a rule's number, whether its refusal names the octet of the subobject, and when it is broken.
 pub record Row : Type 0 where
   pub number : ℕ
   pub placed : Bool
@@ -125,7 +125,7 @@ rules =
 abbrev pub ruleCount : ℕ
 ruleCount = 7
 
--- Whether the rule of a number is broken; a number that is in no ruleRow breaks nothing.
+-- Whether the rule of a number is broken; a number that is in no row breaks nothing.
 abbrev pub brokenIn : List Row → Subject → ℕ → Bool
 brokenIn [] x number = false
 brokenIn (r ∷ rs) x number = cond (eqb number (r .number)) (r .broken x) (brokenIn rs x number)
