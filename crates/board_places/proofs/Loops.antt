@@ -7,6 +7,7 @@ use mathlib.Core.Bool.{Bool, true, false, not, cond, _&&_}
 use mathlib.Core.Logic.{⊎-elim}
 use lib.Dec.{eqb}
 use borrow.Author.Tests.{eq-eqb, ne-eqb, eqb-true}
+use Rattle.octets.proofs.Said.{and-holding}
 use Rattle.board_record.specs.Sizes.{places}
 use Rattle.board_record.specs.Lists.{countBelow}
 use Rattle.board_record.specs.Proper.{allBelow}
@@ -27,8 +28,23 @@ count-more t i n x e f = rw (add-one i, countBelow, f) (go (t i))
     go true = omega (arith, e)
     go false = omega (arith, e)
 
-pub count-end : (t : ℕ → Bool) (i n : ℕ) → i ≤ places → places ≤ i → n ≡ countBelow t i → n ≡ countBelow t places
-count-end t i n h l e = let q : i ≡ 128 = omega arith in rw q at e
+pub count-end : (t : ℕ → Bool) (i m n : ℕ) → i ≤ m → m ≤ i → n ≡ countBelow t i → n ≡ countBelow t m
+count-end t i m n h l e = let q : i ≡ m = omega arith in rw q at e
+
+-- where those from m on pass
+pub count-rest : (t : ℕ → Bool) (m n : ℕ) → m ≤ n → ((j : ℕ) → m ≤ j → j < n → t j ≡ true) → countBelow t m + (n - m) ≡ countBelow t n
+unfolding countBelow
+count-rest t m zero l g = let q : m ≡ 0 = omega arith in rw q refl
+count-rest t m (suc n) l g =
+    ⊎-elim (λ h. rw (countBelow, g n h (omega arith)) (omega (arith, count-rest t m n h (λ j y k. g j y (omega arith)))))
+    (λ (h : n < m). let q : m ≡ suc n = omega arith in rw q (omega arith)) (from? m n)
+
+pub all-rest : (t : ℕ → Bool) (m n : ℕ) → m ≤ n → ((j : ℕ) → m ≤ j → j < n → t j ≡ true) → allBelow t m ≡ allBelow t n
+unfolding allBelow
+all-rest t m zero l g = let q : m ≡ 0 = omega arith in rw q refl
+all-rest t m (suc n) l g =
+    ⊎-elim (λ h. rw (allBelow, g n h (omega arith), and-holding (allBelow t n)) (all-rest t m n h (λ j y k. g j y (omega arith))))
+    (λ (h : n < m). let q : m ≡ suc n = omega arith in rw q refl) (from? m n)
 
 -- it fits an octet
 pub count-small : (t : ℕ → Bool) (i n x : ℕ) → i < places → n ≡ countBelow t i → x ≡ cond (t i) 1 0 → n + x ≤ places

@@ -1,13 +1,13 @@
-// What holds of each place by itself, whatever the order says: its length fits its form, and its key is not too large. Neither
-// loop has a way out, so that the compiler can take many places at a time.
+// What holds of each place by itself, whatever the order says: its length fits its form, and its key is not too large. Only places
+// below m, which those in use do not reach beyond, are looked at. Neither loop has a way out, so that the compiler can take many at a time.
 ghost use mathlib.Core.Path.{_≡_};
+ghost use Prim.Native.Nat.{_≤_};
 ghost use mathlib.Core.Bool.{cond, not};
 ghost use lib.ListN.{getD};
 ghost use lib.Dec.{leb};
 ghost use Rattle.board_record.specs.Sizes.{places, keyMost};
 ghost use Rattle.board_record.specs.Proper.{allBelow};
-ghost use Rattle.board_places.specs.Places.{bodyB, turnedOf};
-use board_record::PLACES;
+ghost use Rattle.board_places.specs.Places.{bodyB, turnedOf, EmptyFrom};
 use octets::both;
 use octets::either;
 
@@ -55,13 +55,14 @@ fn wrong(l: u16, form: u8) -> u8
     if fits(l, form) { 0 } else { 1 }
 }
 
-// Whether all lengths fit their forms.
-pub fn bodies<'a>(lengths: &'a [u16; 128], forms: &'a [u8; 128]) -> bool
+// Whether all lengths fit their forms; from place m on both are 0.
+pub fn bodies<'a>(lengths: &'a [u16; 128], forms: &'a [u8; 128], m: usize) -> bool
+    requires { ⌜ (m ≤ places) × EmptyFrom (now lengths) m × EmptyFrom (now forms) m ⌝ }
     ensures bodies { λ r. ⌜ r ≡ allBelow (λ i. bodyB (getD (now (lengths .entry)) i 0) (getD (now (forms .entry)) i 0)) places ⌝ }
 {
     let mut n: u8 = 0;
     let mut i: usize = 0;
-    while i < PLACES {
+    while i < m {
         n += wrong(lengths[i], forms[i]);
         i += 1;
     }
@@ -75,13 +76,14 @@ fn above(k: u32) -> u32
     if k <= KEY_MOST { 0 } else { 1 }
 }
 
-// Whether no key is too large.
-pub fn low(keys: &[u32; 128]) -> bool
+// Whether no key is too large; from place m on there is none.
+pub fn low(keys: &[u32; 128], m: usize) -> bool
+    requires { ⌜ (m ≤ places) × EmptyFrom (now keys) m ⌝ }
     ensures low { λ r. ⌜ r ≡ allBelow (λ i. leb (getD (now (keys .entry)) i 0) keyMost) places ⌝ }
 {
     let mut n: u32 = 0;
     let mut i: usize = 0;
-    while i < PLACES {
+    while i < m {
         n += above(keys[i]);
         i += 1;
     }

@@ -7,7 +7,7 @@ ghost use lib.ListN.{getD};
 ghost use lib.Dec.{eqb};
 ghost use Rattle.board_record.specs.Sizes.{places};
 ghost use Rattle.board_record.specs.Lists.{countBelow};
-ghost use Rattle.board_places.specs.Places.{emptyB};
+ghost use Rattle.board_places.specs.Places.{emptyB, EmptyFrom, Reach};
 use board_record::PLACES;
 use octets::both;
 use octets::wide;
@@ -23,17 +23,23 @@ fn empty_one(k: u32, l: u16, form: u8) -> u8
     }
 }
 
-// How many places have no key, no length and no form.
-fn empties<'a>(keys: &'a [u32; 128], lengths: &'a [u16; 128], forms: &'a [u8; 128]) -> usize
+// How many places have no key, no length and no form; from place m on none has.
+fn empties<'a>(
+    keys: &'a [u32; 128],
+    lengths: &'a [u16; 128],
+    forms: &'a [u8; 128],
+    m: usize,
+) -> usize
+    requires { ⌜ (m ≤ places) × EmptyFrom (now keys) m × EmptyFrom (now lengths) m × EmptyFrom (now forms) m ⌝ }
     ensures count { λ r. ⌜ r ≡ countBelow (emptyB (now (keys .entry)) (now (lengths .entry)) (now (forms .entry))) places ⌝ }
 {
     let mut none: u8 = 0;
     let mut i: usize = 0;
-    while i < PLACES {
+    while i < m {
         none += empty_one(keys[i], lengths[i], forms[i]);
         i += 1;
     }
-    wide(none)
+    wide(none) + (PLACES - m)
 }
 
 // 1 for the version 0, else 0.
@@ -44,16 +50,17 @@ fn unborn_one(v: u64) -> usize
 }
 
 // How many versions are 0. They are counted by themselves: beside the narrow numbers the compiler would take two places at a time.
-fn unborn(versions: &[u64; 128]) -> usize
+fn unborn(versions: &[u64; 128], m: usize) -> usize
+    requires { ⌜ (m ≤ places) × EmptyFrom (now versions) m ⌝ }
     ensures count { λ r. ⌜ r ≡ countBelow (λ j. eqb (getD (now (versions .entry)) j 0) 0) places ⌝ }
 {
     let mut none: usize = 0;
     let mut i: usize = 0;
-    while i < PLACES {
+    while i < m {
         none += unborn_one(versions[i]);
         i += 1;
     }
-    none
+    none + (PLACES - m)
 }
 
 // 1 for 0, else 0.
@@ -76,26 +83,27 @@ fn zeros(order: &[u8; 128]) -> usize
     wide(none)
 }
 
-// Whether all places but i are empty, and all versions and all numbers but i are 0.
+// The places in use reach no further than m. Whether all places but i are empty, and all versions and all numbers but i are 0.
 pub fn closed<'a>(
     keys: &'a [u32; 128],
     versions: &'a [u64; 128],
     lengths: &'a [u16; 128],
     order: &'a [u8; 128],
     forms: &'a [u8; 128],
+    m: usize,
     i: usize,
 ) -> bool
-    requires { ⌜ i ≤ places ⌝ }
+    requires { ⌜ (i ≤ places) × Reach (now keys) (now versions) (now lengths) (now forms) m ⌝ }
     ensures closed { λ r.
         let empty = countBelow (emptyB (now (keys .entry)) (now (lengths .entry)) (now (forms .entry))) places in
         let unborn = countBelow (λ j. eqb (getD (now (versions .entry)) j 0) 0) places in
         let zero = countBelow (λ j. eqb (getD (now (order .entry)) j 0) 0) places in
         ⌜ r ≡ (eqb empty (places - i) && eqb unborn (places - i) && eqb zero (places - i)) ⌝ }
 {
-    if empties(keys, lengths, forms) != PLACES - i {
+    if empties(keys, lengths, forms, m) != PLACES - i {
         return false;
     }
-    if unborn(versions) != PLACES - i {
+    if unborn(versions, m) != PLACES - i {
         return false;
     }
     zeros(order) == PLACES - i

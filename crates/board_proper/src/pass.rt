@@ -11,6 +11,7 @@ use board_along::late;
 use board_along::numbered;
 use board_places::bodies;
 use board_places::closed;
+use board_places::extent;
 use board_places::low;
 use board_record::GROUP;
 use board_record::PLACES;
@@ -38,10 +39,11 @@ pub fn is_proper<'a>(
     if VERSION_MOST < top {
         return false;
     }
-    if !bodies(lengths, forms) {
+    let m = extent(keys, versions, lengths, order, forms);
+    if !bodies(lengths, forms, m) {
         return false;
     }
-    if !low(keys) {
+    if !low(keys, m) {
         return false;
     }
     let mut heads = [0u8; 1024];
@@ -56,7 +58,7 @@ pub fn is_proper<'a>(
             if top < last {
                 return false;
             }
-            if !closed(keys, versions, lengths, order, forms, i) {
+            if !closed(keys, versions, lengths, order, forms, m, i) {
                 return false;
             }
             return same(&seen, tops);

@@ -41,7 +41,7 @@ wide-requires : tie.Need-wide-requires Inv-loop μ-loop
 wide-requires c κs = search needs
 
 returns : tie.Need-returns Inv-loop μ-loop
-returns c = c .wide .ensures .0 ∙ count-end _ _ _ (c .before .before .loop .inv .0) (c .before .loop-test .left) (c .before .before .loop .inv .1)
+returns c = c .wide .ensures .0 ∙ count-end _ _ _ _ (c .before .before .loop .inv .0) (c .before .loop-test .left) (c .before .before .loop .inv .1)
 
 pub zeros-spec : {M : Type 1} → statement M
 zeros-spec =

@@ -19,12 +19,12 @@ use Rattle.board_proper.proofs.pass.is_proper.Statement.{statement}
 use Rattle.board_proper.proofs.pass.is_proper.Tie as tie
 
 abbrev Inv-loop : tie.InvT-loop
-Inv-loop keys versions lengths top floor order tops forms heads₀ nexts₀ seen₀ last₀ bound₀ i₀ heads nexts seen last bound i =
+Inv-loop keys versions lengths top floor order tops forms m heads₀ nexts₀ seen₀ last₀ bound₀ i₀ heads nexts seen last bound i =
     (i ≤ places) × Along (tableOf keys versions lengths top floor forms) order i last × Hashed (along keys order) heads nexts i × Topped versions order seen i
     × Bounded floor last bound
 
 abbrev μ-loop : tie.MeasureT-loop
-μ-loop keys versions lengths top floor order tops forms heads₀ nexts₀ seen₀ last₀ bound₀ i₀ heads nexts seen last bound i = places - i
+μ-loop keys versions lengths top floor order tops forms m heads₀ nexts₀ seen₀ last₀ bound₀ i₀ heads nexts seen last bound i = places - i
 
 returns : tie.Need-returns Inv-loop μ-loop
 returns c =
@@ -42,25 +42,28 @@ returns-2 c =
     no-tops t order (args .tops .now)
     (stop-version t order (c .if2 .taken))
 
+extent-requires : tie.Need-extent-requires Inv-loop μ-loop
+extent-requires c κs = search needs
+
 bodies-requires : tie.Need-bodies-requires Inv-loop μ-loop
-bodies-requires c κs = search needs
+bodies-requires c κs = let m = c .extent .ensures in (m .most, m .lengths, m .forms)
 
 returns-3 : tie.Need-returns-3 Inv-loop μ-loop
 returns-3 c =
     let b4 = c .before .before .before .before in
-    let args = b4 .args in
+    let args = b4 .before .args in
     let t = tableOf (args .keys .now) (args .versions .now) (args .lengths .now) (args .top) (args .floor) (args .forms .now) in
     let order = args .order .now in
     no-tops t order (args .tops .now)
     (stop-bodies t order _ (c .before .bodies .ensures) (c .if3 .taken))
 
 low-requires : tie.Need-low-requires Inv-loop μ-loop
-low-requires c κs = search needs
+low-requires c κs = let m = c .before .before .extent .ensures in (m .most, m .keys)
 
 returns-4 : tie.Need-returns-4 Inv-loop μ-loop
 returns-4 c =
     let b4 = c .before .before .before .before in
-    let args = b4 .before .before .args in
+    let args = b4 .before .before .before .args in
     let t = tableOf (args .keys .now) (args .versions .now) (args .lengths .now) (args .top) (args .floor) (args .forms .now) in
     let order = args .order .now in
     no-tops t order (args .tops .now)
@@ -80,7 +83,7 @@ returns-5 c =
     let b4 = c .before .before .before .before in
     let b8 = b4 .before .before .before .before in
     let b12 = b8 .before .before .before .before in
-    let args = b12 .args in
+    let args = b12 .before .args in
     let t = tableOf (args .keys .now) (args .versions .now) (args .lengths .now) (args .top) (args .floor) (args .forms .now) in
     let order = args .order .now in
     let inv = b4 .before .loop .inv in
@@ -89,15 +92,15 @@ returns-5 c =
 
 closed-requires : tie.Need-closed-requires Inv-loop μ-loop
 closed-requires c κs =
-    let b4 = c .before .before .before .before in
-    b4 .before .loop .inv .0
+    let b5 = c .before .before .before .before .before in
+    (b5 .loop .inv .0, b5 .before .before .before .before .before .extent .ensures)
 
 returns-6 : tie.Need-returns-6 Inv-loop μ-loop
 returns-6 c =
     let b4 = c .before .before .before .before in
     let b8 = b4 .before .before .before .before in
     let b12 = b8 .before .before .before .before in
-    let args = b12 .before .before .args in
+    let args = b12 .before .before .before .args in
     let t = tableOf (args .keys .now) (args .versions .now) (args .lengths .now) (args .top) (args .floor) (args .forms .now) in
     let order = args .order .now in
     let inv = b4 .before .before .before .loop .inv in
@@ -114,7 +117,7 @@ returns-7 c =
     let b8 = b4 .before .before .before .before in
     let b12 = b8 .before .before .before .before in
     let b16 = b12 .before .before .before .before in
-    let args = b16 .args in
+    let args = b16 .before .args in
     let t = tableOf (args .keys .now) (args .versions .now) (args .lengths .now) (args .top) (args .floor) (args .forms .now) in
     let order = args .order .now in
     let inv = b8 .before .loop .inv in
@@ -122,7 +125,7 @@ returns-7 c =
     let rest = clear-at t order _ _ (inv .0) (inv .1) _ refl (all .2) in
     end-tops t order _ (args .tops .now) _ _ (inv .0) (inv .3) (inv .1 .risen) rest _
     (end-short t order _ _ (inv .0) (inv .1) _ _ refl (all .0) refl (all .1) rest (inv .2 .fine)
-    (b12 .before .before .before .if1 .left) (b12 .before .before .if2 .left)
+    (b12 .before .before .before .before .if1 .left) (b12 .before .before .before .if2 .left)
     (b4 .if6 .left)) (c .same .ensures)
 
 mul-v : tie.Need-mul-v Inv-loop μ-loop
@@ -141,7 +144,7 @@ returns-8 c =
     let b4 = c .before .before .before .before in
     let b8 = b4 .before .before .before .before in
     let b12 = b8 .before .before .before .before in
-    let args = b12 .before .before .args in
+    let args = b12 .before .before .before .args in
     let t = tableOf (args .keys .now) (args .versions .now) (args .lengths .now) (args .top) (args .floor) (args .forms .now) in
     let order = args .order .now in
     let inv = b4 .before .before .before .loop .inv in
@@ -165,7 +168,7 @@ chained-requires c κs =
     let b8 = b4 .before .before .before .before in
     let b12 = b8 .before .before .before .before in
     let b16 = b12 .before .before .before .before in
-    let args = b16 .before .args in
+    let args = b16 .before .before .args in
     let t = tableOf (args .keys .now) (args .versions .now) (args .lengths .now) (args .top) (args .floor) (args .forms .now) in
     let order = args .order .now in
     let inv = b8 .before .before .loop .inv in
@@ -178,7 +181,7 @@ returns-9 c =
     let b8 = b4 .before .before .before .before in
     let b12 = b8 .before .before .before .before in
     let b16 = b12 .before .before .before .before in
-    let args = b16 .before .before .before .args in
+    let args = b16 .before .before .before .before .args in
     let t = tableOf (args .keys .now) (args .versions .now) (args .lengths .now) (args .top) (args .floor) (args .forms .now) in
     let order = args .order .now in
     let inv = b12 .loop .inv in
@@ -219,7 +222,7 @@ loop-again c =
     let b12 = b8 .before .before .before .before in
     let b16 = b12 .before .before .before .before in
     let b20 = b16 .before .before .before .before in
-    let args = b20 .args in
+    let args = b20 .before .args in
     let t = tableOf (args .keys .now) (args .versions .now) (args .lengths .now) (args .top) (args .floor) (args .forms .now) in
     let order = args .order .now in
     let inv = b12 .before .loop .inv in
@@ -242,7 +245,7 @@ returns-10 : tie.Need-returns-10 Inv-loop μ-loop
 returns-10 c =
     let b4 = c .before .before .before .before in
     let b8 = b4 .before .before .before .before in
-    let args = b8 .before .args in
+    let args = b8 .before .before .args in
     let t = tableOf (args .keys .now) (args .versions .now) (args .lengths .now) (args .top) (args .floor) (args .forms .now) in
     let order = args .order .now in
     let inv = c .before .before .loop .inv in
@@ -256,13 +259,13 @@ returns-11 : tie.Need-returns-11 Inv-loop μ-loop
 returns-11 c =
     let b4 = c .before .before .before .before in
     let b8 = b4 .before .before .before .before in
-    let args = b8 .before .before .before .args in
+    let args = b8 .before .before .before .before .args in
     let t = tableOf (args .keys .now) (args .versions .now) (args .lengths .now) (args .top) (args .floor) (args .forms .now) in
     let order = args .order .now in
     let inv = b4 .loop .inv in
     end-tops t order _ (args .tops .now) _ _ (inv .0) (inv .3) (inv .1 .risen)
     (λ j h k. absurd (omega (arith, c .before .before .before .loop-test .left))) _
-    (end-full t order _ _ (inv .0) (inv .1) (c .before .before .before .loop-test .left) (inv .2 .fine) (b8 .before .before .if1 .left) (b8 .before .if2 .left)
+    (end-full t order _ _ (inv .0) (inv .1) (c .before .before .before .loop-test .left) (inv .2 .fine) (b8 .before .before .before .if1 .left) (b8 .before .before .if2 .left)
     (c .before .before .if10 .left)) (c .same2 .ensures)
 
 pub is-proper-spec : {M : Type 1} → statement M
@@ -273,6 +276,7 @@ is-proper-spec =
     μ-loop
     returns
     returns-2
+    extent-requires
     bodies-requires
     returns-3
     low-requires
