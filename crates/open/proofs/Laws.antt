@@ -1,6 +1,6 @@
 -- The answer to an OPEN object by the walk over its TLVs is the one that its rules give.
 use Prim.Native.Nat.{ℕ, _-_}
-use mathlib.Core.Path.{_≡_, refl}
+use mathlib.Core.Path.{_≡_, refl, _∙_}
 use mathlib.Core.List.{List, [], _∷_}
 use mathlib.Core.Bool.{Bool, true, false, cond, not, _&&_}
 use mathlib.Core.Option.{Option, none, some}
@@ -14,7 +14,7 @@ use Rattle.positions.specs.Positions.{usableSetup}
 use Rattle.session.specs.declared.Opened.{Opened}
 use Rattle.session.specs.Sessions.{openRefused, withoutSrv6}
 use Rattle.tlvs.specs.Tlvs.{tlvsWhole, firstTlv, notThere}
-use Rattle.setup_types.specs.SetupTypes.{pathSetup, holdsList, subsOf, listsType}
+use Rattle.setup_types.specs.SetupTypes.{pathSetup, holdsList, subsOf, listsType, listedIn}
 use Rattle.capability_mpls.specs.Mpls.{mplsCapability, mplsAnnouncedOf}
 use Rattle.capability.specs.Srv6.{srv6Capability, announcedOf}
 use Rattle.open_walk.specs.Walk.{Sight, torn, seen, openWalk}
@@ -25,7 +25,6 @@ use Rattle.open.specs.Open.{
   setupOf,
   mplsOf,
   srv6Of,
-  listedIn,
   mplsListed,
   listed,
   fitting,
@@ -170,11 +169,23 @@ halves p v mpls srv6 =
     (m && not (mplsSizedIn mpls)) (l && not (sizedIn srv6)) (m && notThere mpls) (l && notThere srv6) (m && depthlessSub mpls) (l && wrongSub srv6) m
     )
 
--- What the walks over the TLVs of a framed object, for 26 and for 27, come to.
+-- What the walks over the TLVs of a framed object, for 27 and for 26, come to. The second is made only where setup type 1 is listed.
+abbrev pub withBeside : Opened → Sight → Opened
+withBeside o torn = openRefused openMalformed noForm
+withBeside o (seen again mpls) = joinedOf (mplsAnnouncedBy mpls) o
+
 abbrev pub answerBy : Setup → Sight → Sight → Opened
 answerBy p torn beside = openRefused openMalformed noForm
-answerBy p (seen list mpls) torn = openRefused openMalformed noForm
-answerBy p (seen list mpls) (seen again srv6) = joinedOf (mplsBy list mpls) (srv6By p again srv6)
+answerBy p (seen list srv6) beside = cond (listedIn mplsSetup list) (withBeside (srv6By p list srv6) beside) (srv6By p list srv6)
+
+-- Of MPLS nothing is joined where setup type 1 is not listed.
+joined-listed : (p : Setup) (v mpls srv6 : Option (List ℕ))
+    → cond (listedIn mplsSetup v) (joinedOf (mplsAnnouncedBy mpls) (srv6By p v srv6)) (srv6By p v srv6) ≡ joinedOf (mplsBy v mpls) (srv6By p v srv6)
+joined-listed p v mpls srv6 = go (listedIn mplsSetup v)
+  where
+    go : (l : Bool) → cond l (joinedOf (mplsAnnouncedBy mpls) (srv6By p v srv6)) (srv6By p v srv6) ≡ joinedOf (cond l (mplsAnnouncedBy mpls) withoutSrv6) (srv6By p v srv6)
+    go true = refl
+    go false = refl
 
 -- Positions of no use go before everything else.
 pub unusable : (p : Setup) (s : List ℕ) → usableSetup p ≡ false → openRefused notUsable noForm ≡ openOf p s
@@ -187,18 +198,36 @@ unframed p s u e = rw (u, e)
 
 -- The walks of the code and the rules of the paper give the same answer.
 module _ (p : Setup) (s : List ℕ) (u : usableSetup p ≡ true) (e : framed s ≡ true) where
-  pub answered : answerBy p (openWalk false mplsCapability (drop tlvsAt s)) (openWalk false srv6Capability (drop tlvsAt s)) ≡ openOf p s
+  pub answered : answerBy p (openWalk false srv6Capability (drop tlvsAt s)) (openWalk false mplsCapability (drop tlvsAt s)) ≡ openOf p s
   unfolding openWalk openOf breaks28 breaks1 breaks1Mpls breaks1Srv6 breaks2Mpls breaks2Srv6 breaks3Mpls breaks3Srv6 fitting holding mplsListed listed mplsOf srv6Of setupOf carriesOf carriesSrv6
   answered = fit (tlvsWhole (openTlvs s)) (firstTlv pathSetup (openTlvs s)) refl refl
     where
       hold : (v : List ℕ) → tlvsWhole (openTlvs s) ≡ true → firstTlv pathSetup (openTlvs s) ≡ some v
           → (b : Bool) → (holdsList v && tlvsWhole (subsOf v)) ≡ b
-          → answerBy p (openWalk false mplsCapability (drop tlvsAt s)) (openWalk false srv6Capability (drop tlvsAt s)) ≡ openOf p s
-      hold v f g true h = rw (u, e, f, g, h) (halves p (some v) (firstTlv mplsCapability (subsOf v)) (firstTlv srv6Capability (subsOf v)))
+          → answerBy p (openWalk false srv6Capability (drop tlvsAt s)) (openWalk false mplsCapability (drop tlvsAt s)) ≡ openOf p s
+      hold v f g true h =
+          let mpls = firstTlv mplsCapability (subsOf v) in
+          let srv6 = firstTlv srv6Capability (subsOf v) in
+          rw (u, e, f, g, h) (joined-listed p (some v) mpls srv6 ∙ halves p (some v) mpls srv6)
       hold v f g false h = rw (u, e, f, g, h)
 
       fit : (b : Bool) (o : Option (List ℕ)) → tlvsWhole (openTlvs s) ≡ b → firstTlv pathSetup (openTlvs s) ≡ o
-          → answerBy p (openWalk false mplsCapability (drop tlvsAt s)) (openWalk false srv6Capability (drop tlvsAt s)) ≡ openOf p s
+          → answerBy p (openWalk false srv6Capability (drop tlvsAt s)) (openWalk false mplsCapability (drop tlvsAt s)) ≡ openOf p s
       fit false o f g = rw (u, e, f)
       fit true none f g = rw (u, e, f, g)
       fit true (some v) f g = hold v f g (holdsList v && tlvsWhole (subsOf v)) refl
+
+  -- by what the walks found
+  pub cut-first : torn ≡ openWalk false srv6Capability (drop tlvsAt s) → openRefused openMalformed noForm ≡ openOf p s
+  cut-first a = rw (← a) at answered
+
+  module _ {list srv6 : Option (List ℕ)} (a : seen list srv6 ≡ openWalk false srv6Capability (drop tlvsAt s)) where
+    pub alone : listedIn mplsSetup list ≡ false → srv6By p list srv6 ≡ openOf p s
+    alone l = rw (← a, l) at answered
+
+    pub cut-second : listedIn mplsSetup list ≡ true → torn ≡ openWalk false mplsCapability (drop tlvsAt s) → openRefused openMalformed noForm ≡ openOf p s
+    cut-second l b = rw (← a, l, ← b) at answered
+
+    pub beside : listedIn mplsSetup list ≡ true → {again mpls : Option (List ℕ)} → seen again mpls ≡ openWalk false mplsCapability (drop tlvsAt s)
+        → joinedOf (mplsAnnouncedBy mpls) (srv6By p list srv6) ≡ openOf p s
+    beside l b = rw (← a, l, ← b) at answered

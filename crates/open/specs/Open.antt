@@ -11,7 +11,7 @@ use Rattle.positions.specs.Positions.{usableSetup}
 use Rattle.session.specs.declared.Opened.{Opened}
 use Rattle.session.specs.Sessions.{openRefused, withoutSrv6}
 use Rattle.tlvs.specs.Tlvs.{Tlvs, tlvsOf, tlvsWhole, firstTlv, notThere}
-use Rattle.setup_types.specs.SetupTypes.{pathSetup, holdsList, subsOf, listsType}
+use Rattle.setup_types.specs.SetupTypes.{pathSetup, holdsList, subsOf, listedIn}
 use Rattle.capability_mpls.specs.Mpls.{mplsCapability, mplsSizedOf, depthless, mplsBeside}
 use Rattle.capability.specs.Srv6.{srv6Capability, sizedOf, wrongOf, carriesBy}
 unfoldable pub use Rattle.open_frame.specs.Framed.{framed}
@@ -37,10 +37,6 @@ unfoldable pub srv6Of : List ℕ → Option (List ℕ)
 srv6Of s = subIn srv6Capability (setupOf s)
 
 -- A setup type is listed: type 1, type 3.
-abbrev pub listedIn : ℕ → Option (List ℕ) → Bool
-listedIn kind none = false
-listedIn kind (some v) = listsType kind v
-
 unfoldable pub mplsListed : List ℕ → Bool
 mplsListed s = listedIn mplsSetup (setupOf s)
 

@@ -12,7 +12,9 @@ use answers::NOT_USABLE;
 use answers::OPEN_MALFORMED;
 use capability::SRV6_CAPABILITY;
 use capability_mpls::MPLS_CAPABILITY;
+use open_carried::MPLS;
 use open_carried::joined;
+use open_carried::listed;
 use open_carried::mpls_by;
 use open_carried::srv6_by;
 use open_frame::TLVS;
@@ -24,7 +26,8 @@ use session::Opened;
 // No sub-TLV is at fault.
 const NO_FORM: usize = 0;
 
-// The answer to an OPEN object, with A and R at two positions: what it carries, or 28, 1, 2 or 3 with the form at fault.
+// The answer to an OPEN object, with A and R at two positions: what it carries, or 28, 1, 2 or 3 with the form at fault. Sub-TLV 26 is looked for,
+// in a walk of its own, only where setup type 1 is listed.
 pub fn read_open(p: Setup, s: &[u8]) -> Opened
     ensures read { λ r. ⌜ r ≡ openOf p (now (s .entry)) ⌝ }
 {
@@ -34,13 +37,16 @@ pub fn read_open(p: Setup, s: &[u8]) -> Opened
     if !is_framed(s) {
         return session::refused_open(OPEN_MALFORMED, NO_FORM);
     }
-    match open_walk::walk(s, TLVS, s.len(), false, MPLS_CAPABILITY) {
+    match open_walk::walk(s, TLVS, s.len(), false, SRV6_CAPABILITY) {
         Found::Cut => session::refused_open(OPEN_MALFORMED, NO_FORM),
         Found::Values(list, sub) => {
-            let mpls = mpls_by(s, list, sub);
-            match open_walk::walk(s, TLVS, s.len(), false, SRV6_CAPABILITY) {
+            let srv6 = srv6_by(p, s, list, sub);
+            if !listed(s, list, MPLS) {
+                return srv6;
+            }
+            match open_walk::walk(s, TLVS, s.len(), false, MPLS_CAPABILITY) {
                 Found::Cut => session::refused_open(OPEN_MALFORMED, NO_FORM),
-                Found::Values(again, beside) => joined(mpls, srv6_by(p, s, again, beside)),
+                Found::Values(again, beside) => joined(mpls_by(s, beside), srv6),
             }
         }
     }

@@ -4,7 +4,8 @@ ghost use mathlib.Core.Path.{_≡_};
 ghost use lib.ListN.{length};
 ghost use Rattle.tlvs.specs.Places.{Inside, valueAt};
 ghost use Rattle.open_walk.specs.Walk.{Listed};
-ghost use Rattle.open_carried.specs.Carried.{mplsBy, srv6By, joinedOf};
+ghost use Rattle.setup_types.specs.SetupTypes.{listedIn};
+ghost use Rattle.open_carried.specs.Carried.{mplsAnnouncedBy, srv6By, joinedOf};
 use answers::CAPABILITY_MISSING;
 use capability::SRV6_FORM;
 use capability_mpls::MPLS_FORM;
@@ -16,23 +17,28 @@ use tlvs::NOWHERE;
 use tlvs::Span;
 
 // The setup types of the two forms, as they are listed.
-const MPLS: u8 = MPLS_SETUP as u8;
+pub const MPLS: u8 = MPLS_SETUP as u8;
 
 const SRV6: u8 = SRV6_SETUP as u8;
 
-// What the values found carry of MPLS: nothing unless setup type 1 is listed.
-pub fn mpls_by(s: &[u8], list: Span, sub: Span) -> Opened
-    requires { ⌜ Listed (now s) list × Inside (length (now s)) sub ⌝ }
-    ensures carried { λ r. ⌜ r ≡ mplsBy (valueAt (now (s .entry)) list) (valueAt (now (s .entry)) sub) ⌝ }
+// Whether a setup type is listed.
+pub fn listed(s: &[u8], list: Span, kind: u8) -> bool
+    requires { ⌜ Listed (now s) list ⌝ }
+    ensures listed { λ r. ⌜ r ≡ listedIn kind (valueAt (now (s .entry)) list) ⌝ }
 {
     if list.from == NOWHERE {
-        return session::without_srv6();
+        return false;
     }
     let from = list.from;
     let stop = from + list.len;
-    if !setup_types::lists(&s[from..stop], MPLS) {
-        return session::without_srv6();
-    }
+    setup_types::lists(&s[from..stop], kind)
+}
+
+// What the value found carries of MPLS, setup type 1 being listed.
+pub fn mpls_by(s: &[u8], sub: Span) -> Opened
+    requires { ⌜ Inside (length (now s)) sub ⌝ }
+    ensures carried { λ r. ⌜ r ≡ mplsAnnouncedBy (valueAt (now (s .entry)) sub) ⌝ }
+{
     if sub.from == NOWHERE {
         return session::refused_open(CAPABILITY_MISSING, MPLS_FORM);
     }
@@ -46,12 +52,7 @@ pub fn srv6_by(p: Setup, s: &[u8], list: Span, sub: Span) -> Opened
     requires { ⌜ Listed (now s) list × Inside (length (now s)) sub ⌝ }
     ensures carried { λ r. ⌜ r ≡ srv6By p (valueAt (now (s .entry)) list) (valueAt (now (s .entry)) sub) ⌝ }
 {
-    if list.from == NOWHERE {
-        return session::without_srv6();
-    }
-    let from = list.from;
-    let stop = from + list.len;
-    if !setup_types::lists(&s[from..stop], SRV6) {
+    if !listed(s, list, SRV6) {
         return session::without_srv6();
     }
     if sub.from == NOWHERE {

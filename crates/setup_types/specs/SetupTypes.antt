@@ -2,6 +2,7 @@
 use Prim.Native.Nat.{ℕ, _+_}
 use mathlib.Core.List.{List, [], _∷_}
 use mathlib.Core.Bool.{Bool, true, false, _||_}
+use mathlib.Core.Option.{Option, none, some}
 use lib.ListN.{length, drop}
 use lib.Dec.{eqb, leb}
 use Rattle.octets.specs.Octets.{octetOf, pad4, part}
@@ -43,3 +44,8 @@ hasOf x (y ∷ ys) = eqb y x || hasOf x ys
 -- A setup type is listed.
 unfoldable pub listsType : ℕ → List ℕ → Bool
 listsType kind v = hasOf kind (typesOf v)
+
+-- The same of a TLV 34 that need not be there.
+abbrev pub listedIn : ℕ → Option (List ℕ) → Bool
+listedIn kind none = false
+listedIn kind (some v) = listsType kind v

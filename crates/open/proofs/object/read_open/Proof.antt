@@ -1,6 +1,6 @@
--- 28 and the frame's part of 1 refuse at once. What the walk over the TLVs has seen is then taken to what either form carries, and these, 26's before 27's, to the answer.
+-- 28 and the frame's part of 1 refuse at once. What the walks over the TLVs have seen is then taken to what either form carries, and that to the answer (`cut-first`, `alone`, `cut-second`, `beside`).
 use Rattle.open_frame.proofs.Laws.{long-framed}
-use Rattle.open.proofs.Laws.{part-rest, unusable, unframed, answered}
+use Rattle.open.proofs.Laws.{part-rest, unusable, unframed, cut-first, alone, cut-second, beside}
 use Rattle.open.specs.Open.{tlvsAt, framed}
 use Rattle.open_walk.specs.Walk.{sightOf, openWalk}
 use Rattle.capability_mpls.specs.Mpls.{mplsCapability}
@@ -23,12 +23,13 @@ good c = sym (c .before .is-framed .ensures .0) ∙ not-false _ (c .if2 .left)
 
 -- where the walks have been made
 walked : (c : tie.After-walk)
-    → (let s = c .before .before .before .before .before .before .args .s .now in sightOf s (c .walk .result) ≡ openWalk false mplsCapability (drop tlvsAt s))
+    → (let s = c .before .before .before .before .before .before .args .s .now in sightOf s (c .walk .result) ≡ openWalk false srv6Capability (drop tlvsAt s))
 walked c = rw (part-rest (c .before .before .before .before .before .before .args .s .now) tlvsAt) at (c .walk .ensures .0)
 
 walked-again : (c : tie.After-walk2)
-    → (let s = c .before .before .before .before .before .before .before .before .before .before .before .args .s .now in sightOf s (c .walk2 .result) ≡ openWalk false srv6Capability (drop tlvsAt s))
-walked-again c = rw (part-rest (c .before .before .before .before .before .before .before .before .before .before .before .args .s .now) tlvsAt) at (c .walk2 .ensures .0)
+    → (let s = c .before .before .before .before .before .before .before .before .before .before .before .before .before .args .s .now in
+    sightOf s (c .walk2 .result) ≡ openWalk false mplsCapability (drop tlvsAt s))
+walked-again c = rw (part-rest (c .before .before .before .before .before .before .before .before .before .before .before .before .before .args .s .now) tlvsAt) at (c .walk2 .ensures .0)
 
 usable-requires : tie.Need-usable-requires
 usable-requires c κs = search needs
@@ -62,11 +63,22 @@ refused-open-requires-3 c κs = search needs
 enum-known-list : tie.Need-enum-known-list
 enum-known-list c = search needs
 
-mpls-by-requires : tie.Need-mpls-by-requires
-mpls-by-requires c κs = rw (c .before .list .given .1) at (c .before .before .before .walk .ensures .1)
+srv6-by-requires : tie.Need-srv6-by-requires
+srv6-by-requires c κs = rw (c .before .list .given .1) at (c .before .before .before .walk .ensures .1)
+
+listed-requires : tie.Need-listed-requires
+listed-requires c κs = let f = rw (c .before .before .list .given .1) at (c .before .before .before .before .walk .ensures .1) in f .0
+
+returns-3 : tie.Need-returns-3
+returns-3 c =
+    let seen = c .before .before .before .before in
+    let walk = seen .before .before in
+    let tested = walk .before in
+    c .before .before .srv6-by .ensures
+    ∙ alone _ _ (of-use (tested .before .before)) (good tested) (rw (seen .list .given .1) at (walked walk)) (sym (c .before .listed .ensures) ∙ not-true _ (c .if3 .taken))
 
 walk-requires-2 : tie.Need-walk-requires-2
-walk-requires-2 c κs = let tested = c .before .before .before .before .before in
+walk-requires-2 c κs = let tested = c .before .before .before .before .before .before .before in
     let h = long-framed _ (good tested) in omega (arith, tested .before .is-framed .ensures .1 (not-false _ (tested .if2 .left)))
 
 enum-told-2 : tie.Need-enum-told-2
@@ -78,38 +90,40 @@ refused-open-requires-4 c κs = search needs
 enum-known-again : tie.Need-enum-known-again
 enum-known-again c = search needs
 
-srv6-by-requires : tie.Need-srv6-by-requires
-srv6-by-requires c κs = rw (c .before .again .given .1) at (c .before .before .before .walk2 .ensures .1)
+mpls-by-requires : tie.Need-mpls-by-requires
+mpls-by-requires c κs = let f = rw (c .before .again .given .1) at (c .before .before .before .walk2 .ensures .1) in f .1
 
 joined-requires : tie.Need-joined-requires
 joined-requires c κs = search needs
 
-returns-3 : tie.Need-returns-3
-returns-3 c =
-    let tested = c .before .before .before .before in
-    c .refused-open3 .ensures
-    ∙ rw (← rw (c .before .enum-told .given .1) at (walked (c .before .before .before))) at (answered _ _ (of-use (tested .before .before)) (good tested))
-
 returns-4 : tie.Need-returns-4
 returns-4 c =
-    let second = c .before .before .before in
-    let first = second .before .before .before .before .before in
-    let tested = first .before in
-    c .refused-open4 .ensures
-    ∙ rw (← rw (second .before .before .before .list .given .1) at (walked first), ← rw (c .before .enum-told2 .given .1) at (walked-again second)) at (
-    answered _ _ (of-use (tested .before .before)) (good tested)
-    )
+    let walk = c .before .before .before in
+    let tested = walk .before in
+    c .refused-open3 .ensures ∙ cut-first _ _ (of-use (tested .before .before)) (good tested) (rw (c .before .enum-told .given .1) at (walked walk))
 
 returns-5 : tie.Need-returns-5
 returns-5 c =
+    let second = c .before .before .before in
+    let seen = second .before .before .before .before .before in
+    let walk = seen .before .before in
+    let tested = walk .before in
+    c .refused-open4 .ensures
+    ∙ cut-second _ _ (of-use (tested .before .before)) (good tested) (rw (seen .list .given .1) at (walked walk))
+    (sym (second .before .before .listed .ensures) ∙ not-false _ (second .before .if3 .left))
+    (rw (c .before .enum-told2 .given .1) at (walked-again second))
+
+returns-6 : tie.Need-returns-6
+returns-6 c =
     let second = c .before .before .before .before .before in
-    let first = second .before .before .before .before .before in
-    let tested = first .before in
+    let seen = second .before .before .before .before .before in
+    let walk = seen .before .before in
+    let tested = walk .before in
     c .joined .ensures
-    ∙ rw (c .before .srv6-by .ensures, second .before .mpls-by .ensures) (
-    rw (← rw (second .before .before .before .list .given .1) at (walked first), ← rw (c .before .before .before .again .given .1) at (walked-again second)) at (
-    answered _ _ (of-use (tested .before .before)) (good tested)
-    )
+    ∙ rw (c .before .mpls-by .ensures, second .before .before .before .srv6-by .ensures) (
+    beside _ _ (of-use (tested .before .before)) (good tested) (rw (seen .list .given .1) at (walked walk))
+    (sym (second .before .before .listed .ensures) ∙ not-false _ (second .before .if3 .left))
+    (rw (c .before .before .before .again .given .1) at (walked-again second))
     )
 
 pub read-open-spec : {M : Type 1} → statement M
@@ -126,13 +140,15 @@ read-open-spec =
     enum-told
     refused-open-requires-3
     enum-known-list
-    mpls-by-requires
+    srv6-by-requires
+    listed-requires
+    returns-3
     walk-requires-2
     enum-told-2
     refused-open-requires-4
     enum-known-again
-    srv6-by-requires
+    mpls-by-requires
     joined-requires
-    returns-3
     returns-4
-    returns-5)
+    returns-5
+    returns-6)
