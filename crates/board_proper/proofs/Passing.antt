@@ -26,9 +26,10 @@ use Rattle.board_order.proofs.Names.{named-none}
 use Rattle.board_order.proofs.Chains.{proper-apart, once, chain-apart, chained-in, in-chained, chained-count, count-chained}
 use Rattle.board_along.specs.Chain.{along}
 use Rattle.board_along.specs.Numbers.{lateB}
-use Rattle.board_places.specs.Places.{bodyB, emptyB}
+use Rattle.board_fits.specs.Fits.{bodyB}
+use Rattle.board_rest.specs.Rest.{emptyB}
 use Rattle.board_along.proofs.Laws.{along-at}
-use Rattle.board_places.proofs.Loops.{cut-count}
+use Rattle.board_extent.proofs.Loops.{cut-count}
 use Rattle.board_proper.proofs.Rows.{Risen, risen-none, risen-more, risen-once, Bounded, not-late}
 
 -- ---- a used place by itself

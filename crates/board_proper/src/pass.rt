@@ -9,14 +9,14 @@ ghost use Rattle.board_record.specs.Tops.{inTops};
 use board_along::chained;
 use board_along::late;
 use board_along::numbered;
+use board_extent::extent;
 use board_places::bodies;
-use board_places::closed;
-use board_places::extent;
 use board_places::low;
 use board_record::GROUP;
 use board_record::PLACES;
 use board_record::VERSION_MOST;
 use board_record::larger;
+use board_rest::closed;
 use board_tops::same;
 
 pub fn is_proper<'a>(

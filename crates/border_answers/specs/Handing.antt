@@ -1,7 +1,7 @@
 -- The writer's small state, and what writing and next hand back (include/strundevi.h).
 use Prim.Native.Nat.{ℕ}
-use Rattle.writer.specs.declared.state.Writer.{Writer}
-use Rattle.writer.specs.declared.state.Written.{Written}
+use Rattle.writer_state.specs.declared.Writer.{Writer}
+use Rattle.writer_state.specs.declared.Written.{Written}
 use Rattle.board_rules.specs.declared.answer.Handed.{Handed}
 use Rattle.board_rules.specs.declared.answer.Handed.the-variants.{Refused, Path, Removed, Level}
 use Rattle.border_records.specs.Records.{isYes, flagOf, verdictOut}

@@ -2,8 +2,8 @@
 ghost use mathlib.Core.Path.{_≡_};
 ghost use Rattle.border_answers.specs.Handing.{writerIn, writtenOut};
 use border_records::VerdictRecord;
-use writer::Writer;
-use writer::Written;
+use writer_state::Writer;
+use writer_state::Written;
 
 // Of which kind and form the route is, and the present place.
 #[repr(C)]

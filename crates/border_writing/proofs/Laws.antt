@@ -11,9 +11,10 @@ use Rattle.subobject.specs.declared.segment.Outline.{Outline}
 use Rattle.subobject.specs.declared.segment.Segment.{Segment}
 use Rattle.subobject.specs.Segments.{segmentWith, subobjectOf}
 use Rattle.writer_rules.specs.Refusals.{addNumber}
-use Rattle.writer.specs.declared.state.Writer.{Writer}
-use Rattle.writer.specs.declared.state.Written.{Written}
-use Rattle.writer.specs.Writing.{answered, addAnswerIn, addAnswer}
+use Rattle.writer_state.specs.declared.Writer.{Writer}
+use Rattle.writer_state.specs.declared.Written.{Written}
+use Rattle.writer_state.specs.Answers.{answered}
+use Rattle.writer.specs.Writing.{addAnswerIn, addAnswer}
 use Rattle.border_records.specs.declared.verdict.VerdictRecord.{VerdictRecord}
 use Rattle.border_records.specs.Records.{isYes, flagOf, verdictOut}
 use Rattle.border_segment.specs.declared.segment.OutlineRecord.{OutlineRecord}

@@ -2,7 +2,8 @@
 // The writer's small state goes in and comes back.
 ghost use mathlib.Core.Path.{_≡_};
 ghost use Rattle.subobject.specs.Segments.{segmentWith};
-ghost use Rattle.writer.specs.Writing.{beginAnswer, beginBuffer, addAnswer, addBuffer, finishAnswer, finishBuffer};
+ghost use Rattle.writer_ends.specs.Ends.{beginAnswer, beginBuffer, finishAnswer, finishBuffer};
+ghost use Rattle.writer.specs.Writing.{addAnswer, addBuffer};
 ghost use Rattle.border_records.specs.Records.{isYes, flagOf};
 ghost use Rattle.border_segment.specs.Segments.{outlineIn};
 ghost use Rattle.border_answers.specs.Handing.{writerIn, writtenOut};
@@ -11,8 +12,8 @@ use border_answers::WrittenRecord;
 use border_answers::writer_in;
 use border_answers::written_out;
 use border_segment::OutlineRecord;
-use writer::Writer;
-use writer::Written;
+use writer_state::Writer;
+use writer_state::Written;
 
 // What a call hands back, where the record that came has the same kind and form: it goes back as it came, with another place. A caller that loads
 // kind and form as one number then does not wait for two octets stored one by one.
@@ -49,7 +50,7 @@ pub fn begin(buffer: &mut [u8], writer: WriterRecord, ero: u8, pst: u64) -> Writ
     ensures answer { λ r. ⌜ r ≡ writtenOut (beginAnswer (now (buffer .entry)) (writerIn writer) (isYes ero) pst) ⌝ }
     ensures octets { λ _. ⌜ now (buffer .exit) ≡ beginBuffer (now (buffer .entry)) (writerIn writer) (isYes ero) ⌝ }
 {
-    let w = writer::begin(buffer, writer_in(writer), border_records::yes(ero), pst);
+    let w = writer_ends::begin(buffer, writer_in(writer), border_records::yes(ero), pst);
     handed(writer, w)
 }
 
@@ -65,7 +66,7 @@ fn added(
     ensures answer { λ r. ⌜ r ≡ addAnswer (now (buffer .entry)) state (segmentWith (outlineIn outline) (now (sid .entry)) (now (nai .entry)) (now (structure .entry))) ⌝ }
     ensures octets { λ _. ⌜ now (buffer .exit) ≡ addBuffer (now (buffer .entry)) state (segmentWith (outlineIn outline) (now (sid .entry)) (now (nai .entry)) (now (structure .entry))) ⌝ }
 {
-    if state.form == writer::MPLS_SETUP {
+    if state.form == writer_state::MPLS_SETUP {
         let labels = border_segment::outline_in(outline);
         return writer::add_mpls(buffer, forms::mpls(), state, labels, sid, nai, structure);
     }
@@ -97,5 +98,5 @@ pub fn finish(buffer: &mut [u8], writer: WriterRecord) -> WrittenRecord
     ensures answer { λ r. ⌜ r ≡ writtenOut (finishAnswer (now (buffer .entry)) (writerIn writer)) ⌝ }
     ensures octets { λ _. ⌜ now (buffer .exit) ≡ finishBuffer (now (buffer .entry)) (writerIn writer) ⌝ }
 {
-    written_out(writer::finish(buffer, writer_in(writer)))
+    written_out(writer_ends::finish(buffer, writer_in(writer)))
 }

@@ -14,7 +14,7 @@ use Rattle.command.specs.Commands.{commandOf}
 use Rattle.command.specs.declared.Command.{Command}
 use Rattle.console_state.specs.declared.state.State.{State}
 use Rattle.console_state.specs.Standing.{consoleOf}
-use Rattle.console_turn.specs.Turns.{Does}
+use Rattle.console_dialogue.specs.Turns.{Does}
 
 pub word-determined : (m : ℕ) (line : List ℕ) (i : ℕ) {a b : List ℕ} → a ≡ wordOf m line i → b ≡ wordOf m line i → a ≡ b
 word-determined m line i p q = p ∙ sym q

@@ -18,7 +18,7 @@ use Rattle.subobject.specs.declared.segment.Segment.{Segment}
 use Rattle.subobject_strays.specs.declared.Strays.{Strays}
 use Rattle.forms.specs.declared.Form.{Form}
 use Rattle.forms.specs.Forms.{naiLength}
-use Rattle.writer.specs.declared.state.Written.{Written}
+use Rattle.writer_state.specs.declared.Written.{Written}
 use Rattle.route.specs.declared.picking.Picked.{Picked}
 use Rattle.board_rules.specs.declared.answer.Handed.{Handed}
 use Rattle.board_rules.specs.declared.answer.Handed.the-variants.{Refused, Path, Removed, Level}
@@ -38,7 +38,7 @@ use Rattle.console_routes.specs.Routing.{openIn, routeLine, pickedLine, segment
 use Rattle.console_writer.specs.Composing.{placeLine, finishLine}
 use Rattle.console_chain.specs.Chain.{chainOf}
 use Rattle.console_board.specs.Boarding.{bodyLine, handedLine, nextLine, movedLine}
-use Rattle.console_turn.specs.Turns.{turnBy, turnOf}
+use Rattle.console_dialogue.specs.Turns.{turnBy, turnOf}
 
 -- Octets above 31, none of them a newline.
 unfoldable pub clear : List ℕ → Bool

@@ -1,4 +1,4 @@
--- What a row about the board leaves and says; no promise rests on this file: `console_turn/specs/Turns` has the table.
+-- What a row about the board leaves and says; no promise rests on this file: `console_dialogue/specs/Turns` has the table.
 use Prim.Native.Nat.{ℕ}
 use mathlib.Core.List.{List}
 use Rattle.session.specs.declared.Sessions.{Sessions}

@@ -1,4 +1,4 @@
--- The line of a row that asks about a route; no promise rests on this file: `console_turn/specs/Turns` has the table.
+-- The line of a row that asks about a route; no promise rests on this file: `console_dialogue/specs/Turns` has the table.
 use Prim.Native.Nat.{ℕ}
 use mathlib.Core.Bool.{true, false}
 use mathlib.Core.List.{List}

@@ -13,7 +13,7 @@ use Rattle.session.specs.Sessions.{openRefused}
 use Rattle.board_record.specs.declared.record.Board.{Board}
 use Rattle.board_record.specs.Sizes.{storeSize}
 use Rattle.board_record.specs.Record.{emptyBoard}
-use Rattle.writer.specs.declared.state.Writer.{Writer}
+use Rattle.writer_state.specs.declared.Writer.{Writer}
 use Rattle.console_state.specs.declared.state.State.{State}
 
 -- "the board", "its store", "both OPENs", "the writer" and its "buffer"; "the two bit positions" and "the head end's addresses"

@@ -4,7 +4,7 @@ ghost use Rattle.console_state.specs.Standing.{stateAtStart, withBoard, 
 use board_record::Board;
 use positions::Setup;
 use session::Opened;
-use writer::Writer;
+use writer_state::Writer;
 
 pub struct State {
     pub board: Board,

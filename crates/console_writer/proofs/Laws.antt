@@ -10,8 +10,9 @@ use native.Mathlib.Omega.{arith}
 use borrow.Author.Tests.{leb-true, leb-false, lt-ltb, le-ltb, ltb-true, ltb-false}
 use Rattle.answers.specs.Verdicts.{kept}
 use Rattle.octets.proofs.Laws.{copied, copied-more}
-use Rattle.writer.specs.declared.state.Writer.{Writer}
-use Rattle.writer.specs.Writing.{beginNumber, beginAnswer, answered}
+use Rattle.writer_state.specs.declared.Writer.{Writer}
+use Rattle.writer_state.specs.Answers.{answered}
+use Rattle.writer_ends.specs.Ends.{beginNumber, beginAnswer}
 use Rattle.console_writer.specs.Composing.{freshOctet, freshBuffer}
 
 -- ## The part of a memory that is lent

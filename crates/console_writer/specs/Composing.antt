@@ -3,9 +3,10 @@ use Prim.Native.Nat.{ℕ}
 use mathlib.Core.List.{List}
 use lib.ListN.{take, replicate}
 use Rattle.answers.specs.Verdicts.{kept}
-use Rattle.writer.specs.declared.state.Writer.{Writer}
-use Rattle.writer.specs.declared.state.Written.{Written}
-use Rattle.writer.specs.Writing.{beginAnswer, beginBuffer, addAnswer, addBuffer, finishAnswer, finishBuffer}
+use Rattle.writer_state.specs.declared.Writer.{Writer}
+use Rattle.writer_state.specs.declared.Written.{Written}
+use Rattle.writer_ends.specs.Ends.{beginAnswer, beginBuffer, finishAnswer, finishBuffer}
+use Rattle.writer.specs.Writing.{addAnswer, addBuffer}
 use Rattle.command.specs.declared.Command.{Command}
 use Rattle.console_add.specs.Added.{segmentSaid}
 use Rattle.console_lines.specs.Lines.{oneLine, octetsLine}

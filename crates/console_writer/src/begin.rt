@@ -2,7 +2,7 @@
 ghost use Prim.Native.Nat.{_≤_};
 ghost use mathlib.Core.Path.{_≡_};
 ghost use lib.ListN.{length, take};
-ghost use Rattle.writer.specs.Writing.{beginAnswer, beginBuffer};
+ghost use Rattle.writer_ends.specs.Ends.{beginAnswer, beginBuffer};
 ghost use Rattle.printing.specs.Text.{Behind};
 ghost use Rattle.console_lines.specs.Lines.{short};
 ghost use Rattle.console_writer.specs.Composing.{freshBuffer, beginTurn};
@@ -10,8 +10,8 @@ use crate::wrote::Composed;
 use crate::wrote::placed;
 use command::Command;
 use console_state::fit;
-use writer::Writer;
-use writer::Written;
+use writer_state::Writer;
+use writer_state::Written;
 
 // what a new buffer holds
 const FRESH: u8 = 0xEE;
@@ -32,7 +32,7 @@ fn fresh(part: &mut [u8], old: Writer, ero: bool, pst: u64) -> Written
     ensures buffer { λ _. ⌜ now (part .exit) ≡ beginBuffer (freshBuffer (length (now (part .entry)))) old ero ⌝ }
 {
     fill(part);
-    writer::begin(part, old, ero, pst)
+    writer_ends::begin(part, old, ero, pst)
 }
 
 // A number as a size.
@@ -52,7 +52,7 @@ pub fn begun(old: Writer, size: usize, c: Command, memory: &mut [u8], out: &mut 
     let new = narrow(c.three);
     let mut trial = [0u8; 4];
     let k = fit(new, &trial);
-    let w = writer::begin(&mut trial[..k], old, c.ero, c.two);
+    let w = writer_ends::begin(&mut trial[..k], old, c.ero, c.two);
     let v = w.verdict;
     if v.number != 0 {
         return Composed {

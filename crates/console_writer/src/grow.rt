@@ -12,7 +12,7 @@ use crate::wrote::placed;
 use command::Command;
 use console_add::segment_in;
 use console_state::fit;
-use writer::Writer;
+use writer_state::Writer;
 
 pub fn added(
     old: Writer,

@@ -4,8 +4,8 @@ ghost use lib.ListN.{length};
 ghost use Rattle.printing.specs.Text.{Behind};
 ghost use Rattle.console_lines.specs.Lines.{short};
 ghost use Rattle.console_writer.specs.Composing.{placeLine};
-use writer::Writer;
-use writer::Written;
+use writer_state::Writer;
+use writer_state::Written;
 
 // The writer, the octets of its buffer, and the end of the line in `out`.
 pub struct Composed {

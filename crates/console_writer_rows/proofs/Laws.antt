@@ -2,7 +2,7 @@
 use Prim.Native.Nat.{ℕ}
 use mathlib.Core.Path.{_≡_, sym, subst}
 use mathlib.Core.List.{List}
-use Rattle.writer.specs.declared.state.Writer.{Writer}
+use Rattle.writer_state.specs.declared.Writer.{Writer}
 use Rattle.printing.specs.Text.{Behind}
 use Rattle.command_rows.specs.declared.Writing.{Writing}
 use Rattle.console_writer.specs.Composing.{Composing}

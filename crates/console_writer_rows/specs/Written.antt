@@ -1,7 +1,7 @@
--- What a row about the writer leaves and says; no promise rests on this file: `console_turn/specs/Turns` has the table.
+-- What a row about the writer leaves and says; no promise rests on this file: `console_dialogue/specs/Turns` has the table.
 use Prim.Native.Nat.{ℕ}
 use mathlib.Core.List.{List}
-use Rattle.writer.specs.declared.state.Writer.{Writer}
+use Rattle.writer_state.specs.declared.Writer.{Writer}
 use Rattle.command.specs.declared.Command.{Command}
 use Rattle.command_rows.specs.declared.Writing.{Writing}
 use Rattle.command_rows.specs.declared.Writing.the-variants as w

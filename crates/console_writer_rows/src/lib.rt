@@ -17,7 +17,7 @@ use console_writer::added;
 use console_writer::begun;
 use console_writer::finished;
 use console_writer::shown;
-use writer::Writer;
+use writer_state::Writer;
 
 pub fn written(
     row: Writing,

@@ -2,9 +2,8 @@
 use Prim.Native.Nat.{ℕ}
 use mathlib.Core.Path.{_≡_, sym, _∙_}
 use mathlib.Core.Bool.{Bool}
-use mathlib.Core.List.{List}
 use Rattle.subobject.specs.declared.head.Head.{Head}
-use Rattle.subobject.specs.Rules.{rule29, rule30, hasLabel, labelAt, timeAt}
+use Rattle.subobject.specs.Rules.{rule29, rule30, hasLabel}
 
 pub labelled-determined : (h : Head) (a b : Bool) → a ≡ hasLabel h → b ≡ hasLabel h → a ≡ b
 labelled-determined h a b e f = e ∙ sym f
@@ -14,9 +13,3 @@ twenty-nine-determined h label a b e f = e ∙ sym f
 
 pub thirty-determined : (h : Head) (time : ℕ) (a b : Bool) → a ≡ rule30 h time → b ≡ rule30 h time → a ≡ b
 thirty-determined h time a b e f = e ∙ sym f
-
-pub label-at-determined : (s : List ℕ) (at a b : ℕ) → a ≡ labelAt s at → b ≡ labelAt s at → a ≡ b
-label-at-determined s at a b e f = e ∙ sym f
-
-pub time-at-determined : (s : List ℕ) (at a b : ℕ) → a ≡ timeAt s at → b ≡ timeAt s at → a ≡ b
-time-at-determined s at a b e f = e ∙ sym f

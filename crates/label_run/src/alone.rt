@@ -28,7 +28,7 @@ pub fn label_good(s: &[u8], at: usize) -> bool
     if octets::read16(s, at) != 0 {
         return true;
     }
-    octets::wide(s[at + 2]) / label_rules::THIRD_PART == label_rules::GOOD_LABEL
+    octets::wide(s[at + 2]) / label_entry::THIRD_PART == label_rules::GOOD_LABEL
 }
 
 // Whether a label that may stand in a route stands alone at a place.

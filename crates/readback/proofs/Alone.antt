@@ -21,8 +21,9 @@ use Rattle.subobject.specs.Rules.{rule8, rule9, malformed, rule11, hasStructure
 use Rattle.subobject.specs.Segments.{outlineOf, headOfSegment, flagsOctet, fixedOctets, subobjectOf, bitsOf, bit}
 use Rattle.writer_spare.specs.Spare.{tidyOf}
 use Rattle.writer_rules.specs.Refusals.{foreign, unfit, noRoom, addNumber}
-use Rattle.writer.specs.declared.state.Writer.{Writer}
-use Rattle.writer.specs.Writing.{answered, addAnswerIn, addBufferIn, addAnswer, addBuffer}
+use Rattle.writer_state.specs.declared.Writer.{Writer}
+use Rattle.writer_state.specs.Answers.{answered}
+use Rattle.writer.specs.Writing.{addAnswerIn, addBufferIn, addAnswer, addBuffer}
 use Rattle.route.specs.Alone.{naiAlone, lengthAlone, structured, fourFrom}
 use Rattle.route.proofs.Alone.{nai-alone, knows-alone, or-false}
 use Rattle.readback.specs.Alone.{sOf, tOf, fOf, octetsAlone, tidyAlone, unfitAlone, numberAlone}

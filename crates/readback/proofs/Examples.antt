@@ -11,9 +11,10 @@ use Rattle.subobject.specs.Layout.{expectedLength}
 use Rattle.subobject.specs.Rules.{rule8, rule9, malformed, rule11, hasStructure, hasLabel, labelAt, timeAt, rule29, rule30, sumAt}
 use Rattle.subobject.specs.Segments.{headOfSegment, flagsOctet, fixedOctets, subobjectOf, bitsOf}
 use Rattle.writer_spare.specs.Spare.{tidyOf}
-use Rattle.writer.specs.declared.state.Writer.{Writer}
+use Rattle.writer_state.specs.declared.Writer.{Writer}
 use Rattle.writer_rules.specs.Refusals.{passes, badPlace, foreign, unfit, noRoom, addNumber, finishNumber}
-use Rattle.writer.specs.Writing.{headerOf, beginNumber, beginAnswer, beginBuffer, addAnswerIn, addBufferIn, finishAnswer, finishBuffer}
+use Rattle.writer_ends.specs.Ends.{headerOf, beginNumber, beginAnswer, beginBuffer, finishAnswer, finishBuffer}
+use Rattle.writer.specs.Writing.{addAnswerIn, addBufferIn}
 use Rattle.readback.specs.Runs.{Run, addsRun, writeRun, objectIn}
 
 -- "07 10 00 1C 28 18 00 02 00 00 00 01 20 01 0D B8 00 00 00 01 00 00 00 00 00 00 00 01"

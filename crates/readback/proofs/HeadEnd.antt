@@ -15,7 +15,7 @@ use Rattle.subobject.specs.Segments.{noSegment}
 use Rattle.subobject_strays.specs.Strays.{noStrays}
 use Rattle.route_call.specs.Called.{rule28, judgedIn, segmentIn, judgedFor, segmentFor}
 use Rattle.route_call.proofs.Theorems.{neither-agreed, neither-agreed-picked}
-use Rattle.writer.specs.declared.state.Writer.{Writer}
+use Rattle.writer_state.specs.declared.Writer.{Writer}
 use Rattle.readback.specs.Runs.{writeRun, Accepted, objectIn, AllHeld, openSession}
 use Rattle.readback.proofs.Theorems as inner
 

@@ -15,11 +15,13 @@ use Rattle.subobject.specs.declared.segment.Segment.{Segment}
 use Rattle.subobject.specs.Rules.{rule8, rule9, rule11, labelAt, timeAt, rule29, rule30}
 use Rattle.subobject.specs.Segments.{headOfSegment, subobjectOf, bitsOf}
 use Rattle.writer_layout.proofs.Forms.{readable-by}
-use Rattle.writer.specs.declared.state.Writer.{Writer}
-use Rattle.writer.specs.declared.state.Written.{Written}
+use Rattle.writer_state.specs.declared.Writer.{Writer}
+use Rattle.writer_state.specs.declared.Written.{Written}
 use Rattle.writer_rules.specs.Refusals.{unfit, addNumber, finishNumber}
 use Rattle.writer_rules.proofs.Laws.{Proper, Taken, taken, Done, done}
-use Rattle.writer.specs.Writing.{headerOf, beginNumber, beginAnswer, beginBuffer, addAnswerIn, addBufferIn, addAnswer, addBuffer, finishAnswer, finishBuffer, answered, refusedAs, acceptedAs}
+use Rattle.writer_state.specs.Answers.{answered, refusedAs, acceptedAs}
+use Rattle.writer_ends.specs.Ends.{headerOf, beginNumber, beginAnswer, beginBuffer, finishAnswer, finishBuffer}
+use Rattle.writer.specs.Writing.{addAnswerIn, addBufferIn, addAnswer, addBuffer}
 use Rattle.readback.specs.Runs.{Run, onward, beginRun, addRun, finishRun, addsRun, writeRun, Accepted, objectIn, writtenBody, objectOf}
 
 -- A segment that adding takes, but for the room.

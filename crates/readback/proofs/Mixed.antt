@@ -11,10 +11,11 @@ use Rattle.octets.specs.Octets.{hi, lo, over, placed}
 use Rattle.forms.specs.Forms.{formOf}
 use Rattle.subobject.specs.declared.segment.Segment.{Segment}
 use Rattle.subobject.specs.Segments.{subobjectOf}
-use Rattle.writer.specs.declared.state.Writer.{Writer}
+use Rattle.writer_state.specs.declared.Writer.{Writer}
 use Rattle.writer_rules.specs.Refusals.{addNumber, finishNumber}
 use Rattle.writer_rules.proofs.Laws.{taken}
-use Rattle.writer.specs.Writing.{headerOf, beginNumber, beginAnswer, beginBuffer, addAnswerIn, addBufferIn, addAnswer, addBuffer, finishAnswer, finishBuffer}
+use Rattle.writer_ends.specs.Ends.{headerOf, beginNumber, beginAnswer, beginBuffer, finishAnswer, finishBuffer}
+use Rattle.writer.specs.Writing.{addAnswerIn, addBufferIn, addAnswer, addBuffer}
 use Rattle.readback.specs.Runs.{Run, WriterCall, onward, beginRun, finishRun, addsRun, writeRun, actsRun, anyRun, takenFrom, takenIn, Accepted}
 use Rattle.readback.specs.Runs.WriterCall.{adding, finishing}
 use Rattle.readback.proofs.Images.{went-on, begin-number, finish-number, add-onward, begin-onward}

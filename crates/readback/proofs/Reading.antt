@@ -39,10 +39,10 @@ use Rattle.writer_layout.specs.Readable.{Readable}
 use Rattle.writer_layout.proofs.Laws.{length-subobject}
 use Rattle.forms.proofs.Laws.{sized-by}
 use Rattle.writer_layout.proofs.Forms.{readable-by}
-use Rattle.writer.specs.declared.state.Writer.{Writer}
+use Rattle.writer_state.specs.declared.Writer.{Writer}
 use Rattle.writer_rules.specs.Refusals.{unfit}
 use Rattle.writer_rules.proofs.Laws.{size-subobject}
-use Rattle.writer.specs.Writing.{headerOf}
+use Rattle.writer_ends.specs.Ends.{headerOf}
 use Rattle.readback.specs.Runs.{Run, writeRun, Accepted, objectIn, writtenBody, objectOf, AllHeld, openSession}
 use Rattle.readback.specs.Runs.AllHeld.{more}
 use Rattle.readback.specs.Ignored.{ignoredAt, ignoredIn, ignoredOf}

@@ -23,7 +23,7 @@ use Rattle.route.proofs.Strays.{none-stray}
 use Rattle.writer_spare.specs.Spare.{zeros}
 use Rattle.forms.proofs.Laws.{sized-by}
 use Rattle.writer_layout.proofs.Forms.{readable-by}
-use Rattle.writer.specs.declared.state.Writer.{Writer}
+use Rattle.writer_state.specs.declared.Writer.{Writer}
 use Rattle.readback.specs.Runs.{WriterCall, writeRun, anyRun, takenIn, Accepted, objectIn, AllHeld, openSession}
 use Rattle.objects.specs.Objects.{typePlace, typeWorth}
 use Rattle.readback.specs.Ignored.{Octets, strayBitsAt, strayBitsIn, assignedIn, ignoredOf, segmentsRead}

@@ -14,9 +14,10 @@ use Rattle.subobject.specs.declared.segment.Segment.{Segment}
 use Rattle.subobject.specs.Segments.{subobjectOf}
 use Rattle.objects.specs.Objects.{header}
 use Rattle.writer_spare.specs.Held.{Held}
-use Rattle.writer.specs.declared.state.Writer.{Writer}
-use Rattle.writer.specs.declared.state.Written.{Written}
-use Rattle.writer.specs.Writing.{headerOf, beginAnswer, beginBuffer, addAnswer, addBuffer, finishAnswer, finishBuffer}
+use Rattle.writer_state.specs.declared.Writer.{Writer}
+use Rattle.writer_state.specs.declared.Written.{Written}
+use Rattle.writer_ends.specs.Ends.{headerOf, beginAnswer, beginBuffer, finishAnswer, finishBuffer}
+use Rattle.writer.specs.Writing.{addAnswer, addBuffer}
 
 -- calls, one after the other -----------------------------------------------------------------------------------
 

@@ -15,7 +15,7 @@ fn label(s: &[u8], at: usize) -> usize
     requires { ⌜ at + 4 ≤ length (now s) ⌝ }
     ensures label { λ r. ⌜ r ≡ labelAt (now (s .entry)) at ⌝ }
 {
-    label_rules::label_at(&s[at..at + ENTRY], 0)
+    label_entry::label_at(&s[at..at + ENTRY], 0)
 }
 
 // Its TTL.
@@ -23,7 +23,7 @@ fn time(s: &[u8], at: usize) -> usize
     requires { ⌜ at + 4 ≤ length (now s) ⌝ }
     ensures time { λ r. ⌜ r ≡ timeAt (now (s .entry)) at ⌝ }
 {
-    label_rules::time_at(&s[at..at + ENTRY], 0)
+    label_entry::time_at(&s[at..at + ENTRY], 0)
 }
 
 // 29 for the subobject at `at`. Only a label's octets are read.

@@ -9,7 +9,8 @@ use Rattle.session.specs.Sessions.{sessionsOf}
 use Rattle.open.specs.Open.{openOf}
 use Rattle.route_call.specs.Called.{judgedFor, segmentFor}
 use Rattle.subobject.specs.Segments.{segmentWith}
-use Rattle.writer.specs.Writing.{beginAnswer, beginBuffer, addAnswer, addBuffer, finishAnswer, finishBuffer}
+use Rattle.writer_ends.specs.Ends.{beginAnswer, beginBuffer, finishAnswer, finishBuffer}
+use Rattle.writer.specs.Writing.{addAnswer, addBuffer}
 use Rattle.board_rules.specs.OnRecord.{removeOn, compactOn, nextOn, movedOn}
 use Rattle.report_call.specs.Reported.{reportForOn, reportStoreForOn}
 use Rattle.border_records.specs.declared.verdict.VerdictRecord.{VerdictRecord}

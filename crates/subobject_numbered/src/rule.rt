@@ -51,7 +51,7 @@ pub fn bad_label(form: Form, s: &[u8], at: usize, h: Head) -> bool
 {
     if label_rules::labelled(h) {
         let p = at + octets::wide(form.fixed);
-        return label_rules::twenty_nine(h, label_rules::label_at(s, p));
+        return label_rules::twenty_nine(h, label_entry::label_at(s, p));
     }
     false
 }
@@ -63,7 +63,7 @@ pub fn bad_format(form: Form, s: &[u8], at: usize, h: Head) -> bool
 {
     if label_rules::labelled(h) {
         let p = at + octets::wide(form.fixed);
-        return label_rules::thirty(h, label_rules::time_at(s, p));
+        return label_rules::thirty(h, label_entry::time_at(s, p));
     }
     false
 }

@@ -71,9 +71,9 @@ fn label_in(s: &[u8], at: usize) -> usize
     requires { ⌜ at + 4 ≤ length (now s) ⌝ }
     ensures label { λ r. ⌜ r ≡ labelAt (now (s .entry)) at ⌝ }
 {
-    octets::wide(s[at]) * label_rules::FIRST_WORTH
-        + octets::wide(s[at + 1]) * label_rules::SECOND_WORTH
-        + octets::wide(s[at + 2]) / label_rules::THIRD_PART
+    octets::wide(s[at]) * label_entry::FIRST_WORTH
+        + octets::wide(s[at + 1]) * label_entry::SECOND_WORTH
+        + octets::wide(s[at + 2]) / label_entry::THIRD_PART
 }
 
 // 29 and 30.

@@ -1,22 +1,13 @@
 -- Of any two answers and buffers that fit a call's contract, equality.
 use mathlib.Core.Path.{_≡_, sym, _∙_}
-use mathlib.Core.Bool.{Bool}
 use mathlib.Core.List.{List}
 use Prim.Native.Nat.{ℕ}
 use Rattle.subobject.specs.declared.segment.Segment.{Segment}
-use Rattle.writer.specs.declared.state.Writer.{Writer}
-use Rattle.writer.specs.declared.state.Written.{Written}
-use Rattle.writer.specs.Writing.{beginAnswer, beginBuffer, addAnswer, addBuffer, finishAnswer, finishBuffer}
+use Rattle.writer_state.specs.declared.Writer.{Writer}
+use Rattle.writer_state.specs.declared.Written.{Written}
+use Rattle.writer.specs.Writing.{addAnswer, addBuffer}
 
 module _ (b : List ℕ) (w : Writer) {r s : Written} {after other : List ℕ} where
-  pub begin-determined : (ero : Bool) (pst : ℕ) → r ≡ beginAnswer b w ero pst → after ≡ beginBuffer b w ero → s ≡ beginAnswer b w ero pst
-      → other ≡ beginBuffer b w ero → (r ≡ s) × (after ≡ other)
-  begin-determined ero pst p q p' q' = (p ∙ sym p', q ∙ sym q')
-
   pub add-determined : (g : Segment) → r ≡ addAnswer b w g → after ≡ addBuffer b w g → s ≡ addAnswer b w g → other ≡ addBuffer b w g
       → (r ≡ s) × (after ≡ other)
   add-determined g p q p' q' = (p ∙ sym p', q ∙ sym q')
-
-  pub finish-determined : r ≡ finishAnswer b w → after ≡ finishBuffer b w → s ≡ finishAnswer b w → other ≡ finishBuffer b w
-      → (r ≡ s) × (after ≡ other)
-  finish-determined p q p' q' = (p ∙ sym p', q ∙ sym q')

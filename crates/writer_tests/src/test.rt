@@ -46,7 +46,7 @@ pub fn label_bad(h: Head, labelled: bool, sid: &[u8]) -> bool
     if !labelled {
         return false;
     }
-    label_rules::twenty_nine(h, label_rules::label_at(sid, 0))
+    label_rules::twenty_nine(h, label_entry::label_at(sid, 0))
 }
 
 // TTL 0, where M and C are 1.
@@ -57,7 +57,7 @@ pub fn time_bad(h: Head, labelled: bool, sid: &[u8]) -> bool
     if !labelled {
         return false;
     }
-    label_rules::thirty(h, label_rules::time_at(sid, 0))
+    label_rules::thirty(h, label_entry::time_at(sid, 0))
 }
 
 // The place: 16 where it is bad, or the segment passes the end.

@@ -2,7 +2,7 @@
 use mathlib.Core.Path.{sym, _∙_, ap}
 use Rattle.subobject.specs.declared.segment.Segment.{Segment}
 use Rattle.subobject.specs.Segments.{segmentWith}
-use Rattle.writer.specs.declared.state.Writer.{Writer}
+use Rattle.writer_state.specs.declared.Writer.{Writer}
 use Rattle.writer.specs.Writing.{addAnswer, addBuffer}
 use Rattle.border_records.specs.Records.{flagOf}
 use Rattle.border_segment.specs.Segments.{outlineIn}

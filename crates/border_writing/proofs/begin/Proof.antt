@@ -1,5 +1,5 @@
-use Rattle.writer.specs.declared.state.Writer.{Writer}
-use Rattle.writer.specs.Writing.{beginAnswer, beginBuffer}
+use Rattle.writer_state.specs.declared.Writer.{Writer}
+use Rattle.writer_ends.specs.Ends.{beginAnswer, beginBuffer}
 use Rattle.border_records.specs.Records.{isYes}
 use Rattle.border_writing.proofs.Laws.{by-writer}
 use borrow.Author.Needs.{needs}
