@@ -44,7 +44,7 @@ use Rattle.route_limit.specs.FirstOff.{staysOff, limitFor, sessionFor}
 use Rattle.route_call.specs.Called.{rule28, judgedIn}
 use Rattle.examples.specs.Table.{exampleAnswer, examples, answers}
 use Rattle.examples.specs.Table.Example.{route}
-use Rattle.examples.specs.Table.Answer.{judged}
+use Rattle.examples.specs.Table.ExampleAnswer.{judged}
 use Rattle.examples.specs.Mpls.{labelled, mplsAnswer, mplsExamples, mplsAnswers}
 
 pub table : map exampleAnswer examples ≡ answers

@@ -12,9 +12,9 @@ use Rattle.session.specs.Sessions.{openRefused, withMpls, withoutSrv6, sessions
 use Rattle.positions.specs.Positions.{firstTwo}
 use Rattle.open.specs.Open.{openOf}
 use Rattle.route_call.specs.Called.{judgedFor}
-use Rattle.examples.specs.Table.{objectE, Example, Answer}
+use Rattle.examples.specs.Table.{objectE, Example, ExampleAnswer}
 use Rattle.examples.specs.Table.Example.{opening, route}
-use Rattle.examples.specs.Table.Answer.{opened, judged}
+use Rattle.examples.specs.Table.ExampleAnswer.{opened, judged}
 
 -- An OPEN object that lists type 1, with sub-TLV 26: neither N nor X, a depth of 2.
 abbrev pub objectM : List ℕ
@@ -52,7 +52,7 @@ abbrev pub agreedM : Sessions
 agreedM = sessionsOf (openOf firstTwo objectM) (openOf firstTwo objectM)
 
 -- Judged under the sessions of M and M.
-abbrev pub mplsAnswer : Example → Answer
+abbrev pub mplsAnswer : Example → ExampleAnswer
 mplsAnswer (opening s) = opened (openOf firstTwo s)
 mplsAnswer (route s pst) = judged (judgedFor s true agreedM pst [])
 
@@ -79,7 +79,7 @@ mplsExamples =
     ∷ route objectE mplsSetup
     ∷ []
 
-abbrev pub mplsAnswers : List Answer
+abbrev pub mplsAnswers : List ExampleAnswer
 mplsAnswers =
     opened (withMpls withoutSrv6 false (Most 2))
     ∷ opened (openRefused wrongMsd mplsSetup)

@@ -39,15 +39,15 @@ pub data Example : Type 0 where
   opening : List ℕ → Example
   route : List ℕ → ℕ → Example
 
-pub data Answer : Type 0 where
-  opened : Opened → Answer
-  judged : Verdict → Answer
+pub data ExampleAnswer : Type 0 where
+  opened : Opened → ExampleAnswer
+  judged : Verdict → ExampleAnswer
 
 abbrev pub agreedO : Sessions
 agreedO = sessionsOf (openOf firstTwo objectO) (openOf firstTwo objectO)
 
 -- Judged under the sessions of O and O.
-abbrev pub exampleAnswer : Example → Answer
+abbrev pub exampleAnswer : Example → ExampleAnswer
 exampleAnswer (opening s) = opened (openOf firstTwo s)
 exampleAnswer (route s pst) = judged (judgedFor s true agreedO pst [])
 
@@ -67,7 +67,7 @@ examples =
 
 -- P1: "SRv6, N 0, limit 4", v 4 and no m; P2: "accepted without SRv6"; P3: "3", of SRv6; P4: "one segment", not stray; P5: "14" (document 02, C-16); P6: "9 at 4"; P7: "7 at 4";
 -- P8: "pass"; P9: "11"; P10: "11".
-abbrev pub answers : List Answer
+abbrev pub answers : List ExampleAnswer
 answers =
     opened (openCarries true false (Most 4) false false 4 absent)
     ∷ opened (openCarries false false Free false false absent absent)

@@ -11,7 +11,7 @@ use borrow.Author.Tests.{eqb-true, eq-eqb}
 use Rattle.octets.specs.Octets.{octetOf, part, over, partOf}
 use Rattle.octets.proofs.Laws.{length-part, length-over, getD-part}
 use Rattle.writer_spare.specs.Spare.{zeros}
-use Rattle.readback.specs.Ignored.{Octets}
+use Rattle.readback.specs.Ignored.{EachOctet}
 use Rattle.octets.proofs.Said.{both-true}
 use Rattle.readback.proofs.Stands.{drop-zeros}
 
@@ -52,7 +52,7 @@ append-same a b c d l e = (
 
 -- octets -------------------------------------------------------------------------------------------------------
 
-pub octet-small : (s : List ℕ) → Octets s → (i : ℕ) → octetOf s i < 256
+pub octet-small : (s : List ℕ) → EachOctet s → (i : ℕ) → octetOf s i < 256
 unfolding octetOf
 octet-small [] o i = omega arith
 octet-small (x ∷ s) o ℕ.zero = o .0

@@ -36,7 +36,7 @@ use Rattle.writer_rules.specs.Refusals.{mostOctets, addNumber, finishNumber, un
 use Rattle.writer_ends.specs.Ends.{headerOf, beginNumber}
 use Rattle.readback.specs.Runs.{Run, onward, beginRun, addRun, finishRun, addsRun, writeRun, Accepted, objectIn, writtenBody, objectOf, AllHeld}
 use Rattle.readback.specs.Runs.AllHeld.{none as held-none, more}
-use Rattle.readback.specs.Ignored.{Octets, ignoredAt, ignoredIn, ignoredOf, askedFrom, segmentsRead}
+use Rattle.readback.specs.Ignored.{EachOctet, ignoredAt, ignoredIn, ignoredOf, askedFrom, segmentsRead}
 use Rattle.readback.proofs.Images.{Fit, AllFit, Image, image, length-object, finish-number, add-number, begin-number, add-onward, begin-onward}
 use Rattle.readback.proofs.Images.AllFit.{none as fit-none, also}
 use Rattle.octets.proofs.Said.{both-true}
@@ -125,7 +125,7 @@ data AllSound (form : Form) (ero : Bool) (s : List ℕ) : List ℕ → Type 0 wh
   none : AllSound form ero s []
   next : {p : ℕ} {ps : List ℕ} → Sound form ero s p → AllSound form ero s ps → AllSound form ero s (p ∷ ps)
 
-sound-at : (form : Form) (ero n : Bool) (s : List ℕ) (p : ℕ) → Octets s → kindAt s ero p ≡ form .kind → p + octetOf s (p + 1) ≤ length s
+sound-at : (form : Form) (ero n : Bool) (s : List ℕ) (p : ℕ) → EachOctet s → kindAt s ero p ≡ form .kind → p + octetOf s (p + 1) ≤ length s
     → None (checksAt form s ero n p) → Sound form ero s p
 sound-at form ero n s p o k i c =
     record {
@@ -140,7 +140,7 @@ sound-at form ero n s p o k i c =
       inside = i;
     }
 
-all-sound : (form : Form) (ero n : Bool) (s : List ℕ) {at : ℕ} {ps : List ℕ} → Octets s → Chain s at ps → AllKind (kindAt s ero) (form .kind) ps
+all-sound : (form : Form) (ero n : Bool) (s : List ℕ) {at : ℕ} {ps : List ℕ} → EachOctet s → Chain s at ps → AllKind (kindAt s ero) (form .kind) ps
     → None (subobjectChecks form s ero n ps) → AllSound form ero s ps
 all-sound form ero n s o (ends e) k c = none
 all-sound form ero n s {at} o (links {ps = ps} l i r) (next q k) c =
@@ -279,7 +279,7 @@ header-of ero s e =
     let c = both-true (eqb (octetOf s 1 / 16) 1) _ (b .1) in
     record { low = z .low; class = eqb-true (octetOf s 0) (classOf ero) (b .0); kind = eqb-true (octetOf s 1 / 16) 1 (c .0); read = z .read }
 
-module _ {ero : Bool} {s : List ℕ} (h : Header ero s) (o : Octets s) where
+module _ {ero : Bool} {s : List ℕ} (h : Header ero s) (o : EachOctet s) where
   hi-read : hi (length s) ≡ octetOf s 2
   unfolding be16 octetOf
   hi-read = let a = octet-small s o 2 in let b = octet-small s o 3 in let r = h .read in omega arith
@@ -344,7 +344,7 @@ not-filled (ends e) h = absurd (h refl)
 not-filled (links l i c) h = omega arith
 
 -- An object of octets that was accepted, in any session and under any setup type.
-module _ (s : List ℕ) (ero : Bool) (session : Session) (pst : ℕ) (octets : Octets s) (taken : judgeOf s ero session pst .number ≡ 0) where
+module _ (s : List ℕ) (ero : Bool) (session : Session) (pst : ℕ) (octets : EachOctet s) (taken : judgeOf s ero session pst .number ≡ 0) where
   accepted : judgeAs (formOf pst) s ero session pst .number ≡ 0
   unfolding judgeOf
   accepted = taken

@@ -18,7 +18,7 @@ use Rattle.subobject_strays.specs.Strays.{strayFlags, structureReserved, struct
 use Rattle.frame.specs.Frames.{placesOf}
 use Rattle.writer_spare.specs.Spare.{zeros}
 use Rattle.writer_layout.specs.Readable.{Readable}
-use Rattle.readback.specs.Ignored.{Octets, unassignedAt, endingAt, assignedAt, ignoredAt, strayBitsAt, ignoredIn, strayBitsIn, assignedIn, ignoredOf}
+use Rattle.readback.specs.Ignored.{EachOctet, unassignedAt, endingAt, assignedAt, ignoredAt, strayBitsAt, ignoredIn, strayBitsIn, assignedIn, ignoredOf}
 use Rattle.readback.proofs.Parts.{octet-small}
 
 zeros-both : (x y : List ℕ) → zeros (x ++ y) ≡ (zeros x && zeros y)
@@ -37,7 +37,7 @@ sum-zero zero (suc y) w h = ne-eqb (zero * 256 + suc y * w) 0 (λ e. let q = suc
 sum-zero (suc x) y w h = ne-eqb (suc x * 256 + y * w) 0 (λ e. omega arith) ∙ sym (ap (λ (b : Bool). b && eqb y 0) (ne-eqb (suc x) 0 (λ e. omega arith)))
 
 -- The 12 flags without those that are assigned: four bits of one octet and some of the next.
-flags-zero : {form : Form} → Sized form → Readable form → (s : List ℕ) (at : ℕ) → Octets s
+flags-zero : {form : Form} → Sized form → Readable form → (s : List ℕ) (at : ℕ) → EachOctet s
     → eqb (strayFlags form s at) 0 ≡ (eqb (octetOf s (at + 2) % 16) 0 && eqb (octetOf s (at + 3) / form .free) 0)
 unfolding strayFlags be16 octetOf
 flags-zero {form} z r s at o =
@@ -93,7 +93,7 @@ any-way true true false true false = refl
 any-way true true false false y = refl
 
 -- A segment is stray exactly if one of these bits is set.
-pub stray-bits : {form : Form} → Sized form → Readable form → (s : List ℕ) (ero : Bool) (at : ℕ) → Octets s
+pub stray-bits : {form : Form} → Sized form → Readable form → (s : List ℕ) (ero : Bool) (at : ℕ) → EachOctet s
     → isStray (straysAt form s ero at) ≡ not (zeros (strayBitsAt form s ero at))
 unfolding straysAt structureFlags reservedOctets
 stray-bits {form} z r s ero at o =
@@ -116,7 +116,7 @@ one-more : (b : Bool) (n : ℕ) → eqb (cond {A = ℕ} (not b) 1 0 + n) 0 ≡ (
 one-more true n = rw (zero-add n)
 one-more false n = ne-eqb (1 + n) 0 (λ e. omega arith)
 
-pub strays-none : {form : Form} → Sized form → Readable form → (s : List ℕ) (ero : Bool) (ps : List ℕ) → Octets s → eqb (strayIn form s ero ps) 0 ≡ zeros (strayBitsIn form s ero ps)
+pub strays-none : {form : Form} → Sized form → Readable form → (s : List ℕ) (ero : Bool) (ps : List ℕ) → EachOctet s → eqb (strayIn form s ero ps) 0 ≡ zeros (strayBitsIn form s ero ps)
 strays-none z r s ero [] o = refl
 strays-none {form} z r s ero (p ∷ ps) o =
     rw (stray-bits z r s ero p o, zeros-both (strayBitsAt form s ero p) (strayBitsIn form s ero ps), ← strays-none z r s ero ps o)

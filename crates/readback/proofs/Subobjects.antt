@@ -28,7 +28,7 @@ use Rattle.writer_layout.proofs.Laws.{length-fixed, four}
 use Rattle.octets.proofs.Said.{both-true, either-false, cond-most}
 use Rattle.writer_rules.specs.Refusals.{foreign, unfit}
 use Rattle.writer_rules.proofs.Laws.{size-subobject}
-use Rattle.readback.specs.Ignored.{Octets, unassignedAt, assignedAt, endingAt, ignoredAt}
+use Rattle.readback.specs.Ignored.{EachOctet, unassignedAt, assignedAt, endingAt, ignoredAt}
 use Rattle.readback.proofs.Images.{Fit}
 use Rattle.readback.proofs.Stands.{Stands, zeros-are}
 use Rattle.readback.proofs.Reading.{bits-off, sum-back, label-part, time-part, label-off, time-off, label-sid}
@@ -36,7 +36,7 @@ use Rattle.readback.proofs.Parts.{part-add, part-none, length-partOf, t
 
 -- What an acceptance says of a subobject.
 pub record Sound (form : Form) (ero : Bool) (s : List ℕ) (at : ℕ) : Type 0 where
-  pub octets : Octets s
+  pub octets : EachOctet s
   pub kind : kindAt s ero at ≡ form .kind
   pub r8 : rule8 form (headAt form s ero at) ≡ false
   pub r9 : rule9 (headAt form s ero at) ≡ false
@@ -82,7 +82,7 @@ only-most : (ero : Bool) (n : ℕ) → n ≤ 1 → cond ero n 0 ≤ 1
 only-most true n h = h
 only-most false n h = omega arith
 
-bits-of : (form : Form) (ero : Bool) (s : List ℕ) (at : ℕ) → Octets s → Bits (headAt form s ero at)
+bits-of : (form : Form) (ero : Bool) (s : List ℕ) (at : ℕ) → EachOctet s → Bits (headAt form s ero at)
 unfolding headAt headOf
 bits-of form ero s at o =
     let a = octet-small s o at in
@@ -428,7 +428,7 @@ module _ (a u w v t iv it fv ft wv wt rest : ℕ) (hv : v + iv ≡ fv) (ht : t +
 abbrev secondPart : Bool → ℕ → List ℕ
 secondPart b behaviour = cond b (0 ∷ 0 ∷ hi behaviour ∷ lo behaviour ∷ []) []
 
-module _ (s : List ℕ) (at : ℕ) (o : Octets s) where
+module _ (s : List ℕ) (at : ℕ) (o : EachOctet s) where
   high-kept : hi (be16 s (at + 6)) ≡ octetOf s (at + 6)
   unfolding be16 octetOf
   high-kept = let a = octet-small s o (at + 6) in let b = octet-small s o (at + 6 + 1) in omega arith

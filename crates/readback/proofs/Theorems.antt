@@ -26,7 +26,7 @@ use Rattle.writer_layout.proofs.Forms.{readable-by}
 use Rattle.writer_state.specs.declared.Writer.{Writer}
 use Rattle.readback.specs.Runs.{WriterCall, writeRun, anyRun, takenIn, Accepted, objectIn, AllHeld, openSession}
 use Rattle.objects.specs.Objects.{typePlace, typeWorth}
-use Rattle.readback.specs.Ignored.{Octets, strayBitsAt, strayBitsIn, assignedIn, ignoredOf, segmentsRead}
+use Rattle.readback.specs.Ignored.{EachOctet, strayBitsAt, strayBitsIn, assignedIn, ignoredOf, segmentsRead}
 use Rattle.readback.proofs.Images as images
 use Rattle.readback.proofs.Reading as reading
 use Rattle.readback.proofs.Rewriting as rewriting
@@ -66,7 +66,7 @@ one-object ero pst gs b c v w p q = images.one-object ero pst gs b c v w p q
 
 -- 3. "Rewriting what was read gives the same octets exactly if all ignored bits were 0": octets that were accepted, ERO or RRO, in any
 -- session and under any setup type, and any buffer with room for them.
-module _ (s : List ℕ) (ero : Bool) (session : Session) (pst : ℕ) (octets : Octets s) (accepted : judgeOf s ero session pst .number ≡ 0)
+module _ (s : List ℕ) (ero : Bool) (session : Session) (pst : ℕ) (octets : EachOctet s) (accepted : judgeOf s ero session pst .number ≡ 0)
     (b : List ℕ) (w : Writer) (room : length s ≤ length b) where
   -- The segments read can be written,
   pub rewritten : Accepted (writeRun b w ero pst (segmentsRead s ero session pst))
@@ -100,7 +100,7 @@ module _ (s : List ℕ) (ero : Bool) (session : Session) (pst : ℕ) (octets : O
       rw (← q) (one-object ero pst r c b v w p′ rewritten) ∙ rewritten-same e
 
 -- 4. An accepted route carries 0 exactly if every bit named in `strayBitsAt` is 0, in each of its subobjects.
-module _ (s : List ℕ) (ero : Bool) (session : Session) (pst : ℕ) (octets : Octets s) (accepted : judgeOf s ero session pst .number ≡ 0) where
+module _ (s : List ℕ) (ero : Bool) (session : Session) (pst : ℕ) (octets : EachOctet s) (accepted : judgeOf s ero session pst .number ≡ 0) where
   pub unstray-zero : judgeOf s ero session pst .stray ≡ 0 → zeros (strayBitsIn (formOf pst) s ero (placesOf s)) ≡ true
   unfolding judgeOf
   unstray-zero e =
@@ -120,7 +120,7 @@ pub ignored-are : (form : Form) (s : List ℕ) (ero : Bool)
 ignored-are form s ero = strays.ignored-are form s ero
 
 -- A segment is stray exactly if one of its own is set.
-pub stray-bits : (pst : ℕ) (s : List ℕ) (ero : Bool) (at : ℕ) → Octets s
+pub stray-bits : (pst : ℕ) (s : List ℕ) (ero : Bool) (at : ℕ) → EachOctet s
     → isStray (straysAt (formOf pst) s ero at) ≡ not (zeros (strayBitsAt (formOf pst) s ero at))
 stray-bits pst s ero at o = strays.stray-bits (sized-by pst) (readable-by pst) s ero at o
 

@@ -16,9 +16,9 @@ use Rattle.frame.specs.Frames.{placesOf}
 use Rattle.route.specs.Routes.{judgeOf, segmentOf}
 
 -- Octets: numbers below 256.
-abbrev pub Octets : List ℕ → Type 0
-Octets [] = Unit {0}
-Octets (x ∷ xs) = (x < 256) × Octets xs
+abbrev pub EachOctet : List ℕ → Type 0
+EachOctet [] = Unit {0}
+EachOctet (x ∷ xs) = (x < 256) × EachOctet xs
 
 -- ignored bits -------------------------------------------------------------------------------------------------
 
