@@ -2,5 +2,5 @@
 // edges: lines out of form, numbers and octets at their bounds, lines that are too long, a last line without a
 // newline.
 fn main() {
-    console_dialogue::converse();
+    let end = console_dialogue::converse();
 }

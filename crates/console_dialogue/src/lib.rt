@@ -16,6 +16,7 @@ mod reply;
 mod setting;
 mod turn;
 
+pub use heard::Hearing;
 pub use listening::converse;
 pub use onward::take_in;
 pub use reply::answered;

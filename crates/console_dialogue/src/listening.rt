@@ -4,7 +4,7 @@ ghost use mathlib.Core.Path.{_≡_};
 ghost use lib.ListN.{length};
 ghost use Rattle.console_state.specs.Standing.{storeAtStart};
 ghost use Rattle.console_dialogue.specs.Hearing.{ReadyToHear, heardOf, hearAll};
-ghost use Rattle.console_dialogue.specs.Reached.{Reached};
+ghost use Rattle.console_dialogue.specs.Reached.{Reached, Ended};
 use crate::heard::Hearing;
 use crate::heard::answer;
 use crate::onward::take_in;
@@ -120,12 +120,14 @@ fn go_on(
     h
 }
 
-// Answers every line of standard input.
-pub fn converse() {
+// Answers every line of standard input, and hands back how the console then stands.
+pub fn converse() -> Hearing
+    ensures ended { λ r. ⌜ Ended r ⌝ }
+{
     let mut line = [0u8; KEPT];
     let mut store = [0u8; STORE];
     let mut memory = [0u8; MEMORY];
     let mut room = [0u8; SPELLED];
     let mut out = [0u8; ANSWER];
-    let h = go_on(&mut line, &mut store, &mut memory, &mut room, &mut out);
+    go_on(&mut line, &mut store, &mut memory, &mut room, &mut out)
 }
