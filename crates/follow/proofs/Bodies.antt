@@ -70,7 +70,8 @@ range-is : (k : ℕ) → keyLeast ≤ k → k ≤ keyMost → inRange k ≡ true
 unfolding inRange
 range-is k l m = rw (le-leb keyLeast k l, le-leb k keyMost m)
 
-body-given : (x : World) → Good x → (k : ℕ) → BodyGiven x k
+body-given : (x : World) → Good x → (k : ℕ)
+    → BodyGiven (x .story) k (bodyNumber (x .table) (x .store) k) (bodyOf (x .table) (x .store) k) (bodyForm (x .table) (x .store) k)
 unfolding bodyNumber bodyRules hasPath bodyOf bodyForm
 body-given x g k = record {
   path = λ path e.

@@ -9,6 +9,7 @@ use mathlib.Core.List.{List}
 use mathlib.Core.Option.{none, some}
 use mathlib.Core.Logic.{_↔_}
 use lib.ListN.{length}
+use Rattle.answers.specs.declared.verdict.Verdict.{Verdict}
 use Rattle.answers.specs.Numbers.{noPath, markTooOld}
 use Rattle.answers.specs.Verdicts.{refusedBy, acceptedWith}
 use Rattle.board_record.specs.Sizes.{storeSize, keyLeast, keyMost}
@@ -51,15 +52,15 @@ NoFollowerIsFooled = (b : Table) (store : List ℕ) (followers : ℕ → Followe
 
 -- ---- beside it: whoever asks the board itself
 
--- the body call answers as the story does: a key that is held gives its path, another key in range gives 22
-pub record BodyGiven (x : World) (k : ℕ) : Type 0 where
-  pub path : (path : HeldPath) → held (x .story) k ≡ some path →
-      (bodyNumber (x .table) (x .store) k ≡ acceptedWith 0) × (bodyOf (x .table) (x .store) k ≡ path .octets) × (bodyForm (x .table) (x .store) k ≡ path .form)
-  pub no-path : held (x .story) k ≡ none → keyLeast ≤ k → k ≤ keyMost → bodyNumber (x .table) (x .store) k ≡ refusedBy noPath 0
+-- what the body call answers of a key is as the story says: a key that is held gives its path, another key in range gives 22
+pub record BodyGiven (h : Story) (k : ℕ) (number : Verdict) (octets : List ℕ) (form : ℕ) : Type 0 where
+  pub path : (path : HeldPath) → held h k ≡ some path → (number ≡ acceptedWith 0) × (octets ≡ path .octets) × (form ≡ path .form)
+  pub no-path : held h k ≡ none → keyLeast ≤ k → k ≤ keyMost → number ≡ refusedBy noPath 0
 
 abbrev pub BodiesAreThoseHeld : Type 0
 BodiesAreThoseHeld = (b : Table) (store : List ℕ) (followers : ℕ → Follower) → Ready b store → (acts : List Act) (k : ℕ) →
-    BodyGiven (run (start b store followers) acts) k
+    let x = run (start b store followers) acts in
+    BodyGiven (x .story) k (bodyNumber (x .table) (x .store) k) (bodyOf (x .table) (x .store) k) (bodyForm (x .table) (x .store) k)
 
 -- the board's own numbers are the story's
 abbrev pub NumbersAreTheStorys : Type 0

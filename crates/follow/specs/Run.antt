@@ -1,7 +1,7 @@
 -- A run: one table with its store, the story so far, and its followers, one for each number; and the acts that drive it on.
 --
--- A call gets any arguments and is accepted or refused by what the board's own definitions answer, those that the contracts of the calls
--- cite; it gets the table and the whole store as the last one left them. A follower that is cut off makes no act, for as long as it
+-- A call gets any arguments and is accepted or refused by what the board's own definitions answer; it gets the table and the whole store as the last
+-- one left them. Of a record with its rows, by the definitions that the contracts of the calls cite: follow_record/specs/Followers. A follower that is cut off makes no act, for as long as it
 -- likes; an answer that was lost on the line was no act of the follower; one that is cut off between making a change and keeping its mark has an
 -- act of its own; and a run may end anywhere.
 use Prim.Native.Nat.{ℕ}

@@ -109,15 +109,15 @@ module _ (t : Table) (p : Proper t) where
   pub compact-is : (store : List ℕ) (c : ℕ) → let o = compactAnswer t store c in compactOn (recordOf t) store c ≡ resultOf (o .verdict) (recordOf (o .table))
   compact-is store c = result-is (compactAnswer t store c) (compact-refused-keeps t store c)
 
-  number-is : (store : List ℕ) (k : ℕ) → bodyNumberOn (recordOf t) store k ≡ bodyNumber t store k
+  pub number-is : (store : List ℕ) (k : ℕ) → bodyNumberOn (recordOf t) store k ≡ bodyNumber t store k
   unfolding bodyNumberOn
   number-is store k = rw sound
 
-  body-is : (store : List ℕ) (k : ℕ) → bodyOn (recordOf t) store k ≡ bodyOf t store k
+  pub body-is : (store : List ℕ) (k : ℕ) → bodyOn (recordOf t) store k ≡ bodyOf t store k
   unfolding bodyOn
   body-is store k = rw sound
 
-  form-is : (store : List ℕ) (k : ℕ) → bodyFormOn (recordOf t) store k ≡ bodyForm t store k
+  pub form-is : (store : List ℕ) (k : ℕ) → bodyFormOn (recordOf t) store k ≡ bodyForm t store k
   unfolding bodyFormOn
   form-is store k = rw sound
 

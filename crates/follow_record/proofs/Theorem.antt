@@ -12,20 +12,22 @@ use Rattle.board_record.specs.Proper.{Proper}
 use Rattle.board_record.specs.Record.{tableIn, recordOf, emptyBoard}
 use Rattle.board_record.proofs.Proper.{empty-sized, empty-proper}
 use Rattle.answers.specs.declared.verdict.Verdict.{Verdict}
-use Rattle.board_rules.specs.OnRecord.{Result, movedOn}
+use Rattle.board_rules.specs.OnRecord.{Result, bodyNumberOn, bodyOn, bodyFormOn, movedOn}
 use Rattle.board_rules.proofs.Keeps.{remove-proper, compact-proper}
 use Rattle.board_rules.proofs.Stores.{remove-sized, compact-sized}
-use Rattle.follow.specs.Story.{sets, clears, Story, beginning, begun, did, compactedTo}
+use Rattle.follow.specs.Story.{sets, clears, Story, beginning, begun, did, compactedTo, version}
 use Rattle.follow.specs.Follower.{Follower, fresh}
 use Rattle.follow.specs.Heard.{Heard, heardIn, does, cutOff}
 use Rattle.follow.specs.Run.{World, Act, report, remove, compact, begin, ask, askCut, answerTo, following, step, run, start, allFresh}
-use Rattle.follow.specs.Promise.{Answered, Ready}
+use Rattle.follow.specs.Floor.{floorOf}
+use Rattle.follow.specs.Promise.{Answered, BodyGiven, Ready}
 use Rattle.follow.specs.Moved.{MovedSaid}
-use Rattle.follow.proofs.Theorem.{from-the-empty-start}
+use Rattle.follow.proofs.Theorem.{from-the-empty-start, numbers-are-the-storys}
+use Rattle.follow.proofs.Bodies.{bodies-are-those-held}
 use Rattle.follow.proofs.Moved.{moved-is-the-storys}
-use Rattle.follow_record.specs.Followers.{WorldOn, toldOn, answerToOn, followingOn, stepOn, runOn, startOn, NoFollowerOfARecordIsFooled}
+use Rattle.follow_record.specs.Followers.{WorldOn, toldOn, answerToOn, followingOn, stepOn, runOn, startOn, NoFollowerOfARecordIsFooled, BodiesOfARecordAreThoseHeld, NumbersOfARecordAreTheStorys}
 use Rattle.follow_record.specs.Moved.{MovedOnARecordIsTheStorys}
-use Rattle.follow_record.proofs.Same.{empty-record, report-for-is, store-for-is, for-proper, remove-is, compact-is, next-is, moved-is}
+use Rattle.follow_record.proofs.Same.{empty-record, report-for-is, store-for-is, for-proper, remove-is, compact-is, number-is, body-is, form-is, next-is, moved-is}
 
 abbrev recordedWorld : World → WorldOn
 recordedWorld x = record { board = recordOf (x .table); store = x .store; story = x .story; followers = x .followers }
@@ -72,11 +74,18 @@ start-same : (store : List ℕ) → startOn store ≡ recordedWorld (start empty
 start-same store =
     ap (λ (b : Board). record { board = b; store = store; story = begun (beginning emptyTable store); followers = λ n. fresh emptyTable }) empty-record
 
+ready : (store : List ℕ) → storeSize ≤ length store → Ready emptyTable store
+ready store e = record { sized = empty-sized; proper = empty-proper; enough = e }
+
+-- the run from the empty start is that on the table, with the record of its table, and proper
+from-empty : (store : List ℕ) (acts : List Act) → runOn (startOn store) acts ≡ recordedWorld (run (start emptyTable store (allFresh emptyTable)) acts)
+from-empty store acts =
+    ap (λ (y : WorldOn). runOn y acts) (start-same store) ∙ run-same (start emptyTable store (allFresh emptyTable)) empty-sized empty-proper acts
+
 pub no-follower-of-a-record-is-fooled : NoFollowerOfARecordIsFooled
 no-follower-of-a-record-is-fooled store e acts n =
     let x = start emptyTable store (allFresh emptyTable) in
-    let q : runOn (startOn store) acts ≡ recordedWorld (run x acts) = ap (λ (y : WorldOn). runOn y acts) (start-same store) ∙ run-same x empty-sized empty-proper acts in
-    subst (λ (y : WorldOn). Answered (y .story) (y .followers n) (answerToOn y n)) (sym q)
+    subst (λ (y : WorldOn). Answered (y .story) (y .followers n) (answerToOn y n)) (sym (from-empty store acts))
     (subst (λ (h : Heard). Answered (run x acts .story) (run x acts .followers n) h) (sym (answer-same (run x acts) (run-proper x empty-sized empty-proper acts) n))
     (from-the-empty-start store e acts n))
 
@@ -85,8 +94,23 @@ pub moved-on-a-record-is-the-storys : MovedOnARecordIsTheStorys
 moved-on-a-record-is-the-storys store e acts from to v =
     let x = start emptyTable store (allFresh emptyTable) in
     let y = run x acts in
-    let g : Ready emptyTable store = record { sized = empty-sized; proper = empty-proper; enough = e } in
-    let q : runOn (startOn store) acts ≡ recordedWorld y = ap (λ (z : WorldOn). runOn z acts) (start-same store) ∙ run-same x empty-sized empty-proper acts in
-    subst (λ (z : WorldOn). MovedSaid (z .story) from to v (movedOn (z .board) (z .store) from to v)) (sym q)
+    subst (λ (z : WorldOn). MovedSaid (z .story) from to v (movedOn (z .board) (z .store) from to v)) (sym (from-empty store acts))
     (subst (λ (a : Verdict). MovedSaid (y .story) from to v a) (sym (moved-is (y .table) (run-proper x empty-sized empty-proper acts) (y .store) from to v))
-    (moved-is-the-storys emptyTable store (allFresh emptyTable) g acts from to v))
+    (moved-is-the-storys emptyTable store (allFresh emptyTable) (ready store e) acts from to v))
+
+-- so is one who asks for a key's path
+pub bodies-of-a-record-are-those-held : BodiesOfARecordAreThoseHeld
+bodies-of-a-record-are-those-held store e acts k =
+    let x = start emptyTable store (allFresh emptyTable) in
+    let y = run x acts in
+    let p = run-proper x empty-sized empty-proper acts in
+    subst (λ (z : WorldOn). BodyGiven (z .story) k (bodyNumberOn (z .board) (z .store) k) (bodyOn (z .board) (z .store) k) (bodyFormOn (z .board) (z .store) k))
+    (sym (from-empty store acts))
+    (rw (number-is (y .table) p (y .store) k, body-is (y .table) p (y .store) k, form-is (y .table) p (y .store) k)
+    (bodies-are-those-held emptyTable store (allFresh emptyTable) (ready store e) acts k))
+
+-- and its own version and floor are the story's
+pub numbers-of-a-record-are-the-storys : NumbersOfARecordAreTheStorys
+numbers-of-a-record-are-the-storys store e acts =
+    subst (λ (z : WorldOn). (tableIn (z .board) .version ≡ version (z .story)) × (tableIn (z .board) .floor ≡ floorOf (z .story))) (sym (from-empty store acts))
+    (numbers-are-the-storys emptyTable store (allFresh emptyTable) (ready store e) acts)

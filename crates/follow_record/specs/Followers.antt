@@ -1,6 +1,7 @@
 -- A run on a record that keeps its places in order: as the run of the crate follow, where the calls are made on the record and the followers ask it. No follower of a record
 -- is fooled.
 use Prim.Native.Nat.{ℕ, _≤_}
+use mathlib.Core.Path.{_≡_}
 use mathlib.Core.Bool.{cond}
 use mathlib.Core.List.{List, [], _∷_}
 use lib.ListN.{length}
@@ -9,13 +10,14 @@ use Rattle.answers.specs.declared.verdict.Verdict.{Verdict}
 use Rattle.board_record.specs.declared.record.Board.{Board}
 use Rattle.board_record.specs.Sizes.{storeSize}
 use Rattle.board_record.specs.Record.{tableIn, emptyBoard}
-use Rattle.board_rules.specs.OnRecord.{Result, removeOn, compactOn, nextOn}
+use Rattle.board_rules.specs.OnRecord.{Result, removeOn, compactOn, bodyNumberOn, bodyOn, bodyFormOn, nextOn}
 use Rattle.report_call.specs.Reported.{reportForOn, reportStoreForOn}
-use Rattle.follow.specs.Story.{sets, clears, Story, beginning, begun, did, compactedTo}
+use Rattle.follow.specs.Story.{sets, clears, Story, beginning, begun, did, compactedTo, version}
 use Rattle.follow.specs.Follower.{Follower, fresh}
 use Rattle.follow.specs.Heard.{Heard, heardIn, does, cutOff}
 use Rattle.follow.specs.Run.{Act, reportedPath, report, remove, compact, begin, ask, askCut}
-use Rattle.follow.specs.Promise.{Answered}
+use Rattle.follow.specs.Floor.{floorOf}
+use Rattle.follow.specs.Promise.{Answered, BodyGiven}
 
 pub record WorldOn : Type 0 where
   pub board : Board
@@ -66,3 +68,16 @@ startOn store =
 abbrev pub NoFollowerOfARecordIsFooled : Type 0
 NoFollowerOfARecordIsFooled = (store : List ℕ) → storeSize ≤ length store → (acts : List Act) (n : ℕ) →
     let x = runOn (startOn store) acts in Answered (x .story) (x .followers n) (answerToOn x n)
+
+-- ---- beside it: whoever asks the record itself
+
+-- the body call answers as the story does
+abbrev pub BodiesOfARecordAreThoseHeld : Type 0
+BodiesOfARecordAreThoseHeld = (store : List ℕ) → storeSize ≤ length store → (acts : List Act) (k : ℕ) →
+    let x = runOn (startOn store) acts in
+    BodyGiven (x .story) k (bodyNumberOn (x .board) (x .store) k) (bodyOn (x .board) (x .store) k) (bodyFormOn (x .board) (x .store) k)
+
+-- its own numbers are the story's
+abbrev pub NumbersOfARecordAreTheStorys : Type 0
+NumbersOfARecordAreTheStorys = (store : List ℕ) → storeSize ≤ length store → (acts : List Act) →
+    let x = runOn (startOn store) acts in (tableIn (x .board) .version ≡ version (x .story)) × (tableIn (x .board) .floor ≡ floorOf (x .story))

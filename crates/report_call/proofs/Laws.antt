@@ -5,7 +5,7 @@ use mathlib.Core.List.{List}
 use mathlib.Core.Bool.{Bool, true, false, cond}
 use lib.ListN.{length}
 use Rattle.answers.specs.declared.verdict.Verdict.{Verdict}
-use Rattle.answers.specs.Numbers.{notUsable}
+use Rattle.answers.specs.Numbers.{notABoard, notUsable}
 use Rattle.answers.specs.Verdicts.{refusedBy}
 use Rattle.session.specs.declared.Session.{Session}
 use Rattle.session.specs.declared.Sessions.{Sessions}
@@ -18,7 +18,7 @@ use Rattle.board_record.specs.Table.{Table}
 use Rattle.board_rules.specs.Rules.{Outcome, outcomeOf}
 use Rattle.board_rules.specs.Report.{reportWith, storeWith, reportAnswer, reportStore}
 use Rattle.board_rules.specs.OnRecord.{Result, resultOf, reportOn, reportStoreOn}
-use Rattle.board_rules.proofs.OnRecord.{results-same}
+use Rattle.board_rules.proofs.OnRecord.{results-same, NoRecord, report-17-on}
 use Rattle.report_call.specs.Reported.{reportFor, reportStoreFor, reportForOn, reportStoreForOn}
 
 module _ (b : Board) (store : List ℕ) (k : ℕ) (ero : List ℕ) (both : Sessions) (pst : ℕ) (addresses : List ℕ) where
@@ -37,6 +37,13 @@ module _ (b : Board) (store : List ℕ) (k : ℕ) (ero : List ℕ) (both : Sessi
         o ∙ ap (λ (x : Session). reportOn b store k ero x pst) q ∙ rw (sym e ∙ f),
         a ∙ ap (λ (x : Session). reportStoreOn b store k ero x pst) q ∙ rw (sym e ∙ f),
       )
+
+  -- With a usable list, 17 exactly if there is no board.
+  pub report-call-17 : rule28 addresses ≡ false →
+      let v = reportForOn b store k ero both pst addresses .verdict in
+      (NoRecord b (length store) → v ≡ refusedBy notABoard 0) × (v .number ≡ notABoard → NoRecord b (length store))
+  unfolding reportForOn
+  report-call-17 e = rw e (report-17-on b store k ero (sessionFor ero true (sessionUnder both pst) addresses) pst)
 
 module _ (b : Table) (store : List ℕ) (k : ℕ) (ero : List ℕ) (both : Sessions) (pst : ℕ) (addresses : List ℕ) where
   -- A usable list: the report under the limit for this route.
