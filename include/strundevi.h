@@ -5,8 +5,8 @@
  *
  * Link with libstrundevi.a (`rt staticlib strundevi`), which has the proved functions, strundevi_raw_NAME. The language they are written in has no
  * null, so they take no null pointer: call strundevi_NAME, at the end of this file, which tests the pointers and calls them. A null buffer,
- * and one whose length no buffer can have, counts as one of no octets and is refused by the number that an empty one gets; a null board is
- * refused with 17.
+ * and one whose length no buffer can have, counts as one of no octets and is refused by the number that an empty one gets (a list of
+ * addresses then counts as none, which is no refusal); a null board is refused with 17.
  *
  * Nothing is allocated and nothing is kept between calls. A refusal is a number and a place, and leaves all lent octets and records as
  * they were. Flags are octets: 0 is no, every other number is yes, and an answer has 0 or 1.
@@ -18,15 +18,16 @@
  *
  * A path's octets stay in the store: who was handed a path copies them before the board is changed again.
  *
- * The caller owes what no call can test: a buffer has at least the octets that its length says, and the buffers and records of one
- * call do not overlap.
+ * The caller owes what no call can test: a buffer has at least the octets that its length says, the buffers and records of one
+ * call do not overlap, and nothing but these calls writes a board's record and its store, which each call gets whole and as the last one left
+ * it. 17 looks at the record and at the store's length, not at its octets.
  *
  * How to follow a board:
  *   1. start empty, with the mark of strundevi_fresh_mark;
  *   2. ask strundevi_next with your mark;
  *   3. a path or a removal: make the change, copy a path's octets before the board is touched again, keep the version as w (strundevi_mark_after);
  *   4. level: you hold what the board holds, and may set both s and w to its version (strundevi_mark_level);
- *   5. 23: removals that you did not see were dropped; empty yourself and start afresh;
+ *   5. 23: removals that you did not see may have been dropped; empty yourself and start afresh;
  *   6. 24: something is wrong, this is not the board that you followed; the same. */
 #ifndef STRUNDEVI_H
 #define STRUNDEVI_H
@@ -110,8 +111,9 @@ enum strundevi_kind { STRUNDEVI_RRO = 0, STRUNDEVI_ERO = 1 };
 
 /* ---- records */
 
-/* number 0, place 0 and two counts; or the refusal's number and place and the counts 0. The place is the octet of the fault for 6 to 12, else 0. Of a
- * route, count is the number of its segments, and stray of those with something set that ought to be 0 (strundevi_picked); elsewhere they are 0. */
+/* number 0, place 0 and two counts; or the refusal's number and place and the counts 0. Of a route the place is the octet of the fault for 6 to 12, else 0,
+ * and in adding always 0. Of a route, count is the number of its segments, and stray of those with something set that ought to be 0 (strundevi_picked); of
+ * strundevi_moved, count is 1 for yes; elsewhere they are 0. */
 typedef struct strundevi_verdict {
     size_t number;
     size_t place;
@@ -147,7 +149,9 @@ typedef struct strundevi_opened {
     size_t mplslimit;
 } strundevi_opened;
 
-/* SRv6 agreed or not, the PCC's N; A and R agreed or not, the PCC's v, m and limit; MPLS agreed or not, the PCC's N and limit for it. */
+/* SRv6 agreed or not, the PCC's N; A and R agreed or not, the PCC's v (H.Encaps), m (Segments Left) and limit; MPLS agreed or not, the PCC's N and limit for
+ * it. Of an ERO whose first segment stays off the header (R agreed, or A agreed and it is an adjacency of the head end) v and m decide, v + 1 and m + 1
+ * segments, and where there is a v limit does not count. */
 typedef struct strundevi_session {
     uint8_t agreed;
     uint8_t n;
@@ -211,7 +215,8 @@ typedef struct strundevi_picked {
     uint8_t reserved; /* 1 if a reserved octet is not 0, else 0 */
 } strundevi_picked;
 
-/* The verdict, the segment at a place and the place behind it; refused: a segment of zeros and the place asked for. */
+/* The verdict, the segment at a place and the place behind it; refused: a segment of zeros and the place asked for. What is stray in it strundevi_segment_at
+ * tells. */
 typedef struct strundevi_stepped {
     strundevi_verdict verdict;
     strundevi_segment segment;
@@ -237,7 +242,7 @@ typedef struct strundevi_written {
  * each path, 1 or 3, and 0 where there is none. Only the calls may change these.
  *
  * An old mark may fit a board that was started anew, and its follower would keep paths that are withdrawn: whoever starts a board anew sees to
- * it that every follower empties itself and takes a fresh mark. */
+ * it that every follower empties itself and takes a fresh mark, and that who remembers a version for strundevi_moved counts every range as moved. */
 typedef struct strundevi_board {
     uint32_t keys[STRUNDEVI_PLACES];
     uint64_t versions[STRUNDEVI_PLACES];
@@ -411,7 +416,8 @@ STRUNDEVI_LOOK_AT static inline strundevi_verdict strundevi_remove(strundevi_boa
                                 strundevi_from(store), strundevi_lent(store, size), key);
 }
 
-/* Drops the marks of removals with a version of at most c: 17, 24. */
+/* Drops the marks of removals with a version of at most c, and raises the floor to c: a follower whose mark is below it, and who asks strundevi_moved about
+ * a version below it, gets 23. Refused with 17, 24. */
 STRUNDEVI_LOOK_AT static inline strundevi_verdict strundevi_compact(strundevi_board *board, const uint8_t *store, size_t size, uint64_t c) {
     if (board == NULL)
         return strundevi_no_board();
@@ -439,7 +445,8 @@ STRUNDEVI_LOOK_AT static inline strundevi_change strundevi_next(const strundevi_
                               strundevi_from(store), strundevi_lent(store, size), mark.s, mark.w);
 }
 
-/* Whether a key from `from` to `to` changed after version v: 17, 24, 23. The count is 1 for yes and 0 for no; from above to is no. */
+/* Whether a key from `from` to `to` changed after version v: 17, 24, 23. The count is 1 for yes and 0 for no; from above to is no. Remember the board's
+ * version with each answer, for the next time; after 23 or 24 count the range as moved. */
 STRUNDEVI_LOOK_AT static inline strundevi_verdict strundevi_moved(const strundevi_board *board, const uint8_t *store, size_t size, uint64_t from,
                                                                   uint64_t to, uint64_t v) {
     if (board == NULL)

@@ -25,7 +25,8 @@ use Rattle.follow.specs.Moved.{MovedSaid}
 use Rattle.follow.proofs.Theorem.{from-the-empty-start, numbers-are-the-storys}
 use Rattle.follow.proofs.Bodies.{bodies-are-those-held}
 use Rattle.follow.proofs.Moved.{moved-is-the-storys}
-use Rattle.follow_record.specs.Followers.{WorldOn, toldOn, answerToOn, followingOn, stepOn, runOn, startOn, NoFollowerOfARecordIsFooled, BodiesOfARecordAreThoseHeld, NumbersOfARecordAreTheStorys}
+use Rattle.follow_record.specs.Followers.{WorldOn, toldOn, answerToOn, followingOn, stepOn, runOn, startOn}
+use Rattle.follow_record.specs.Followers.{NoFollowerOfARecordIsFooled, BodiesOfARecordAreThoseHeld, NumbersOfARecordAreTheStorys}
 use Rattle.follow_record.specs.Moved.{MovedOnARecordIsTheStorys}
 use Rattle.follow_record.proofs.Same.{empty-record, report-for-is, store-for-is, for-proper, remove-is, compact-is, number-is, body-is, form-is, next-is, moved-is}
 

@@ -27,7 +27,8 @@ FILE     octets as they are, or text of hexadecimal digits with spaces and line 
 --       what follows is a FILE or a NUMBER, whatever it begins with
 
 One line is written for each file, with its name; with --plain the line alone. Faults of the command and files that cannot be
-read are told on standard error.
+read are told on standard error. OPENs are read with A and R at positions 0 and 1, and routes judged without addresses of a head end: a
+box that has others may permit one segment more or fewer.
 
 status   0 accepted, 1 refused, 2 bad usage or an input that cannot be read; of several files the largest
 ";

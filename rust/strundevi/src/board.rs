@@ -24,7 +24,7 @@ const REMOVED: usize = 2;
 
 /// A board: its record and its store, which belong together. The store is anything that has octets: `Vec<u8>`, `&mut [u8]`, an array.
 ///
-/// Looking (`body`, `next`, `fresh_mark`) takes the board by `&`, so any number of readers may look at once. What they are handed borrows the
+/// Looking (`body`, `next`, `moved`, `fresh_mark`) takes the board by `&`, so any number of readers may look at once. What they are handed borrows the
 /// board: copy a path's octets, and the board can be changed again.
 ///
 /// How to follow a board:
@@ -32,7 +32,7 @@ const REMOVED: usize = 2;
 /// 2. ask `next` with your mark;
 /// 3. a path or a removal: make the change, copy a path's octets before the board is touched again, keep the version as w (`Mark::after`);
 /// 4. level: you hold what the board holds, and may set both s and w to its version (`Mark::after` does, or `Mark::level`);
-/// 5. refused with 23: removals that you did not see were dropped; empty yourself and start afresh;
+/// 5. refused with 23: removals that you did not see may have been dropped; empty yourself and start afresh;
 /// 6. refused with 24: something is wrong, this is not the board that you followed; the same.
 ///
 /// ```
@@ -92,7 +92,7 @@ impl<S: AsRef<[u8]> + AsMut<[u8]>> Board<S> {
     /// The empty board over this store. A store of fewer than `STORE_OCTETS` octets is refused with 17 by every call.
     ///
     /// An old mark may fit a board that was started anew, and its follower would keep paths that are withdrawn: whoever starts a board anew
-    /// sees to it that every follower empties itself and takes a fresh mark.
+    /// sees to it that every follower empties itself and takes a fresh mark, and that who remembers a version for `moved` counts every range as moved.
     pub fn new(store: S) -> Board<S> {
         let mut record = raw::Record {
             keys: [0; PLACES],
@@ -146,7 +146,8 @@ impl<S: AsRef<[u8]> + AsMut<[u8]>> Board<S> {
         raw::remove(&mut self.record, self.store.as_ref(), key.into()).counts().map(|_| ())
     }
 
-    /// Drops the marks of removals with a version of at most `c`. Refused with 17, 24.
+    /// Drops the marks of removals with a version of at most `c`, and raises the floor to `c`: a follower whose mark is below it, and who asks `moved` about a
+    /// version below it, gets 23. Refused with 17, 24.
     #[inline]
     pub fn compact(&mut self, c: u64) -> Result<()> {
         raw::compact(&mut self.record, self.store.as_ref(), c).counts().map(|_| ())
@@ -175,7 +176,8 @@ impl<S: AsRef<[u8]> + AsMut<[u8]>> Board<S> {
         })
     }
 
-    /// Whether a key of this range changed after version `v`: was reported, reported again or removed. Refused with 17, 24, 23.
+    /// Whether a key of this range changed after version `v`: was reported, reported again or removed. Refused with 17, 24, 23. Remember the board's version with
+    /// each answer, for the next time; after 23 or 24 count the range as moved.
     #[inline]
     pub fn moved(&self, keys: core::ops::RangeInclusive<u64>, v: u64) -> Result<bool> {
         raw::moved(&self.record, self.store.as_ref(), *keys.start(), *keys.end(), v).counts().map(|counts| counts.segments == 1)

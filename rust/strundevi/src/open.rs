@@ -89,7 +89,8 @@ impl From<OpenRefusal> for Refusal {
 pub type OpenResult = core::result::Result<Open, OpenRefusal>;
 
 /// A session, with a half for each form. SRv6 agreed or not, the PCC's N and limit; A and R agreed or not, the PCC's v and m; MPLS, if it is agreed, with the
-/// PCC's N and limit. No route has 65,535 segments, and a larger limit counts as that.
+/// PCC's N and limit. No route has 65,535 segments, and a larger limit counts as that. Of an ERO whose first segment stays off the header (R agreed, or A agreed and
+/// it is an adjacency of the head end) v and m decide, v + 1 and m + 1 segments, and where there is a v the limit does not count.
 #[derive(Clone, Copy, Debug, Default, PartialEq, Eq)]
 pub struct Session {
     pub agreed: bool,

@@ -33,7 +33,7 @@ impl Kind {
 /// setup type names the form ([`Form::of`](crate::Form::of)).
 ///
 /// The addresses are the head end's, 16 octets each: where A is agreed they say whether an ERO's first segment is one of its adjacencies, and so stays
-/// off the header.
+/// off the header; where R is agreed it always does. One segment more is then within H.Encaps ([`Session`](crate::Session)).
 #[inline]
 pub fn judge(octets: &[u8], kind: Kind, session: &Session, pst: u64, addresses: &[u8]) -> Result<Counts> {
     raw::judge(octets, kind.raw(), session.raw(), pst, addresses).counts()
@@ -46,7 +46,7 @@ pub fn segment(octets: &[u8], kind: Kind, session: &Session, pst: u64, addresses
     r.verdict.counts().map(|_| (Segment::of(r.segment), Strays { flags: r.flags, structure: r.sflags, reserved: r.reserved != 0 }))
 }
 
-/// The segments of a good route, one after the other, in one pass over its octets.
+/// The segments of a good route, one after the other, in one pass over its octets. What is stray in one of them [`segment`] tells.
 ///
 /// ```
 /// use strundevi::{segments, Kind, Session, PST_SRV6};
