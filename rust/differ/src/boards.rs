@@ -494,7 +494,7 @@ fn life(tally: &mut Tally, r: &mut Random, most: usize) -> Result<usize, String>
                 let size = r.of(&[0, 1, STORE_OCTETS - 1, STORE_OCTETS - 384]);
                 h.step(tally, r, Step::Lend { size })?;
                 let key = some_key(r, keys);
-                let step = r.below(5);
+                let step = r.below(6);
                 let form = some_form(r);
                 let ero = objects::good_ero(r, form, PLACE_OCTETS);
                 h.step(
@@ -505,6 +505,7 @@ fn life(tally: &mut Tally, r: &mut Random, most: usize) -> Result<usize, String>
                         1 => Step::Remove { key },
                         2 => Step::Compact { c: 0 },
                         3 => Step::Body { key },
+                        4 => Step::Moved { a: key, b: key, v: 0 },
                         _ => Step::Next { s: 0, w: 0 },
                     },
                 )?;
