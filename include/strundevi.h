@@ -373,7 +373,8 @@ STRUNDEVI_LOOK_AT static inline strundevi_written strundevi_begin(uint8_t *buffe
     return strundevi_raw_begin(strundevi_into(buffer, none), strundevi_lent(buffer, size), writer, kind != STRUNDEVI_RRO, pst);
 }
 
-/* Adds a segment: 8, 9, 7, 11, 29, 30, 16. */
+/* Adds a segment: 8, 9, 7, 11, 29, 30, 16. It is looked at by itself: an MPLS route that mixes labels, indices and segments without a SID, or has bottom 1 in a
+ * complete label before the last, is written too, and a peer that checks refuses it with PCErr 10/20 or 10/4. */
 STRUNDEVI_LOOK_AT static inline strundevi_written strundevi_add(uint8_t *buffer, size_t size, strundevi_writer writer, strundevi_segment segment) {
     uint8_t none[1];
     strundevi_outline outline = {segment.loose, segment.verify, segment.nt, segment.behaviour, segment.hassid, segment.structured,

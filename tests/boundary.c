@@ -187,6 +187,7 @@ int main(void) {
     EXPECT(strundevi_body(&board, store, sizeof store, STRUNDEVI_KEY_MOST).length == 24);
     EXPECT(memcmp(store, route + 4, 24) == 0);
     EXPECT(strundevi_moved(&board, store, sizeof store, 0, UINT64_MAX, 0).count == 1);
+    EXPECT(strundevi_moved(&board, store, sizeof store, 0, STRUNDEVI_KEY_MOST, 0).count == 1);
     EXPECT(strundevi_moved(&board, store, sizeof store, 0, STRUNDEVI_KEY_MOST - 1, 0).count == 0);
     EXPECT(strundevi_moved(&board, store, sizeof store, 0, UINT64_MAX, 1).count == 0);
     EXPECT(strundevi_fresh_mark(&board).s == 1 && strundevi_fresh_mark(&board).w == 0);

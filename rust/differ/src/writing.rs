@@ -19,7 +19,11 @@ enum Step {
 
 /// Mostly one of the form; now and then the other's.
 fn some_segment(r: &mut Random, form: Form, ero: bool) -> Segment {
-    match if r.one_in(40) { Form::Mpls } else { form } {
+    let other = match form {
+        Form::Srv6 => Form::Mpls,
+        Form::Mpls => Form::Srv6,
+    };
+    match if r.one_in(40) { other } else { form } {
         Form::Srv6 => srv6_segment(r, ero),
         Form::Mpls => mpls_segment(r, ero),
     }

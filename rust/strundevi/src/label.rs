@@ -63,7 +63,8 @@ impl Label {
     }
 }
 
-/// The SID of an MPLS segment.
+/// The SID of an MPLS segment. A route that mixes labels, indices and segments without a SID, or has S 1 in an `Entry` before the last, is written and accepted
+/// here; a peer that checks refuses it with PCErr 10/20 or 10/4.
 #[derive(Clone, Copy, Debug, PartialEq, Eq, Hash)]
 pub enum MplsSid {
     /// M 0: an index into a space of labels.

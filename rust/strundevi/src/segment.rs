@@ -92,7 +92,7 @@ impl Segment {
         (self.0.hassid != 0).then_some(&self.0.sid)
     }
 
-    /// The SID of an MPLS segment, by M and C.
+    /// The SID of an MPLS segment, by M and C. An SRv6 segment with a SID answers too, with an index made of its first four octets, which means nothing.
     pub fn mpls_sid(&self) -> Option<MplsSid> {
         let [a, b, c, d, ..] = *self.sid()?;
         Some(match (self.labelled(), self.complete()) {

@@ -43,7 +43,8 @@ impl<'a> Writer<'a> {
         r.verdict.counts().map(|_| ())
     }
 
-    /// Refused with 8, 9, 7, 11, 29, 30, 16.
+    /// Refused with 8, 9, 7, 11, 29, 30, 16. The segment is looked at by itself: an MPLS route that mixes labels, indices and segments without a SID, or has S 1 in
+    /// an entry before the last, is written too, and a peer that checks refuses it with PCErr 10/20 or 10/4.
     #[inline]
     pub fn add(&mut self, segment: &Segment) -> Result<()> {
         let r = raw::add(self.buffer, self.raw(), segment.raw());
