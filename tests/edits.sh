@@ -1,5 +1,5 @@
 #!/bin/sh
-# Each must-fail edit fits the file that it names: its text stands there once. The gate tries the edits last, and says there of one that does not fit only that it is bad.
+# Each must-fail edit fits the file that it names: its text stands there once. rt tries the edits behind all proofs; here one that does not fit is told at once.
 #
 #     tests/edits.sh
 #
