@@ -417,8 +417,8 @@ STRUNDEVI_LOOK_AT static inline strundevi_verdict strundevi_remove(strundevi_boa
                                 strundevi_from(store), strundevi_lent(store, size), key);
 }
 
-/* Drops the marks of removals with a version of at most c, and raises the floor to c: a follower whose mark is below it, and who asks strundevi_moved about
- * a version below it, gets 23. Refused with 17, 24. */
+/* Drops the marks of removals with a version of at most c, and raises the floor to c if it is lower: a follower whose mark is below the floor, and who asks
+ * strundevi_moved about a version below it, gets 23. Refused with 17, 24. */
 STRUNDEVI_LOOK_AT static inline strundevi_verdict strundevi_compact(strundevi_board *board, const uint8_t *store, size_t size, uint64_t c) {
     if (board == NULL)
         return strundevi_no_board();

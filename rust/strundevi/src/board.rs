@@ -146,8 +146,8 @@ impl<S: AsRef<[u8]> + AsMut<[u8]>> Board<S> {
         raw::remove(&mut self.record, self.store.as_ref(), key.into()).counts().map(|_| ())
     }
 
-    /// Drops the marks of removals with a version of at most `c`, and raises the floor to `c`: a follower whose mark is below it, and who asks `moved` about a
-    /// version below it, gets 23. Refused with 17, 24.
+    /// Drops the marks of removals with a version of at most `c`, and raises the floor to `c` if it is lower: a follower whose mark is below the floor, and
+    /// who asks `moved` about a version below it, gets 23. Refused with 17, 24.
     #[inline]
     pub fn compact(&mut self, c: u64) -> Result<()> {
         raw::compact(&mut self.record, self.store.as_ref(), c).counts().map(|_| ())
