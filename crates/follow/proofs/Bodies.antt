@@ -8,7 +8,8 @@ use mathlib.Core.Option.{none, some}
 use mathlib.Core.Logic.{_⊎_, ⊎-elim}
 use lib.Dec.{eqb, ltb}
 use borrow.Author.Tests.{eq-eqb, ne-eqb, lt-ltb, le-ltb, le-leb}
-use Rattle.answers.specs.Verdicts.{acceptedWith}
+use Rattle.answers.specs.Numbers.{keyOutOfRange, noPath}
+use Rattle.answers.specs.Verdicts.{refusedBy, acceptedWith}
 use Rattle.board_record.specs.Sizes.{places, keyLeast, keyMost}
 use Rattle.board_record.specs.Table.{Table, keyAt, lengthAt, Used}
 use Rattle.board_record.specs.Search.{placeOf}
@@ -16,25 +17,26 @@ use Rattle.board_record.proofs.Logic.{from?}
 use Rattle.board_record.proofs.Proper.{proper-sound}
 use Rattle.board_record.proofs.Search.{key-place-is, key-place-found}
 use Rattle.board_rules.specs.Rules.{inRange, hasPath}
+use Rattle.board_rules.proofs.Verdicts.{range-passed}
 use Rattle.board_rules.specs.Body.{bodyRules, bodyNumber, bodyOf, bodyForm}
 use Rattle.follow.specs.Story.{HeldPath, pathAt, Story, held, last}
 use Rattle.follow.specs.Run.{World, start, run}
 use Rattle.follow.specs.Promise.{BodyGiven, BodiesAreThoseHeld}
-use Rattle.follow.proofs.Cases.{some≢none, some-one}
+use Rattle.follow.proofs.Cases.{some≢none, some-one, not-true-is-false}
 use Rattle.follow.proofs.Begun.{pathIn, path-mark, path-there}
 use Rattle.follow.proofs.Keeps.{none-yet}
 use Rattle.follow.proofs.Table.{Stands, path-none}
 use Rattle.follow.proofs.Theorem.{Good, is-board, good-run, good-start}
 
 -- a key that is held has a place of its own, with that path
-record Kept (b : Table) (store : List ℕ) (k : ℕ) (path : HeldPath) : Type 0 where
-  place : placeOf b k < places
-  low : keyLeast ≤ k
-  high : k ≤ keyMost
-  long : lengthAt b (placeOf b k) ≡ 0 → ⊥
-  path-is : pathAt b store (placeOf b k) ≡ path
+pub record Kept (b : Table) (store : List ℕ) (k : ℕ) (path : HeldPath) : Type 0 where
+  pub place : placeOf b k < places
+  pub low : keyLeast ≤ k
+  pub high : k ≤ keyMost
+  pub long : lengthAt b (placeOf b k) ≡ 0 → ⊥
+  pub path-is : pathAt b store (placeOf b k) ≡ path
 
-kept-at : (b : Table) (store : List ℕ) (h : Story) (k : ℕ) (path : HeldPath) → Stands b store h → held h k ≡ some path → Kept b store k path
+pub kept-at : (b : Table) (store : List ℕ) (h : Story) (k : ℕ) (path : HeldPath) → Stands b store h → held h k ≡ some path → Kept b store k path
 kept-at b store h k path r e = ⊎-elim there (λ y. absurd (some≢none path (sym e ∙ y .0))) (r .there k changed)
   where
     changed : 0 < last h k
@@ -55,7 +57,7 @@ kept-at b store h k path r e = ⊎-elim there (λ y. absurd (some≢none path (s
         }
 
 -- a key that is not held has no place, or that of a removal
-no-path : (b : Table) (store : List ℕ) (h : Story) (k : ℕ) → Stands b store h → keyLeast ≤ k → held h k ≡ none → hasPath b k ≡ false
+pub no-path : (b : Table) (store : List ℕ) (h : Story) (k : ℕ) → Stands b store h → keyLeast ≤ k → held h k ≡ none → hasPath b k ≡ false
 unfolding hasPath
 no-path b store h k r low e = ⊎-elim (λ l. rw (le-ltb (placeOf b k) places l)) at-place (from? places (placeOf b k))
   where
@@ -70,6 +72,9 @@ range-is : (k : ℕ) → keyLeast ≤ k → k ≤ keyMost → inRange k ≡ true
 unfolding inRange
 range-is k l m = rw (le-leb keyLeast k l, le-leb k keyMost m)
 
+range-not : (k : ℕ) → (keyLeast ≤ k → k ≤ keyMost → ⊥) → inRange k ≡ false
+range-not k o = not-true-is-false (inRange k) (λ e. let p = range-passed k (ap not e) in o (p .0) (p .1))
+
 body-given : (x : World) → Good x → (k : ℕ)
     → BodyGiven (x .story) k (bodyNumber (x .table) (x .store) k) (bodyOf (x .table) (x .store) k) (bodyForm (x .table) (x .store) k)
 unfolding bodyNumber bodyRules hasPath bodyOf bodyForm
@@ -80,7 +85,13 @@ body-given x g k = record {
       let n : bodyNumber b (x .store) k ≡ acceptedWith 0 =
       rw (is-board x g, range-is k (y .low) (y .high), lt-ltb (placeOf b k) places (y .place), ne-eqb (lengthAt b (placeOf b k)) 0 (y .long)) in
       (n, rw n (ap (λ (p : HeldPath). p .octets) (y .path-is)), rw n (ap (λ (p : HeldPath). p .form) (y .path-is)));
-  no-path = λ e l m. rw (is-board x g, range-is k l m, no-path (x .table) (x .store) (x .story) k (g .stands) l e);
+  no-path = λ e l m.
+      let n : bodyNumber (x .table) (x .store) k ≡ refusedBy noPath 0 =
+      rw (is-board x g, range-is k l m, no-path (x .table) (x .store) (x .story) k (g .stands) l e) in
+      (n, rw n, rw n);
+  no-key = λ o.
+      let n : bodyNumber (x .table) (x .store) k ≡ refusedBy keyOutOfRange 0 = rw (is-board x g, range-not k o) in
+      (n, rw n, rw n);
 }
 
 pub bodies-are-those-held : BodiesAreThoseHeld

@@ -12,3 +12,4 @@ pub mod Theorem
 pub mod Asks
 pub mod Bodies
 pub mod Moved
+pub mod Accepts

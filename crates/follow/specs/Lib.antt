@@ -5,3 +5,4 @@ pub mod Heard
 pub mod Run
 pub mod Promise
 pub mod Moved
+pub mod Accepts

@@ -5,12 +5,12 @@
 -- and told so, it holds exactly the paths last reported and not removed since, in their form and octet for octet, for every key.
 use Prim.Native.Nat.{ℕ, _≤_, _<_, max}
 use mathlib.Core.Path.{_≡_}
-use mathlib.Core.List.{List}
+use mathlib.Core.List.{List, []}
 use mathlib.Core.Option.{none, some}
 use mathlib.Core.Logic.{_↔_}
 use lib.ListN.{length}
 use Rattle.answers.specs.declared.verdict.Verdict.{Verdict}
-use Rattle.answers.specs.Numbers.{noPath, markTooOld}
+use Rattle.answers.specs.Numbers.{keyOutOfRange, noPath, markTooOld}
 use Rattle.answers.specs.Verdicts.{refusedBy, acceptedWith}
 use Rattle.board_record.specs.Sizes.{storeSize, keyLeast, keyMost}
 use Rattle.board_record.specs.Table.{Table, ListsWhole}
@@ -52,10 +52,12 @@ NoFollowerIsFooled = (b : Table) (store : List ℕ) (followers : ℕ → Followe
 
 -- ---- beside it: whoever asks the board itself
 
--- what the body call answers of a key is as the story says: a key that is held gives its path, another key in range gives 22
+-- what the body call answers of a key is as the story says: a key that is held gives its path, another key in range gives 22, one out of range 18; a refusal has no octets and
+-- no form
 pub record BodyGiven (h : Story) (k : ℕ) (number : Verdict) (octets : List ℕ) (form : ℕ) : Type 0 where
   pub path : (path : HeldPath) → held h k ≡ some path → (number ≡ acceptedWith 0) × (octets ≡ path .octets) × (form ≡ path .form)
-  pub no-path : held h k ≡ none → keyLeast ≤ k → k ≤ keyMost → number ≡ refusedBy noPath 0
+  pub no-path : held h k ≡ none → keyLeast ≤ k → k ≤ keyMost → (number ≡ refusedBy noPath 0) × (octets ≡ []) × (form ≡ 0)
+  pub no-key : (keyLeast ≤ k → k ≤ keyMost → ⊥) → (number ≡ refusedBy keyOutOfRange 0) × (octets ≡ []) × (form ≡ 0)
 
 abbrev pub BodiesAreThoseHeld : Type 0
 BodiesAreThoseHeld = (b : Table) (store : List ℕ) (followers : ℕ → Follower) → Ready b store → (acts : List Act) (k : ℕ) →

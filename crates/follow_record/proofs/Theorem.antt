@@ -24,9 +24,10 @@ use Rattle.follow.specs.Promise.{Answered, BodyGiven, Ready}
 use Rattle.follow.specs.Moved.{MovedSaid}
 use Rattle.follow.proofs.Theorem.{from-the-empty-start, numbers-are-the-storys}
 use Rattle.follow.proofs.Bodies.{bodies-are-those-held}
+use Rattle.follow.proofs.Accepts.{verdicts-are-the-storys}
 use Rattle.follow.proofs.Moved.{moved-is-the-storys}
 use Rattle.follow_record.specs.Followers.{WorldOn, toldOn, answerToOn, followingOn, stepOn, runOn, startOn}
-use Rattle.follow_record.specs.Followers.{NoFollowerOfARecordIsFooled, BodiesOfARecordAreThoseHeld, NumbersOfARecordAreTheStorys}
+use Rattle.follow_record.specs.Followers.{NoFollowerOfARecordIsFooled, BodiesOfARecordAreThoseHeld, VerdictsOfRecord, VerdictsOfARecordAreTheStorys, NumbersOfARecordAreTheStorys}
 use Rattle.follow_record.specs.Moved.{MovedOnARecordIsTheStorys}
 use Rattle.follow_record.proofs.Same.{empty-record, report-for-is, store-for-is, for-proper, remove-is, compact-is, number-is, body-is, form-is, next-is, moved-is}
 
@@ -115,3 +116,18 @@ pub numbers-of-a-record-are-the-storys : NumbersOfARecordAreTheStorys
 numbers-of-a-record-are-the-storys store e acts =
     subst (λ (z : WorldOn). (tableIn (z .board) .version ≡ version (z .story)) × (tableIn (z .board) .floor ≡ floorOf (z .story))) (sym (from-empty store acts))
     (numbers-are-the-storys emptyTable store (allFresh emptyTable) (ready store e) acts)
+
+-- and so it is said which calls are accepted
+pub verdicts-of-a-record-are-the-storys : VerdictsOfARecordAreTheStorys
+verdicts-of-a-record-are-the-storys store e acts =
+    let x = start emptyTable store (allFresh emptyTable) in
+    let y = run x acts in
+    let p = run-proper x empty-sized empty-proper acts in
+    let v = verdicts-are-the-storys emptyTable store (allFresh emptyTable) (ready store e) acts in
+    subst (λ (z : WorldOn). VerdictsOfRecord (z .story) (z .board) (z .store)) (sym (from-empty store acts))
+    (record {
+      report = λ k ero both pst addresses.
+          ap (λ (a : Result). a .verdict) (report-for-is (y .table) p (y .store) k ero both pst addresses) ∙ v .report k ero both pst addresses;
+      remove = λ k. ap (λ (a : Result). a .verdict) (remove-is (y .table) p (y .store) k) ∙ v .remove k;
+      compact = λ c. ap (λ (a : Result). a .verdict) (compact-is (y .table) p (y .store) c) ∙ v .compact c;
+    })

@@ -7,6 +7,7 @@ use mathlib.Core.List.{List, [], _∷_}
 use lib.ListN.{length}
 use lib.Dec.{eqb}
 use Rattle.answers.specs.declared.verdict.Verdict.{Verdict}
+use Rattle.session.specs.declared.Sessions.{Sessions}
 use Rattle.board_record.specs.declared.record.Board.{Board}
 use Rattle.board_record.specs.Sizes.{storeSize}
 use Rattle.board_record.specs.Record.{tableIn, emptyBoard}
@@ -18,6 +19,7 @@ use Rattle.follow.specs.Heard.{Heard, heardIn, does, cutOff}
 use Rattle.follow.specs.Run.{Act, reportedPath, report, remove, compact, begin, ask, askCut}
 use Rattle.follow.specs.Floor.{floorOf}
 use Rattle.follow.specs.Promise.{Answered, BodyGiven}
+use Rattle.follow.specs.Accepts.{reportSaid, removeSaid, compactSaid}
 
 pub record WorldOn : Type 0 where
   pub board : Board
@@ -76,6 +78,17 @@ abbrev pub BodiesOfARecordAreThoseHeld : Type 0
 BodiesOfARecordAreThoseHeld = (store : List ℕ) → storeSize ≤ length store → (acts : List Act) (k : ℕ) →
     let x = runOn (startOn store) acts in
     BodyGiven (x .story) k (bodyNumberOn (x .board) (x .store) k) (bodyOn (x .board) (x .store) k) (bodyFormOn (x .board) (x .store) k)
+
+-- report, remove and compact are accepted and refused as the story says
+pub record VerdictsOfRecord (h : Story) (b : Board) (store : List ℕ) : Type 0 where
+  pub report : (k : ℕ) (ero : List ℕ) (both : Sessions) (pst : ℕ) (addresses : List ℕ) →
+      reportForOn b store k ero both pst addresses .verdict ≡ reportSaid h k ero both pst addresses
+  pub remove : (k : ℕ) → removeOn b store k .verdict ≡ removeSaid h k
+  pub compact : (c : ℕ) → compactOn b store c .verdict ≡ compactSaid h c
+
+abbrev pub VerdictsOfARecordAreTheStorys : Type 0
+VerdictsOfARecordAreTheStorys = (store : List ℕ) → storeSize ≤ length store → (acts : List Act) →
+    let x = runOn (startOn store) acts in VerdictsOfRecord (x .story) (x .board) (x .store)
 
 -- its own numbers are the story's
 abbrev pub NumbersOfARecordAreTheStorys : Type 0
