@@ -16,7 +16,7 @@ pub use size::KEY_LEAST;
 pub use size::KEY_MOST;
 pub use size::PLACES;
 pub use size::ROOM;
-pub use size::STORE;
+pub use size::STORE_SIZE;
 pub use size::VERSION_MOST;
 pub use wide::wide16;
 pub use wide::wide32;

@@ -12,7 +12,7 @@ pub const GROUPS: usize = 16;
 pub const ROOM: usize = 384;
 
 // octets of the store
-pub const STORE: usize = 49152;
+pub const STORE_SIZE: usize = 49152;
 
 // keys are 1 to 1,048,574
 pub const KEY_LEAST: u64 = 1;

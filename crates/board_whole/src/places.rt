@@ -9,7 +9,7 @@ ghost use Rattle.board_rules.specs.Rules.{lengthIn, formIn};
 ghost use Rattle.board_rules.specs.OnRecord.{isRecord};
 use board_record::PLACES;
 use board_record::ROOM;
-use board_record::STORE;
+use board_record::STORE_SIZE;
 use board_record::wide16;
 use octets::wide;
 
@@ -29,7 +29,7 @@ pub fn is_board<'a>(
         let b = tableOf (now (keys .entry)) (now (versions .entry)) (now (lengths .entry)) top floor (now (forms .entry)) in
         ⌜ r ≡ isRecord (withRows b (now (order .entry)) (now (tops .entry))) n ⌝ }
 {
-    if n < STORE {
+    if n < STORE_SIZE {
         return false;
     }
     board_proper::is_proper(keys, versions, lengths, top, floor, order, tops, forms)

@@ -20,33 +20,33 @@ pub const SRV6_CAPABILITY: usize = 27;
 pub const SRV6_FORM: usize = SRV6_SETUP as usize;
 
 // The places of the two flag octets, and what N and X are worth in the second.
-const BOTH_FLAGS: usize = 2;
+const BOTH_FLAGS_AT: usize = 2;
 
-const FLAGS: usize = 3;
+const FLAGS_AT: usize = 3;
 
 const N: usize = 2;
 
 const X: usize = 1;
 
 // The place of the first pair.
-const PAIRS: usize = 4;
+const PAIRS_AT: usize = 4;
 
 // What a side that lists setup type 3 announces by the value of its sub-TLV 27.
 pub fn announced(p: Setup, w: &[u8]) -> Opened
     ensures announced { λ r. ⌜ r ≡ announcedOf p (now (w .entry)) ⌝ }
 {
-    if !octets::both(w.len() % 2 == 0, PAIRS <= w.len()) {
+    if !octets::both(w.len() % 2 == 0, PAIRS_AT <= w.len()) {
         return session::refused_open(OPEN_MALFORMED, SRV6_FORM);
     }
-    let flags = octets::octet(w, FLAGS);
+    let flags = octets::octet(w, FLAGS_AT);
     let n = flags / N % 2 == 1;
-    let all = octets::read16(w, BOTH_FLAGS);
+    let all = octets::read16(w, BOTH_FLAGS_AT);
     let a = positions::flag(all, p.a);
     let r = positions::flag(all, p.r);
     if flags / X % 2 == 1 {
         return session::carried(true, n, Limit::Free, a, r, ABSENT, ABSENT);
     }
-    let pairs = msd::gather(&w[PAIRS..]);
+    let pairs = msd::gather(&w[PAIRS_AT..]);
     if pairs.wrong {
         return session::refused_open(WRONG_MSD, SRV6_FORM);
     }

@@ -18,30 +18,30 @@ pub const MPLS_CAPABILITY: usize = 26;
 pub const MPLS_FORM: usize = MPLS_SETUP as usize;
 
 // The place of the flag octet, and what N and X are worth in it.
-const FLAGS: usize = 2;
+const MPLS_FLAGS_AT: usize = 2;
 
 const N: usize = 2;
 
 const X: usize = 1;
 
 // The place of the depth, and the length.
-const DEPTH: usize = 3;
+const DEPTH_AT: usize = 3;
 
-const SIZE: usize = 4;
+const MPLS_SIZE: usize = 4;
 
 // What a side that lists setup type 1 announces by the value of its sub-TLV 26.
 pub fn announced_mpls(w: &[u8]) -> Opened
     ensures announced { λ r. ⌜ r ≡ mplsAnnouncedOf (now (w .entry)) ⌝ }
 {
-    if w.len() != SIZE {
+    if w.len() != MPLS_SIZE {
         return session::refused_open(OPEN_MALFORMED, MPLS_FORM);
     }
-    let flags = octets::octet(w, FLAGS);
+    let flags = octets::octet(w, MPLS_FLAGS_AT);
     let n = flags / N % 2 == 1;
     if flags / X % 2 == 1 {
         return session::with_mpls(session::without_srv6(), n, Limit::Free);
     }
-    let depth = octets::octet(w, DEPTH);
+    let depth = octets::octet(w, DEPTH_AT);
     if depth == 0 {
         return session::refused_open(WRONG_MSD, MPLS_FORM);
     }

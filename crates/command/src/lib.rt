@@ -23,7 +23,7 @@ use words::word;
 const HASH: u8 = 35;
 
 // the most octets of a line that is no bad line
-pub const LONGEST: usize = 131200;
+pub const LONGEST_LINE: usize = 131200;
 
 // What the first four words behind the name say as numbers, 0 where they say none, and whether the first is
 // `ero`.
@@ -65,7 +65,7 @@ pub fn parse(line: &[u8]) -> Command
     if is_skipped(line) {
         return alone(Verb::Skip);
     }
-    if line.len() > LONGEST {
+    if line.len() > LONGEST_LINE {
         return alone(Verb::Bad);
     }
     let place = place_named(word(line, SPACE, 0));

@@ -8,12 +8,12 @@ ghost use Rattle.console_dialogue.specs.Reached.{Reached, Ended};
 use crate::heard::Hearing;
 use crate::heard::answer;
 use crate::onward::take_in;
-use board_record::STORE;
-use command::LONGEST;
+use board_record::STORE_SIZE;
+use command::LONGEST_LINE;
 use command_forms::MOST_SIZE;
 
 // one octet more than the longest line has
-const KEPT: usize = LONGEST + 1;
+const KEPT: usize = LONGEST_LINE + 1;
 
 // the octets that a line spells
 const SPELLED: usize = KEPT / 2 + 1;
@@ -125,7 +125,7 @@ pub fn converse() -> Hearing
     ensures ended { λ r. ⌜ Ended r ⌝ }
 {
     let mut line = [0u8; KEPT];
-    let mut store = [0u8; STORE];
+    let mut store = [0u8; STORE_SIZE];
     let mut memory = [0u8; MEMORY];
     let mut room = [0u8; SPELLED];
     let mut out = [0u8; ANSWER];

@@ -26,6 +26,24 @@ flag-most octet w = go (eqb w 0)
     go true = omega arith
     go false = omega arith
 
+-- The fixed part has four octets, and eight where the form has a behaviour.
+pub fixed-least : {form : Form} → Sized form → 4 ≤ form .fixed
+fixed-least {form} z = go (form .behaves) (z .fixed)
+  where
+    go : (b : Bool) → form .fixed ≡ cond b 8 4 → 4 ≤ form .fixed
+    go true e = omega arith
+    go false e = omega arith
+
+pub fixed-most : {form : Form} → Sized form → form .fixed ≤ 8
+fixed-most {form} z = go (form .behaves) (z .fixed)
+  where
+    go : (b : Bool) → form .fixed ≡ cond b 8 4 → form .fixed ≤ 8
+    go true e = omega arith
+    go false e = omega arith
+
+pub fixed-eight : {form : Form} → Sized form → form .behaves ≡ true → form .fixed ≡ 8
+fixed-eight z e = z .fixed ∙ rw e
+
 -- The form that a setup type names: what holds of both forms holds of it.
 pub of-both : (P : Form → Type 0) → P srv6Form → P mplsForm → (pst : ℕ) → P (formOf pst)
 of-both P a b pst = go (eqb pst 1)

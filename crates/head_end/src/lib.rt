@@ -5,13 +5,13 @@ ghost use mathlib.Core.Path.{_≡_};
 ghost use Rattle.head_end.specs.Addresses.{usableList, sameOctets, hasAddress};
 
 // The octets of an address.
-pub const ADDRESS: usize = 16;
+pub const ADDRESS_SIZE: usize = 16;
 
 // Whether the list is made of whole addresses.
 pub fn usable(addresses: &[u8]) -> bool
     ensures usable { λ r. ⌜ r ≡ usableList (now (addresses .entry)) ⌝ }
 {
-    addresses.len() % ADDRESS == 0
+    addresses.len() % ADDRESS_SIZE == 0
 }
 
 // Whether the octets are the same.
@@ -35,11 +35,11 @@ fn same(x: &[u8], y: &[u8]) -> bool
 pub fn has(addresses: &[u8], x: &[u8]) -> bool
     ensures found { λ r. ⌜ r ≡ hasAddress (now (x .entry)) (now (addresses .entry)) ⌝ }
 {
-    let mut left = addresses.len() / ADDRESS;
+    let mut left = addresses.len() / ADDRESS_SIZE;
     while 0 < left {
         left = left - 1;
-        let at = ADDRESS * left;
-        if same(&addresses[at..at + ADDRESS], x) {
+        let at = ADDRESS_SIZE * left;
+        if same(&addresses[at..at + ADDRESS_SIZE], x) {
             return true;
         }
     }

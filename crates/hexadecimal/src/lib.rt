@@ -6,8 +6,8 @@ ghost use lib.ListN.{length};
 ghost use Rattle.octets.specs.Octets.{over};
 ghost use Rattle.hexadecimal.specs.Hexadecimal.{hexCode, pairOf, allPairs, isOctets, octetsOf, isSid, isNai};
 use decimal::is_none;
-use objects::NAI_LENGTH;
-use objects::SID_LENGTH;
+use objects::NAI_SIZE;
+use objects::SID_SIZE;
 use octets::both;
 use octets::either;
 
@@ -81,14 +81,14 @@ pub fn octets_in(word: &[u8]) -> usize
 pub fn is_sid(word: &[u8]) -> bool
     ensures sid { λ r. ⌜ r ≡ isSid (now (word .entry)) ⌝ }
 {
-    both(is_octets(word), octets_in(word) <= SID_LENGTH)
+    both(is_octets(word), octets_in(word) <= SID_SIZE)
 }
 
 // `-`, or up to 40 octets
 pub fn is_nai(word: &[u8]) -> bool
     ensures nai { λ r. ⌜ r ≡ isNai (now (word .entry)) ⌝ }
 {
-    both(is_octets(word), octets_in(word) <= NAI_LENGTH)
+    both(is_octets(word), octets_in(word) <= NAI_SIZE)
 }
 
 // The octets that a word spells, laid over the start of `out`, and their number.

@@ -13,7 +13,7 @@ pub const LABEL_SIZE: usize = 8;
 const ALONE: usize = 604504073;
 
 // what the lowest bit of the first two octets is worth in that number
-const HIGH: usize = 65536;
+const UPPER_HALF: usize = 65536;
 
 // where an MPLS subobject has its label stack entry, and the TTL in it
 pub const ENTRY_PLACE: usize = 4;
@@ -36,7 +36,7 @@ fn is_alone(s: &[u8], at: usize) -> bool
     requires { ⌜ at + 8 ≤ length (now s) ⌝ }
     ensures alone { λ r. ⌜ (r ≡ true → LabelAlone (now (s .entry)) at) ⌝ }
 {
-    if octets::read16(s, at) * HIGH + octets::read16(s, at + 2) != ALONE {
+    if octets::read16(s, at) * UPPER_HALF + octets::read16(s, at + 2) != ALONE {
         return false;
     }
     label_good(s, at + ENTRY_PLACE)

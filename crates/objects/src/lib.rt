@@ -34,6 +34,6 @@ pub const SRV6_SETUP: u64 = 3;
 pub const MPLS_SETUP: u64 = 1;
 
 // the octets that a segment keeps for a SID, and for an NAI
-pub const SID_LENGTH: usize = 16;
+pub const SID_SIZE: usize = 16;
 
-pub const NAI_LENGTH: usize = 40;
+pub const NAI_SIZE: usize = 40;

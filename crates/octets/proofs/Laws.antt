@@ -2,7 +2,7 @@
 -- (`ext-getD`); those of `over` and `placed` rewrite take, drop and append until both sides are the same.
 use Prim.Native.Nat.{ℕ, suc, _+_, _-_, _≤_, _<_}
 use mathlib.Core.Path.{_≡_, refl, sym, _∙_, ap}
-use mathlib.Core.List.{List, _++_, append-assoc, append-nil}
+use mathlib.Core.List.{List, [], _++_, append-assoc, append-nil}
 use mathlib.Core.Logic.{_⊎_, ⊎-elim}
 use lib.ListN.{length, getD, take, drop, set, replicate, length-append, length-drop, drop-of-length-le, List·getD-append}
 use lib.Seq.{take-all, drop-at, take-at, drop-drop, length-take-le, paste-suc, getD-take, getD-drop, getD-append-add, ext-getD}
@@ -106,6 +106,15 @@ rest-back b y a = rw (drop-of-length-le (drop a b) (le-of-eq (length-drop a b)),
 pub placed-back : (b y w : List ℕ) (a : ℕ) → y ≡ over w (take (length b - a) (drop a b)) → putMid a (length b - a) b y ≡ placed b a w
 unfolding placed
 placed-back b y w a e = rest-back b y a ∙ rw (e, rest-lent)
+
+-- A part as it is lent; a part of no octets.
+pub part-lent : (s : List ℕ) (a n : ℕ) → take (a + n - a) (drop a s) ≡ part s a n
+unfolding part
+part-lent s a n = rw (add-sub-cancel-left a n)
+
+pub part-none : (s : List ℕ) (at : ℕ) → part s at 0 ≡ []
+unfolding part
+part-none s at = refl
 
 -- What was copied from a part into an array of m zeros.
 pub part-taken : (s x : List ℕ) (at n m : ℕ) → x ≡ over (take (at + n - at) (drop at s)) (replicate m 0) → x ≡ partOf s at n m

@@ -31,6 +31,24 @@ pub and-holding : (a : Bool) → (a && true) ≡ a
 and-holding true = refl
 and-holding false = refl
 
+pub and-no : (a b : Bool) → b ≡ false → (a && b) ≡ false
+and-no a b e = rw e (and-false a)
+
+pub or-none : (a : Bool) → (a || false) ≡ a
+or-none true = refl
+or-none false = refl
+
+pub or-true : (a : Bool) → (a || true) ≡ true
+or-true true = refl
+or-true false = refl
+
+-- A choice that is made.
+pub cond-yes : {A : Type 0} (t : Bool) (a b : A) → t ≡ true → cond t a b ≡ a
+cond-yes t a b e = rw e
+
+pub cond-no : {A : Type 0} (t : Bool) (a b : A) → t ≡ false → cond t a b ≡ b
+cond-no t a b e = rw e
+
 -- A size that may be absent.
 pub cond-most : (b : Bool) (n : ℕ) → cond b n 0 ≤ n
 cond-most true n = le-refl n

@@ -17,7 +17,7 @@ use open_carried::joined;
 use open_carried::listed;
 use open_carried::mpls_by;
 use open_carried::srv6_by;
-use open_frame::TLVS;
+use open_frame::TLVS_AT;
 use open_frame::is_framed;
 use open_walk::Found;
 use positions::Setup;
@@ -37,14 +37,14 @@ pub fn read_open(p: Setup, s: &[u8]) -> Opened
     if !is_framed(s) {
         return session::refused_open(OPEN_MALFORMED, NO_FORM);
     }
-    match open_walk::walk(s, TLVS, s.len(), false, SRV6_CAPABILITY) {
+    match open_walk::walk(s, TLVS_AT, s.len(), false, SRV6_CAPABILITY) {
         Found::Cut => session::refused_open(OPEN_MALFORMED, NO_FORM),
         Found::Values(list, sub) => {
             let srv6 = srv6_by(p, s, list, sub);
             if !listed(s, list, MPLS) {
                 return srv6;
             }
-            match open_walk::walk(s, TLVS, s.len(), false, MPLS_CAPABILITY) {
+            match open_walk::walk(s, TLVS_AT, s.len(), false, MPLS_CAPABILITY) {
                 Found::Cut => session::refused_open(OPEN_MALFORMED, NO_FORM),
                 Found::Values(again, beside) => joined(mpls_by(s, beside), srv6),
             }

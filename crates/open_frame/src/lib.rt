@@ -17,9 +17,9 @@ use objects::UNIT;
 const OPEN_VERSION: usize = 1;
 
 // The places of the version and of the first TLV.
-const VERSION: usize = HEADER;
+const VERSION_PLACE: usize = HEADER;
 
-pub const TLVS: usize = 8;
+pub const TLVS_AT: usize = 8;
 
 // What the lowest bit of the version is worth in its octet.
 const VERSION_WORTH: usize = 32;
@@ -29,12 +29,12 @@ pub fn is_framed(s: &[u8]) -> bool
     ensures framed { λ r. ⌜ r ≡ framed (now (s .entry)) ⌝ }
     ensures short { λ r. ⌜ (r ≡ true → length (now (s .entry)) < 65536) ⌝ }
 {
-    if s.len() < TLVS {
+    if s.len() < TLVS_AT {
         return false;
     }
     let class = octets::octet(s, CLASS_PLACE) == OPEN_CLASS;
     let kind = octets::octet(s, TYPE_PLACE) / TYPE_WORTH == OBJECT_TYPE;
-    let version = octets::octet(s, VERSION) / VERSION_WORTH == OPEN_VERSION;
+    let version = octets::octet(s, VERSION_PLACE) / VERSION_WORTH == OPEN_VERSION;
     let same = octets::read16(s, LENGTH_PLACE) == s.len();
     let openHeaded = octets::both(octets::both(class, kind), version);
     octets::both(openHeaded, octets::both(same, s.len() % UNIT == 0))

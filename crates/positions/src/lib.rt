@@ -6,10 +6,10 @@ ghost use mathlib.Core.Path.{_≡_};
 ghost use Rattle.positions.specs.Positions.{usableSetup, firstTwo, flagAt};
 
 // The last position that A and R can have.
-const LAST: u64 = 13;
+const LAST_POSITION: u64 = 13;
 
 // The position that is worth 1.
-const LOWEST: u64 = 15;
+const LOWEST_POSITION: u64 = 15;
 
 // Where A and R stand.
 pub struct Setup {
@@ -28,10 +28,10 @@ pub fn first_two() -> Setup
 pub fn usable(p: Setup) -> bool
     ensures usable { λ x. ⌜ x ≡ usableSetup p ⌝ }
 {
-    if LAST < p.a {
+    if LAST_POSITION < p.a {
         return false;
     }
-    if LAST < p.r {
+    if LAST_POSITION < p.r {
         return false;
     }
     p.a != p.r
@@ -41,8 +41,8 @@ pub fn usable(p: Setup) -> bool
 pub fn flag(flags: usize, p: u64) -> bool
     ensures flag { λ x. ⌜ x ≡ flagAt p flags ⌝ }
 {
-    if LOWEST < p {
+    if LOWEST_POSITION < p {
         return false;
     }
-    (flags >> (LOWEST - p)) % 2 == 1
+    (flags >> (LOWEST_POSITION - p)) % 2 == 1
 }

@@ -10,7 +10,7 @@ ghost use Rattle.objects.specs.Objects.{header};
 ghost use Rattle.forms.specs.Forms.{srv6Form, flagIn};
 ghost use Rattle.subobject.specs.Layout.{naiPlace};
 ghost use Rattle.route_limit.specs.FirstOff.{isAdjacency, ownAdjacency, limitFor, sessionFor};
-use head_end::ADDRESS;
+use head_end::ADDRESS_SIZE;
 use msd::ABSENT;
 use objects::HEADER;
 use session::Limit;
@@ -20,9 +20,9 @@ use subobject::LINK_LOCAL;
 use subobject::WORTH_NT;
 
 // The places of NT and of the flags of the first segment.
-const NT_PLACE: usize = HEADER + 2;
+const FIRST_NT: usize = HEADER + 2;
 
-const FLAGS_PLACE: usize = HEADER + 3;
+const FIRST_FLAGS: usize = HEADER + 3;
 
 // Whether an NT is that of an adjacency.
 fn adjacency(nt: usize) -> bool
@@ -45,14 +45,14 @@ fn local_place(flags: usize) -> usize
 fn own_adjacency(s: &[u8], addresses: &[u8]) -> bool
     ensures own { λ r. ⌜ r ≡ ownAdjacency (now (s .entry)) (now (addresses .entry)) ⌝ }
 {
-    if !adjacency(octets::octet(s, NT_PLACE) / WORTH_NT) {
+    if !adjacency(octets::octet(s, FIRST_NT) / WORTH_NT) {
         return false;
     }
-    let at = local_place(octets::octet(s, FLAGS_PLACE));
-    if s.len() < at + ADDRESS {
+    let at = local_place(octets::octet(s, FIRST_FLAGS));
+    if s.len() < at + ADDRESS_SIZE {
         return false;
     }
-    head_end::has(addresses, &s[at..at + ADDRESS])
+    head_end::has(addresses, &s[at..at + ADDRESS_SIZE])
 }
 
 // The limit for a route. The addresses are looked at only where A decides: R is not agreed, and H.Encaps is there.

@@ -1,5 +1,5 @@
 // How many rules a subobject has, and their order.
-pub const RULES: usize = 7;
+pub const RULE_COUNT: usize = 7;
 
 pub const ORDER: [usize; 7] = [
     answers::NAI_UNKNOWN,

@@ -27,7 +27,7 @@ pub fn walk(form: Form, s: &[u8], ero: bool, n: bool, count: usize) -> Verdict
         let h = subobject::head_at(form, s, at, ero);
         let next = at + h.size;
         let mut k: usize = 0;
-        while k < order::RULES {
+        while k < order::RULE_COUNT {
             let number = order::ORDER[k];
             if subobject_numbered::breaks(form, s, at, h, ero, n, number) {
                 break 'walk answers::refused(number, subobject_numbered::place(number, at));

@@ -8,10 +8,10 @@ ghost use Rattle.setup_types.specs.SetupTypes.{typesAt, hasOf, listSize,
 pub const PATH_SETUP: usize = 34;
 
 // The place of the count.
-const COUNT: usize = 3;
+const COUNT_AT: usize = 3;
 
 // The place of the first setup type.
-const TYPES: usize = 4;
+const TYPES_AT: usize = 4;
 
 // Whether x is among the octets.
 fn has(p: &[u8], x: u8) -> bool
@@ -31,7 +31,7 @@ fn has(p: &[u8], x: u8) -> bool
 pub fn list_size(v: &[u8]) -> usize
     ensures size { λ r. ⌜ (r ≡ listSize (now (v .entry))) × (typesAt ≤ r) × (r < 264) ⌝ }
 {
-    TYPES + octets::padded(octets::octet(v, COUNT))
+    TYPES_AT + octets::padded(octets::octet(v, COUNT_AT))
 }
 
 // Whether a setup type is listed. Padding is no setup type.
@@ -39,6 +39,6 @@ pub fn lists(v: &[u8], kind: u8) -> bool
     requires { ⌜ listSize (now v) ≤ length (now v) ⌝ }
     ensures listed { λ r. ⌜ r ≡ listsType kind (now (v .entry)) ⌝ }
 {
-    let end = TYPES + octets::octet(v, COUNT);
-    has(&v[TYPES..end], kind)
+    let end = TYPES_AT + octets::octet(v, COUNT_AT);
+    has(&v[TYPES_AT..end], kind)
 }

@@ -14,14 +14,14 @@ pub const ADJACENCY: usize = 4;
 pub const LINK_LOCAL: usize = 6;
 
 // what a segment keeps for an NAI and for a SID
-pub const NAI_LENGTH: usize = objects::NAI_LENGTH;
+pub const NAI_SIZE: usize = objects::NAI_SIZE;
 
-pub const SID_LENGTH: usize = objects::SID_LENGTH;
+pub const SID_SIZE: usize = objects::SID_SIZE;
 
 // the endpoint behaviour; the SID structure and its four bit lengths
 pub const BEHAVIOUR_PLACE: usize = 6;
 
-pub const STRUCTURE_LENGTH: usize = 8;
+pub const STRUCTURE_SIZE: usize = 8;
 
 pub const BIT_LENGTHS: usize = 4;
 
@@ -56,7 +56,7 @@ pub fn expected(form: Form, nt: usize, s: usize, t: usize) -> usize
     let fixed = octets::wide(form.fixed);
     let sid = octets::wide(form.sid);
     if structure_there(s, t) {
-        return sum_of(fixed, sid, forms::nai_length(form, nt), STRUCTURE_LENGTH);
+        return sum_of(fixed, sid, forms::nai_length(form, nt), STRUCTURE_SIZE);
     }
     if s == 0 {
         return sum_of(fixed, sid, forms::nai_length(form, nt), 0);

@@ -4,7 +4,7 @@ ghost use mathlib.Core.Path.{_≡_};
 ghost use Prim.Native.Nat.{_<_};
 ghost use Rattle.subobject.specs.Segments.{outlineOf};
 
-// A type takes no named length: 16 is SID_LENGTH, 40 NAI_LENGTH, 4 BIT_LENGTHS, here and wherever an array of them is made.
+// A type takes no named length: 16 is SID_SIZE, 40 NAI_SIZE, 4 BIT_LENGTHS, here and wherever an array of them is made.
 pub struct Segment {
     pub loose: bool,
     pub verify: bool,

@@ -16,7 +16,7 @@ fn expected(form: Form, h: Head, nai: usize) -> usize
 {
     let fixed = octets::wide(form.fixed);
     let sid = octets::pick(h.s == 0, octets::wide(form.sid), 0);
-    let structure = octets::pick(subobject::structured(h), subobject::STRUCTURE_LENGTH, 0);
+    let structure = octets::pick(subobject::structured(h), subobject::STRUCTURE_SIZE, 0);
     fixed + sid + nai + structure
 }
 
@@ -61,7 +61,7 @@ pub fn structure_sound(form: Form, s: &[u8], at: usize, h: Head) -> bool
     ensures sound { λ r. ⌜ (r ≡ true → rule11 h (bitsAt form h (now (s .entry)) at) ≡ false) ⌝ }
 {
     if subobject::structured(h) {
-        return sum_in(s, at + h.size - subobject::STRUCTURE_LENGTH) <= subobject::MOST_BITS;
+        return sum_in(s, at + h.size - subobject::STRUCTURE_SIZE) <= subobject::MOST_BITS;
     }
     true
 }

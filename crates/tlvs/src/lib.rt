@@ -15,7 +15,7 @@ ghost use lib.ListN.{length};
 ghost use Rattle.tlvs.specs.Places.{itemAt, Within};
 
 // The octets of type and length.
-pub const HEAD: usize = 4;
+pub const TLV_HEAD: usize = 4;
 
 // One TLV: its type, where its value starts, its length, and where the next one starts.
 pub enum Item {
@@ -43,16 +43,16 @@ pub fn item_at(s: &[u8], at: usize, end: usize, short: bool) -> Item
     ensures within { λ r. ⌜ Within at end r ⌝ }
 {
     let room = end - at;
-    if room < HEAD {
+    if room < TLV_HEAD {
         return Item::Broken;
     }
     let kind = octets::read16(s, at);
     let len = octets::read16(s, at + 2);
     let padded = octets::padded(len);
-    if room < HEAD + needed(short, len, padded) {
+    if room < TLV_HEAD + needed(short, len, padded) {
         return Item::Broken;
     }
-    let from = at + HEAD;
+    let from = at + TLV_HEAD;
     Item::One {
         kind,
         from,

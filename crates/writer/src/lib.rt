@@ -34,7 +34,7 @@ pub fn add_srv6(
     if front == 0 {
         return writer_state::refuse(writer_rules::adding_barred(form, h, n), writer);
     }
-    let size = front + n + octets::pick(o.structured, subobject::STRUCTURE_LENGTH, 0);
+    let size = front + n + octets::pick(o.structured, subobject::STRUCTURE_SIZE, 0);
     let number = writer_rules::adding_unlabelled(
         form,
         buf.len(),
@@ -81,7 +81,7 @@ pub fn add_mpls(
     if front == 0 {
         return writer_state::refuse(writer_rules::adding_barred(form, h, n), writer);
     }
-    let size = front + n + octets::pick(o.structured, subobject::STRUCTURE_LENGTH, 0);
+    let size = front + n + octets::pick(o.structured, subobject::STRUCTURE_SIZE, 0);
     let number = writer_rules::adding_unstructured(
         form,
         buf.len(),

@@ -13,9 +13,9 @@ use writer_state::Written;
 const TYPE_OCTET: u8 = (objects::OBJECT_TYPE * objects::TYPE_WORTH) as u8;
 
 // The two octets of an object's length.
-const HIGH: usize = objects::LENGTH_PLACE;
+const LENGTH_HIGH: usize = objects::LENGTH_PLACE;
 
-const LOW: usize = objects::LENGTH_PLACE + 1;
+const LENGTH_LOW: usize = objects::LENGTH_PLACE + 1;
 
 // The number that the state keeps for a setup type.
 fn kept_form(pst: u64) -> u8
@@ -37,8 +37,8 @@ pub fn begin(buf: &mut [u8], writer: Writer, ero: bool, pst: u64) -> Written
     }
     buf[objects::CLASS_PLACE] = octets::pick(ero, objects::ERO_CLASS, objects::RRO_CLASS) as u8;
     buf[objects::TYPE_PLACE] = TYPE_OCTET;
-    buf[HIGH] = 0;
-    buf[LOW] = objects::HEADER as u8;
+    buf[LENGTH_HIGH] = 0;
+    buf[LENGTH_LOW] = objects::HEADER as u8;
     writer_state::accept(Writer {
         ero: ero,
         at: objects::HEADER,
@@ -56,7 +56,7 @@ pub fn finish(buf: &mut [u8], writer: Writer) -> Written
         return writer_state::refuse(number, writer);
     }
     let at = writer.at;
-    buf[HIGH] = (at / 256 % 256) as u8;
-    buf[LOW] = (at % 256) as u8;
+    buf[LENGTH_HIGH] = (at / 256 % 256) as u8;
+    buf[LENGTH_LOW] = (at % 256) as u8;
     writer_state::accept(writer)
 }

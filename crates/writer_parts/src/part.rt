@@ -18,7 +18,7 @@ pub fn lay_sid(out: &mut [u8], form: Form, sid: &[u8], there: bool)
     }
     if form.behaves {
         let f = forms::srv6();
-        let whole = octets::part16(sid, 0, subobject::SID_LENGTH);
+        let whole = octets::part16(sid, 0, subobject::SID_SIZE);
         octets::lay(out, octets::wide(f.fixed), &whole);
         return;
     }
@@ -32,7 +32,7 @@ fn lay_first(out: &mut [u8], at: usize, nai: &[u8], m: usize)
     requires { ⌜ (length (now nai) ≡ naiSize) × (m ≤ naiSize) × (at + m ≤ length (now out)) ⌝ }
     ensures laid { λ _. ⌜ now (out .exit) ≡ placed (now (out .entry)) at (take m (now (nai .entry))) ⌝ }
 {
-    let whole = octets::part40(nai, 0, subobject::NAI_LENGTH);
+    let whole = octets::part40(nai, 0, subobject::NAI_SIZE);
     octets::lay(out, at, &whole[..m]);
 }
 
