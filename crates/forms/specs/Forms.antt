@@ -5,6 +5,47 @@ use lib.Dec.{eqb}
 use Rattle.objects.specs.Objects.{mplsSetup, srv6Setup}
 use Rattle.forms.specs.declared.Form.{Form}
 
+-- Values of NT: no NAI; a node of IPv4 and of IPv6; an adjacency of either; an unnumbered adjacency; a link-local adjacency (RFC 8664, 4.3.1).
+abbrev pub noNai : ℕ
+noNai = 0
+
+abbrev pub ipv4Node : ℕ
+ipv4Node = 1
+
+abbrev pub node : ℕ
+node = 2
+
+abbrev pub ipv4Adjacency : ℕ
+ipv4Adjacency = 3
+
+abbrev pub adjacency : ℕ
+adjacency = 4
+
+abbrev pub unnumbered : ℕ
+unnumbered = 5
+
+abbrev pub linkLocal : ℕ
+linkLocal = 6
+
+-- The octets of these NAIs (RFC 8664, 4.3.2).
+abbrev pub ipv4NodeSize : ℕ
+ipv4NodeSize = 4
+
+abbrev pub nodeSize : ℕ
+nodeSize = 16
+
+abbrev pub ipv4AdjacencySize : ℕ
+ipv4AdjacencySize = 8
+
+abbrev pub adjacencySize : ℕ
+adjacencySize = 32
+
+abbrev pub unnumberedSize : ℕ
+unnumberedSize = 16
+
+abbrev pub linkLocalSize : ℕ
+linkLocalSize = 40
+
 -- The lengths of the NAIs for NT 1 to 6 are one number, with an octet for each: what that octet is worth.
 abbrev pub nt1 : ℕ
 nt1 = 256
@@ -40,7 +81,7 @@ srv6Form =
       m = 0;
       free = 16;
       behaves = true;
-      nais = 16 * nt2 + 32 * nt4 + 40 * nt6;
+      nais = nodeSize * nt2 + adjacencySize * nt4 + linkLocalSize * nt6;
     }
 
 -- RFC 8664, 4.3.1: type 36; the last four flags are F, S, C, M, with M lowest, and V stands before them (document 003); NAI for NT 1 to 6.
@@ -59,7 +100,8 @@ mplsForm =
       m = 1;
       free = 32;
       behaves = false;
-      nais = 4 * nt1 + 16 * nt2 + 8 * nt3 + 32 * nt4 + 16 * nt5 + 40 * nt6;
+      nais =
+          ipv4NodeSize * nt1 + nodeSize * nt2 + ipv4AdjacencySize * nt3 + adjacencySize * nt4 + unnumberedSize * nt5 + linkLocalSize * nt6;
     }
 
 -- "The form that the PST names, SRv6's if it names none."
@@ -77,19 +119,25 @@ octetAt n w = n / w % 256
 -- The octets of the NAI for an NT.
 unfoldable pub naiLength : Form → ℕ → ℕ
 naiLength form nt =
-    cond (eqb nt 1) (octetAt (form .nais) nt1)
-    (cond (eqb nt 2) (octetAt (form .nais) nt2)
-    (cond (eqb nt 3) (octetAt (form .nais) nt3)
-    (cond (eqb nt 4) (octetAt (form .nais) nt4) (cond (eqb nt 5) (octetAt (form .nais) nt5) (cond (eqb nt 6) (octetAt (form .nais) nt6) 0)))))
+    cond (eqb nt ipv4Node) (octetAt (form .nais) nt1)
+    (cond (eqb nt node) (octetAt (form .nais) nt2)
+    (cond (eqb nt ipv4Adjacency) (octetAt (form .nais) nt3)
+    (cond (eqb nt adjacency) (octetAt (form .nais) nt4)
+    (cond (eqb nt unnumbered) (octetAt (form .nais) nt5)
+    (cond (eqb nt linkLocal) (octetAt (form .nais) nt6) 0)))))
 
 -- The same in the papers' words, one for each form: "NAI: NT 0 none, 2 node 16, 4 adjacency 32, 6 link-local adjacency 40" (document 01),
 abbrev pub srv6Nai : ℕ → ℕ
-srv6Nai nt = cond (eqb nt 2) 16 (cond (eqb nt 4) 32 (cond (eqb nt 6) 40 0))
+srv6Nai nt = cond (eqb nt node) nodeSize (cond (eqb nt adjacency) adjacencySize (cond (eqb nt linkLocal) linkLocalSize 0))
 
 -- and NT 1 and 2, a node of IPv4 and of IPv6; 3 and 4, an adjacency of either; 5, an unnumbered adjacency; 6, a link-local adjacency (RFC 8664, 4.3.1 and 4.3.2).
 abbrev pub mplsNai : ℕ → ℕ
-mplsNai nt = cond (eqb nt 1) 4 (cond (eqb nt 2) 16 (cond (eqb nt 3) 8 (cond (eqb nt 4) 32 (cond (eqb nt 5) 16 (cond (eqb nt 6) 40 0)))))
+mplsNai nt =
+    cond (eqb nt ipv4Node) ipv4NodeSize
+    (cond (eqb nt node) nodeSize
+    (cond (eqb nt ipv4Adjacency) ipv4AdjacencySize
+    (cond (eqb nt adjacency) adjacencySize (cond (eqb nt unnumbered) unnumberedSize (cond (eqb nt linkLocal) linkLocalSize 0)))))
 
 -- Whether the form knows an NT.
 unfoldable pub knows : Form → ℕ → Bool
-knows form nt = eqb nt 0 || not (eqb (naiLength form nt) 0)
+knows form nt = eqb nt noNai || not (eqb (naiLength form nt) 0)

@@ -15,6 +15,34 @@ ghost use Rattle.forms.specs.Forms.{srv6Form, mplsForm, formOf, flagIn, 
 use objects::MPLS_SETUP;
 use objects::SRV6_SETUP;
 
+// values of NT: no NAI; a node of IPv4 and of IPv6; an adjacency of either; one of two nodes with an interface of each; one of link-local addresses
+pub const NO_NAI: usize = 0;
+
+pub const IPV4_NODE: usize = 1;
+
+pub const NODE: usize = 2;
+
+pub const IPV4_ADJACENCY: usize = 3;
+
+pub const ADJACENCY: usize = 4;
+
+pub const UNNUMBERED: usize = 5;
+
+pub const LINK_LOCAL: usize = 6;
+
+// the octets of these NAIs
+pub const IPV4_NODE_SIZE: usize = 4;
+
+pub const NODE_SIZE: usize = 16;
+
+pub const IPV4_ADJACENCY_SIZE: usize = 8;
+
+pub const ADJACENCY_SIZE: usize = 32;
+
+pub const UNNUMBERED_SIZE: usize = 16;
+
+pub const LINK_LOCAL_SIZE: usize = 40;
+
 // what the octet of an NT is worth among the lengths of NAIs
 const NT1: u64 = 256;
 
@@ -28,16 +56,28 @@ const NT5: u64 = 1099511627776;
 
 const NT6: u64 = 281474976710656;
 
+// 1 for NT 0 and for each NT of these
+pub const EACH_NT: u64 = 1 + NT1 + NT2 + NT3 + NT4 + NT5 + NT6;
+
 // the lengths of SRv6's NAIs and of MPLS's
-const SRV6_NAIS: u64 = 16 * NT2 + 32 * NT4 + 40 * NT6;
+const SRV6_NAIS: u64 = NODE_SIZE as u64 * NT2
+    + ADJACENCY_SIZE as u64 * NT4
+    + LINK_LOCAL_SIZE as u64 * NT6;
 
-const MPLS_NAIS: u64 = 4 * NT1 + 16 * NT2 + 8 * NT3 + 32 * NT4 + 16 * NT5 + 40 * NT6;
+pub const MPLS_NAIS: u64 = SRV6_NAIS
+    + IPV4_NODE_SIZE as u64 * NT1
+    + IPV4_ADJACENCY_SIZE as u64 * NT3
+    + UNNUMBERED_SIZE as u64 * NT5;
 
-// what S is worth in octet 3 of MPLS
+// what S is worth in octet 3 of MPLS; its octets before the SID, and those of the SID
 pub const MPLS_S: usize = 4;
 
+pub const MPLS_FIXED: usize = 4;
+
+pub const MPLS_SID: usize = 4;
+
 // the last NT that a form may know
-const LAST_NT: usize = 6;
+const LAST_NT: usize = LINK_LOCAL;
 
 // A form in numbers. A flag worth 0 is one that the form has not; an NAI of no octets belongs to an NT that it does not know.
 pub struct Form {
@@ -87,8 +127,8 @@ pub fn mpls() -> Form
     Form {
         setup: MPLS_SETUP as u8,
         kind: 36,
-        fixed: 4,
-        sid: 4,
+        fixed: MPLS_FIXED as u8,
+        sid: MPLS_SID as u8,
         v: 16,
         t: 0,
         f: 8,
@@ -126,7 +166,7 @@ pub fn flag(octet: usize, worth: u8) -> usize
 pub fn nai_length(form: Form, nt: usize) -> usize
     ensures length { λ r. ⌜ (r ≡ naiLength form nt) × (r ≤ 255) ⌝ }
 {
-    if nt == 0 {
+    if nt == NO_NAI {
         return 0;
     }
     if LAST_NT < nt {
@@ -139,5 +179,5 @@ pub fn nai_length(form: Form, nt: usize) -> usize
 pub fn known(form: Form, nt: usize) -> bool
     ensures known { λ r. ⌜ r ≡ knows form nt ⌝ }
 {
-    octets::either(nt == 0, nai_length(form, nt) != 0)
+    octets::either(nt == NO_NAI, nai_length(form, nt) != 0)
 }

@@ -12,9 +12,9 @@ use Rattle.session.specs.declared.Limit.{Limit}
 use Rattle.session.specs.declared.Session.{Session}
 use Rattle.msd.specs.Msd.{depthIn}
 use Rattle.msd_limit.specs.Limits.{oneMoreBy}
-use Rattle.forms.specs.Forms.{srv6Form}
+use Rattle.forms.specs.Forms.{adjacency, linkLocal, srv6Form}
 use Rattle.subobject.specs.declared.head.Head.{Head}
-use Rattle.subobject.specs.Layout.{adjacency, linkLocal, naiPlace, headAt}
+use Rattle.subobject.specs.Layout.{naiPlace, headAt}
 use Rattle.head_end.specs.Addresses.{addressSize, hasAddress}
 
 -- "has NT 4 or 6"

@@ -10,13 +10,13 @@ ghost use Rattle.objects.specs.Objects.{header};
 ghost use Rattle.forms.specs.Forms.{srv6Form, flagIn};
 ghost use Rattle.subobject.specs.Layout.{naiPlace};
 ghost use Rattle.route_limit.specs.FirstOff.{isAdjacency, ownAdjacency, limitFor, sessionFor};
+use forms::ADJACENCY;
+use forms::LINK_LOCAL;
 use head_end::ADDRESS_SIZE;
 use msd::ABSENT;
 use objects::HEADER;
 use session::Limit;
 use session::Session;
-use subobject::ADJACENCY;
-use subobject::LINK_LOCAL;
 use subobject::WORTH_NT;
 
 // The places of NT and of the flags of the first segment.

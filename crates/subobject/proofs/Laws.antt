@@ -10,9 +10,9 @@ use borrow.Author.Tests.{eq-eqb, ne-eqb, eqb-true, eqb-false, not-true, not-fals
 use Rattle.octets.proofs.Said.{both-true, either-false}
 use Rattle.forms.specs.declared.Form.{Form}
 use Rattle.forms.specs.Sized.{Shortest}
-use Rattle.forms.specs.Forms.{flagIn, naiLength, knows}
+use Rattle.forms.specs.Forms.{noNai, flagIn, naiLength, knows}
 use Rattle.subobject.specs.declared.head.Head.{Head}
-use Rattle.subobject.specs.Layout.{noNai, structureThere, expectedLength, worthL, worthNT, kindOf, headOf, headAt}
+use Rattle.subobject.specs.Layout.{structureThere, expectedLength, worthL, worthNT, kindOf, headOf, headAt}
 use Rattle.subobject.specs.Rules.{rule7, rule8, rule9, flagF}
 
 -- lengths ------------------------------------------------------------------------------------------------------

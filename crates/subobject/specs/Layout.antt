@@ -10,19 +10,6 @@ use Rattle.forms.specs.declared.Form.{Form}
 use Rattle.forms.specs.Forms.{flagIn, naiLength}
 use Rattle.subobject.specs.declared.head.Head.{Head}
 
--- "NAI: NT 0 none, 2 node 16, 4 adjacency 32, 6 link-local adjacency 40."
-abbrev pub noNai : ℕ
-noNai = 0
-
-abbrev pub node : ℕ
-node = 2
-
-abbrev pub adjacency : ℕ
-adjacency = 4
-
-abbrev pub linkLocal : ℕ
-linkLocal = 6
-
 -- "6-7 endpoint behaviour", where the form has one.
 abbrev pub behaviourPlace : ℕ
 behaviourPlace = 6

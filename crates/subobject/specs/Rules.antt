@@ -7,9 +7,9 @@ use lib.Dec.{eqb, ltb}
 use Rattle.answers.specs.Numbers.{naiUnknown, nothingThere, lengthWrong, sidNeeded, structureTooLong, labelValue, labelFormat}
 use Rattle.octets.specs.Octets.{octetOf}
 use Rattle.forms.specs.declared.Form.{Form}
-use Rattle.forms.specs.Forms.{knows}
+use Rattle.forms.specs.Forms.{noNai, knows}
 use Rattle.subobject.specs.declared.head.Head.{Head}
-use Rattle.subobject.specs.Layout.{noNai, expectedLength, structureThere, sidPlace, structurePlace, headAt}
+use Rattle.subobject.specs.Layout.{expectedLength, structureThere, sidPlace, structurePlace, headAt}
 
 -- 8: "NT not 0, 2, 4, 6": an NT that the form does not know.
 unfoldable pub rule8 : Form → Head → Bool

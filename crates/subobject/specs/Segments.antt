@@ -7,11 +7,11 @@ use lib.Dec.{eqb}
 use lib.ListN.{take, replicate}
 use Rattle.octets.specs.Octets.{be16, hi, lo, partOf}
 use Rattle.forms.specs.declared.Form.{Form}
-use Rattle.forms.specs.Forms.{naiLength}
+use Rattle.forms.specs.Forms.{noNai, naiLength}
 use Rattle.subobject.specs.declared.head.Head.{Head}
 use Rattle.subobject.specs.declared.segment.Outline.{Outline}
 use Rattle.subobject.specs.declared.segment.Segment.{Segment}
-use Rattle.subobject.specs.Layout.{noNai, naiSize, behaviourPlace, sidSize, sidLength, bitLengths, expectedLength, sidPlace, naiPlace, structurePlace, headAt}
+use Rattle.subobject.specs.Layout.{naiSize, behaviourPlace, sidSize, sidLength, bitLengths, expectedLength, sidPlace, naiPlace, structurePlace, headAt}
 use Rattle.subobject.specs.Layout.{worthL, worthNT}
 use Rattle.subobject.specs.Rules.{flagF, hasStructure, sumAt}
 

@@ -81,7 +81,7 @@ pub fn head_of(form: Form, o: Outline) -> Head
         size: parts::expected(form, nt, s, t),
         nt: nt,
         s: s,
-        f: bit(nt == parts::NO_NAI),
+        f: bit(nt == forms::NO_NAI),
         t: t,
         v: bit(o.verify),
         l: bit(o.loose),

@@ -4,15 +4,6 @@ ghost use Prim.Native.Nat.{_+_, _≤_};
 ghost use Rattle.subobject.specs.Layout.{structureThere, expectedLength, longest};
 use forms::Form;
 
-// values of NT
-pub const NO_NAI: usize = 0;
-
-pub const NODE: usize = 2;
-
-pub const ADJACENCY: usize = 4;
-
-pub const LINK_LOCAL: usize = 6;
-
 // what a segment keeps for an NAI and for a SID
 pub const NAI_SIZE: usize = objects::NAI_SIZE;
 

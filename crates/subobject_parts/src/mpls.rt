@@ -7,13 +7,6 @@ ghost use Rattle.octets.specs.Octets.{partOf};
 ghost use Rattle.forms.specs.Forms.{mplsForm, naiLength, knows};
 use super::eights;
 
-// values of NT that only MPLS knows: an IPv4 node, an IPv4 adjacency, an adjacency of two nodes with an interface of each
-const NODE_4: usize = 1;
-
-const ADJACENCY_4: usize = 3;
-
-const UNNUMBERED: usize = 5;
-
 // The SID at a place, if there is one.
 pub fn sid_mpls(s: &[u8], at: usize, there: bool) -> [u8; 16]
     requires { ⌜ at + cond there (mplsForm .sid) 0 ≤ length (now s) ⌝ }
@@ -30,22 +23,22 @@ pub fn nai_mpls(s: &[u8], at: usize, nt: usize) -> [u8; 40]
     requires { ⌜ (at + naiLength mplsForm nt ≤ length (now s)) × (knows mplsForm nt ≡ true) ⌝ }
     ensures part { λ r. ⌜ r ≡ partOf (now (s .entry)) at (naiLength mplsForm nt) 40 ⌝ }
 {
-    if nt == subobject::NO_NAI {
+    if nt == forms::NO_NAI {
         return [0u8; 40];
     }
-    if nt == NODE_4 {
-        return octets::part40(s, at, forms::nai_length(forms::mpls(), NODE_4));
+    if nt == forms::IPV4_NODE {
+        return octets::part40(s, at, forms::nai_length(forms::mpls(), forms::IPV4_NODE));
     }
-    if nt == subobject::NODE {
+    if nt == forms::NODE {
         return eights::nai_16(s, at);
     }
-    if nt == ADJACENCY_4 {
+    if nt == forms::IPV4_ADJACENCY {
         return eights::nai_8(s, at);
     }
-    if nt == subobject::ADJACENCY {
+    if nt == forms::ADJACENCY {
         return eights::nai_32(s, at);
     }
-    if nt == UNNUMBERED {
+    if nt == forms::UNNUMBERED {
         return eights::nai_16(s, at);
     }
     eights::nai_40(s, at)

@@ -23,13 +23,13 @@ pub fn nai_srv6(s: &[u8], at: usize, nt: usize) -> [u8; 40]
     requires { ⌜ (at + naiLength srv6Form nt ≤ length (now s)) × (knows srv6Form nt ≡ true) ⌝ }
     ensures part { λ r. ⌜ r ≡ partOf (now (s .entry)) at (naiLength srv6Form nt) 40 ⌝ }
 {
-    if nt == subobject::NO_NAI {
+    if nt == forms::NO_NAI {
         return [0u8; 40];
     }
-    if nt == subobject::NODE {
+    if nt == forms::NODE {
         return eights::nai_16(s, at);
     }
-    if nt == subobject::ADJACENCY {
+    if nt == forms::ADJACENCY {
         return eights::nai_32(s, at);
     }
     eights::nai_40(s, at)

@@ -35,7 +35,7 @@ pub fn seven(form: Form, h: Head) -> bool
     ensures broken { λ r. ⌜ r ≡ rule7 form h ⌝ }
 {
     octets::either(
-        h.f != octets::pick(h.nt == subobject::NO_NAI, 1, 0),
+        h.f != octets::pick(h.nt == forms::NO_NAI, 1, 0),
         octets::either(
             h.size != subobject::expected(form, h.nt, h.s, h.t),
             is_malformed(h),

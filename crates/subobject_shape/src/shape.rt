@@ -29,7 +29,8 @@ const WITH_SID: usize = 4522122;
 const NAMED: usize = 4294961833;
 
 // An octet for each NT to 6: the length with a SID.
-const LENGTHS: usize = 13537359229881352;
+const LENGTHS: usize = (forms::MPLS_NAIS
+    + (forms::MPLS_FIXED + forms::MPLS_SID) as u64 * forms::EACH_NT) as usize;
 
 // the low bits of octet 3 that are F, S, C and M
 const FOUR_BITS: usize = 16;
@@ -51,7 +52,7 @@ fn fits(needed: bool, size: usize, high: usize, low: usize) -> bool
     if (allowed(needed) >> (2 * flags)) % 4 != (NAMED >> (2 * nt)) % 4 {
         return false;
     }
-    size + flags / forms::MPLS_S % 2 * 4 == (LENGTHS >> (8 * nt)) % 256
+    size + flags / forms::MPLS_S % 2 * forms::MPLS_SID == (LENGTHS >> (8 * nt)) % 256
 }
 
 // The same of the subobject at a place, which has the head h.

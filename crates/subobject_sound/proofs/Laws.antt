@@ -10,9 +10,9 @@ use borrow.Author.Tests.{eq-eqb, eqb-true, le-ltb, leb-true, not-true}
 use Rattle.octets.specs.Octets.{octetOf}
 use Rattle.octets.proofs.Said.{both-true}
 use Rattle.forms.specs.declared.Form.{Form}
-use Rattle.forms.specs.Forms.{naiLength, knows}
+use Rattle.forms.specs.Forms.{noNai, naiLength, knows}
 use Rattle.subobject.specs.declared.head.Head.{Head}
-use Rattle.subobject.specs.Layout.{noNai, sidLength, structureThere, structureLength, expectedLength, structurePlace, sidPlace}
+use Rattle.subobject.specs.Layout.{sidLength, structureThere, structureLength, expectedLength, structurePlace, sidPlace}
 use Rattle.subobject.specs.Rules.{rule7, rule8, rule11, rule29, rule30, flagF, malformed, mostBits, hasStructure, hasLabel, sumAt, bitsAt, labelAt, timeAt}
 
 -- 8: an NT other than 0 has an NAI.

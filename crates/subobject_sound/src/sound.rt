@@ -25,7 +25,7 @@ pub fn head_sound(form: Form, h: Head, ero: bool, n: bool) -> bool
     ensures sound { λ r. ⌜ (r ≡ true → (rule8 form h ≡ false) × (rule9 h ≡ false) × (rule7 form h ≡ false) × (rule10 h ero n ≡ false)) ⌝ }
 {
     let nai = forms::nai_length(form, h.nt);
-    let bare = h.nt == subobject::NO_NAI;
+    let bare = h.nt == forms::NO_NAI;
     if octets::both(!bare, nai == 0) {
         return false;
     }

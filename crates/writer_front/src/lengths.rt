@@ -74,11 +74,11 @@ pub fn nai_octets(form: Form, nt: usize) -> usize
     requires { ⌜ Known form ⌝ }
     ensures octets { λ r. ⌜ (r ≡ naiLength form nt) × (r ≤ 255) ⌝ }
 {
-    if nt == subobject::NO_NAI {
+    if nt == forms::NO_NAI {
         return 0;
     }
-    if nt == subobject::LINK_LOCAL {
-        return forms::nai_length(forms::srv6(), subobject::LINK_LOCAL);
+    if nt == forms::LINK_LOCAL {
+        return forms::nai_length(forms::srv6(), forms::LINK_LOCAL);
     }
     forms::nai_length(form, nt)
 }

@@ -44,23 +44,23 @@ pub fn lay_nai(out: &mut [u8], at: usize, nai: &[u8], n: usize)
     if n == 0 {
         return;
     }
-    if n > 32 {
-        lay_first(out, at, nai, 40);
+    if n > forms::ADJACENCY_SIZE {
+        lay_first(out, at, nai, forms::LINK_LOCAL_SIZE);
         return;
     }
-    if n > 16 {
-        lay_first(out, at, nai, 32);
+    if n > forms::NODE_SIZE {
+        lay_first(out, at, nai, forms::ADJACENCY_SIZE);
         return;
     }
-    if n > 8 {
-        lay_first(out, at, nai, 16);
+    if n > forms::IPV4_ADJACENCY_SIZE {
+        lay_first(out, at, nai, forms::NODE_SIZE);
         return;
     }
-    if n > 4 {
-        lay_first(out, at, nai, 8);
+    if n > forms::IPV4_NODE_SIZE {
+        lay_first(out, at, nai, forms::IPV4_ADJACENCY_SIZE);
         return;
     }
-    lay_first(out, at, nai, 4);
+    lay_first(out, at, nai, forms::IPV4_NODE_SIZE);
 }
 
 // A SID structure from the place `at` on, if it is there.

@@ -27,7 +27,7 @@ fn nameless(form: Form, h: Head, n: usize) -> usize
     if subobject_rules::nine(h) {
         return answers::NOTHING_THERE;
     }
-    if h.nt != subobject::NO_NAI {
+    if h.nt != forms::NO_NAI {
         return answers::NAI_UNKNOWN;
     }
     0

@@ -72,22 +72,22 @@ fn nai_tidy(nai: &[u8], n: usize) -> bool
     requires { ⌜ (length (now nai) ≡ naiSize) × Step n ⌝ }
     ensures tidy { λ r. ⌜ r ≡ zeros (drop n (now (nai .entry))) ⌝ }
 {
-    if n == 40 {
+    if n == forms::LINK_LOCAL_SIZE {
         return true;
     }
     let last = blank8(nai, 32);
     if n == 0 {
         return octets::both(blank16(nai, 0), octets::both(blank16(nai, 16), last));
     }
-    if n == 32 {
+    if n == forms::ADJACENCY_SIZE {
         return last;
     }
     let node = octets::both(blank16(nai, 16), last);
-    if n == 16 {
+    if n == forms::NODE_SIZE {
         return node;
     }
     let eight = octets::both(blank8(nai, 8), node);
-    if n == 8 {
+    if n == forms::IPV4_ADJACENCY_SIZE {
         return eight;
     }
     octets::both(blank4(nai, 4), eight)
