@@ -54,6 +54,7 @@ static struct path *path_of(uint64_t key) {
     return NULL;
 }
 
+/* Whoever keeps mark and paths where they outlive a loss of power forgets the old mark first, and keeps the fresh one last. */
 static void start_afresh(void) {
     memset(held, 0, sizeof held);
     mark = strundevi_fresh_mark(&board);

@@ -1,6 +1,6 @@
 /* A box in C: reads two OPEN objects, writes a route, reports it, and lets another box follow.
  *
- *     cc -O2 -I include examples/route.c target/staticlib/libstrundevi.a -o route && ./route */
+ *     cc -O2 -I include examples/route.c target/staticlib/libstrundevi.a -o target/route && target/route */
 #include <stdio.h>
 #include <string.h>
 

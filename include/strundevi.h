@@ -1,12 +1,18 @@
 /* Boxes beside a tram line: read OPEN objects, judge and write SRv6 and MPLS routes, keep a board of paths that other boxes follow. C99 or later,
- * C++11 or later.
+ * C++11 or later. For x86-64 Linux.
  *
- * The form of a route is the one that its setup type names: 1 is MPLS's (RFC 8664), every other SRv6's, which only 3 is good for.
+ * Setup type 1 is MPLS (RFC 8664). Every other number is judged as SRv6, and only 3 is ever accepted.
  *
  * Link with libstrundevi.a (`rt staticlib strundevi`), which has the proved functions, strundevi_raw_NAME. The language they are written in has no
  * null, so they take no null pointer: call strundevi_NAME, at the end of this file, which tests the pointers and calls them. A null buffer,
  * and one whose length no buffer can have, counts as one of no octets and is refused by the number that an empty one gets (a list of
- * addresses then counts as none, which is no refusal); a null board is refused with 17.
+ * addresses then counts as none, which is no refusal); a null board is refused with 17. The four calls on labels and indices do not test: they take
+ * no null segment.
+ *
+ * This header, the Rust wrapper and the archive are of one version. A minor version may change the records, and nothing tests it: build all three together.
+ *
+ * Octets are as on the wire and need no alignment. An object goes in by itself, from its class octet on: no message header before it, nothing behind it;
+ * a report takes the whole ERO. Records are in the machine's own order and layout: not for sending.
  *
  * Nothing is allocated and nothing is kept between calls. A refusal is a number and a place, and leaves all lent octets and records as
  * they were. Flags are octets: 0 is no, every other number is yes, and an answer has 0 or 1.
@@ -16,7 +22,7 @@
  * Threads: strundevi_body, _next, _moved and _fresh_mark only read, so any number of readers may ask one board at once. While
  * strundevi_empty, _report, _remove or _compact runs, nobody else may use that board or its store. Different boards have nothing in common.
  *
- * A path's octets stay in the store: who was handed a path copies them before the board is changed again.
+ * A path's octets stay in the store: who was handed a path copies them before the board is changed again. What the store holds at the start does not matter.
  *
  * The caller owes what no call can test: a buffer has at least the octets that its length says, the buffers and records of one
  * call do not overlap, and nothing but these calls writes a board's record and its store, which each call gets whole and as the last one left
@@ -25,10 +31,14 @@
  * How to follow a board:
  *   1. start empty, with the mark of strundevi_fresh_mark;
  *   2. ask strundevi_next with your mark;
- *   3. a path or a removal: make the change, copy a path's octets before the board is touched again, keep the version as w (strundevi_mark_after);
- *   4. level: you hold what the board holds, and may set both s and w to its version (strundevi_mark_level);
- *   5. 23: removals that you did not see may have been dropped; empty yourself and start afresh;
- *   6. 24: something is wrong, this is not the board that you followed; the same. */
+ *   3. ask one thing at a time: an answer counts only while your mark is the one that it was asked with. Throw away one that comes late or twice;
+ *   4. a path or a removal: make the change, copy a path's octets before the board is touched again, then keep the version as w (strundevi_mark_after);
+ *   5. level: you hold what the board holds, and may set both s and w to its version (strundevi_mark_level);
+ *   6. 23: removals that you did not see may have been dropped; start afresh;
+ *   7. 24: this is not the board that you followed, or it was started anew or put back from an older copy; start afresh, and so does every other follower;
+ *   8. 17: not you but the board is at fault; keep what you hold, change nothing, tell whoever keeps the board.
+ * To start afresh: forget the mark, empty yourself, then take and keep the fresh mark. Whoever has a mark without the paths that went with it, or paths
+ * without a mark, starts afresh. */
 #ifndef STRUNDEVI_H
 #define STRUNDEVI_H
 
@@ -39,6 +49,10 @@
 
 #include <stddef.h>
 #include <stdint.h>
+
+#if SIZE_MAX != UINT64_MAX
+#error "libstrundevi.a has sizes of 64 bits"
+#endif
 
 /* On a call whose answer has to be looked at. */
 #if defined(__GNUC__) || defined(__clang__)
@@ -107,6 +121,7 @@ enum strundevi_size {
 
 enum strundevi_pst { STRUNDEVI_PST_MPLS = 1, STRUNDEVI_PST_SRV6 = 3 };
 
+/* Which object a route is. Not the object's class: 7 and 8 would both be an ERO. */
 enum strundevi_kind { STRUNDEVI_RRO = 0, STRUNDEVI_ERO = 1 };
 
 /* ---- records */
@@ -224,7 +239,7 @@ typedef struct strundevi_stepped {
 } strundevi_stepped;
 
 /* A route being written: of which kind and form (the setup type: 1 is MPLS's, every other SRv6's), and where the next segment goes. All zeros is a fine one
- * to begin with. */
+ * to begin with. Hand the writer of each answer to the next call: with an older one a segment is overwritten. */
 typedef struct strundevi_writer {
     uint8_t ero;
     uint8_t form;
@@ -241,8 +256,9 @@ typedef struct strundevi_written {
  * the oldest change to the newest, each by 1 more than the place, with 0 behind them; tops has the largest version of each 8 places; forms the setup type of
  * each path, 1 or 3, and 0 where there is none. Only the calls may change these.
  *
- * An old mark may fit a board that was started anew, and its follower would keep paths that are withdrawn: whoever starts a board anew sees to
- * it that every follower empties itself and takes a fresh mark, and that who remembers a version for strundevi_moved counts every range as moved. */
+ * An old mark may fit a board that was started anew, or put back from an older copy of record and store, and its follower would keep paths that are
+ * withdrawn. No number tells. Whoever does either sees to it that every follower empties itself and takes a fresh mark, and that who remembers a version for
+ * strundevi_moved counts every range as moved. Of a copy and its original only one may go on being followed. */
 typedef struct strundevi_board {
     uint32_t keys[STRUNDEVI_PLACES];
     uint64_t versions[STRUNDEVI_PLACES];
@@ -254,7 +270,8 @@ typedef struct strundevi_board {
     uint8_t forms[STRUNDEVI_PLACES];
 } strundevi_board;
 
-/* Octets start to start + length of the store, and the form of the path they are; refused: none. */
+/* Octets start to start + length of the store, and the form of the path they are; refused: none. They are the ERO without its 4 header octets: to judge them
+ * again put a header before them. */
 typedef struct strundevi_part {
     size_t number;
     size_t start;
@@ -264,7 +281,8 @@ typedef struct strundevi_part {
 
 enum strundevi_change_kind { STRUNDEVI_REFUSED = 0, STRUNDEVI_PATH = 1, STRUNDEVI_REMOVED = 2, STRUNDEVI_LEVEL = 3 };
 
-/* A change (enum strundevi_change_kind) with its key and version, a path with its place, length and form too; or level, with the board's version. */
+/* A change (enum strundevi_change_kind) with its key and version, a path with its place, length and form too; or level, with the board's version. A path's
+ * octets are `length` octets from `store + place * STRUNDEVI_PLACE_OCTETS`, the ERO without its header, as in strundevi_part. */
 typedef struct strundevi_change {
     size_t number;
     size_t kind;
@@ -334,7 +352,7 @@ static inline strundevi_verdict strundevi_no_board(void) {
     return refused;
 }
 
-/* Reads an OPEN object, with A and R at the positions of set-up: 28, 1, 2, 3; of each that a form is at fault for, MPLS's goes before SRv6's. */
+/* Reads an OPEN object, with A and R at the positions of set-up: 28; then 1, 2, 3, and within each number MPLS's capability before SRv6's. */
 STRUNDEVI_LOOK_AT static inline strundevi_opened strundevi_read_open(strundevi_setup setup, const uint8_t *octets, size_t length) {
     return strundevi_raw_read_open(setup, strundevi_from(octets), strundevi_lent(octets, length));
 }
@@ -446,8 +464,9 @@ STRUNDEVI_LOOK_AT static inline strundevi_change strundevi_next(const strundevi_
                               strundevi_from(store), strundevi_lent(store, size), mark.s, mark.w);
 }
 
-/* Whether a key from `from` to `to` changed after version v: 17, 24, 23. The count is 1 for yes and 0 for no; from above to is no. Remember the board's
- * version with each answer, for the next time; after 23 or 24 count the range as moved. */
+/* Whether a key from `from` to `to` changed after version v: 17, 24, 23. The count is 1 for yes and 0 for no; from above to is no. Read the board's version
+ * before anyone can change the board again, and remember it with the answer, for the next time; begin with that of a time when you looked at every key. After
+ * 23 or 24 count the range as moved. */
 STRUNDEVI_LOOK_AT static inline strundevi_verdict strundevi_moved(const strundevi_board *board, const uint8_t *store, size_t size, uint64_t from,
                                                                   uint64_t to, uint64_t v) {
     if (board == NULL)
@@ -478,7 +497,7 @@ static inline strundevi_mark strundevi_mark_level(uint64_t version) {
     return mark;
 }
 
-/* ---- MPLS: labels and indices */
+/* ---- MPLS: labels and indices, of a segment that is not null */
 
 /* The 4 octets of an MPLS segment's SID as one number: its index, where it is not labelled. */
 static inline uint32_t strundevi_index_of(const strundevi_segment *segment) {
@@ -576,7 +595,7 @@ static inline const char *strundevi_text(size_t number) {
     }
 }
 
-/* Error-Type and Error-value of the PCErr to send to the peer. Type 0: nothing in PCEP fits, the fault is on this box. */
+/* Error-Type and Error-value of the PCErr to send to the peer. Type 0: no PCErr is fixed for it; 14 is most often the peer's fault, 15 to 28 are this box's own. */
 typedef struct strundevi_pcerr {
     uint8_t type;
     uint8_t value;

@@ -161,7 +161,7 @@ FAULTS = {
     "reference: S with M taken": (REFERENCE + "mpls.rs", "no_sid && (labelled || complete) ||", "no_sid && complete ||"),
     "reference: NT 5 with 8 octets": (REFERENCE + "mpls.rs", "        5 => Some(16),", "        5 => Some(8),"),
     "reference: 29 names its place": (REFERENCE + "mpls.rs", ".map(|number| (number, false));", ".map(|number| (number, true));"),
-    "reference: V where SRv6 has it": (REFERENCE + "mpls.rs", "FLAG_V: u8 = 16;", "FLAG_V: u8 = 32;"),
+    "reference: V one bit too high": (REFERENCE + "mpls.rs", "FLAG_V: u8 = 16;", "FLAG_V: u8 = 32;"),
     "reference: V counted as stray": (REFERENCE + "mpls.rs", "& 0x0fe0,", "& 0x0ff0,"),
     "reference: type 40 in a route of MPLS": (REFERENCE + "mpls.rs", "pub const KIND: u8 = 36;", "pub const KIND: u8 = 40;"),
     "reference: behaviour of a label taken": (REFERENCE + "mpls.rs", "if segment.behaviour != 0\n            || segment.structured", "if segment.structured"),

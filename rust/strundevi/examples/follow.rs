@@ -1,6 +1,6 @@
 //! A follower in Rust: it takes what a board hands out, is cut off, comes back too old, starts afresh, and ends up level.
 //!
-//!     cargo run --release --offline --example follow
+//!     cargo run --release --offline --manifest-path rust/Cargo.toml --package strundevi --example follow
 
 use std::collections::BTreeMap;
 use strundevi::{read_open, Board, Change, Form, Mark, Number, Refusal, Session, Setup, PST_SRV6, STORE_OCTETS};
@@ -52,6 +52,7 @@ struct Follower {
 }
 
 impl Follower {
+    /// Whoever keeps mark and paths where they outlive a loss of power forgets the old mark first, and keeps the fresh one last.
     fn afresh(keeper: &Keeper) -> Follower {
         let mark = keeper.board.fresh_mark();
         println!("follower: empty, mark ({}, {})", mark.s, mark.w);

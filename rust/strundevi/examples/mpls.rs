@@ -1,7 +1,7 @@
 //! A box on the older half of the line, in Rust: reads OPENs of both forms, writes an MPLS route of labels, one of an index and one of a name without a SID,
 //! reads them, and keeps the first on a board beside an SRv6 path.
 //!
-//!     cargo run --release --offline --example mpls
+//!     cargo run --release --offline --manifest-path rust/Cargo.toml --package strundevi --example mpls
 
 use strundevi::{
     judge, read_open, segments, Board, Change, Form, Kind, Label, MplsSid, Nai, Refusal, Segment, Session, Setup, Writer, PST_MPLS, PST_SRV6, STORE_OCTETS,
@@ -14,12 +14,12 @@ const OPEN: [u8; 36] = [
 ];
 const SRV6_ROUTE: [u8; 28] = [7, 0x10, 0, 28, 40, 24, 0, 2, 0, 0, 0, 1, 0x20, 0x01, 0x0D, 0xB8, 0, 0, 0, 1, 0, 0, 0, 0, 0, 0, 0, 1];
 
-/// A label. TC, S and TTL are for the far end to choose.
+/// A label. TC, S and TTL are for the head end to choose.
 fn label(label: u32) -> MplsSid {
     MplsSid::Label(Label::only(label).expect("20 bits"))
 }
 
-/// A label whose TC, S and TTL the far end is to use.
+/// A label whose TC, S and TTL the head end is to use.
 fn entry(label: u32, s: bool) -> MplsSid {
     MplsSid::Entry(Label::new(label, 5, s, 64).expect("20 and 3 bits"))
 }

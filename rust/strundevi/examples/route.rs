@@ -1,6 +1,6 @@
 //! A box in Rust: reads two OPEN objects, writes a route, reports it, and lets another box follow.
 //!
-//!     cargo run --release --offline --example route
+//!     cargo run --release --offline --manifest-path rust/Cargo.toml --package strundevi --example route
 
 use strundevi::{judge, read_open, segment, segments, Board, Change, Form, Kind, Refusal, Segment, Session, Setup, Writer, PST_SRV6, STORE_OCTETS};
 

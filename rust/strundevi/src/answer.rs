@@ -72,8 +72,8 @@ pub struct PcErr {
 }
 
 impl Number {
-    /// The PCErr to send to the peer for the refusal of an OPEN with this form at fault, or of a route of this kind and form. None: nothing in PCEP fits, the
-    /// fault is on this box.
+    /// The PCErr to send to the peer for the refusal of an OPEN with this form at fault, or of a route of this kind and form. None: no PCErr is fixed for it; 14
+    /// is most often the peer's fault, 15 to 28 are this box's own.
     ///
     /// ```
     /// use strundevi::{Form, Kind, Number};
@@ -120,6 +120,7 @@ impl fmt::Display for Number {
     }
 }
 
+/// Why a call was refused, and where. Nothing has changed then.
 #[derive(Clone, Copy, Debug, PartialEq, Eq, Hash)]
 pub struct Refusal {
     pub number: Number,
@@ -127,6 +128,7 @@ pub struct Refusal {
     pub place: usize,
 }
 
+/// What a call answers.
 pub type Result<T> = core::result::Result<T, Refusal>;
 
 /// Number, place and words; no place where none is named.

@@ -22,7 +22,8 @@ pub const VERSION_MOST: u64 = u64::MAX - 1;
 const PATH: usize = 1;
 const REMOVED: usize = 2;
 
-/// A board: its record and its store, which belong together. The store is anything that has octets: `Vec<u8>`, `&mut [u8]`, an array.
+/// A board: its record and its store, which belong together. The store is anything that has octets: `Vec<u8>`, `&mut [u8]`, an array. What it holds at the
+/// start does not matter; `==` compares all of it, also what paths that are gone left there. Of a clone and its original only one may go on being followed.
 ///
 /// Looking (`body`, `next`, `moved`, `fresh_mark`) takes the board by `&`, so any number of readers may look at once. What they are handed borrows the
 /// board: copy a path's octets, and the board can be changed again.
@@ -30,10 +31,16 @@ const REMOVED: usize = 2;
 /// How to follow a board:
 /// 1. start empty, with `fresh_mark`;
 /// 2. ask `next` with your mark;
-/// 3. a path or a removal: make the change, copy a path's octets before the board is touched again, keep the version as w (`Mark::after`);
-/// 4. level: you hold what the board holds, and may set both s and w to its version (`Mark::after` does, or `Mark::level`);
-/// 5. refused with 23: removals that you did not see may have been dropped; empty yourself and start afresh;
-/// 6. refused with 24: something is wrong, this is not the board that you followed; the same.
+/// 3. ask one thing at a time: an answer counts only while your mark is the one that it was asked with. Throw away one that comes late or twice;
+/// 4. a path or a removal: make the change, copy a path's octets before the board is touched again, then keep the version as w (`Mark::after`);
+/// 5. level: you hold what the board holds, and may set both s and w to its version (`Mark::after` does, or `Mark::level`);
+/// 6. refused with 23: removals that you did not see may have been dropped; start afresh;
+/// 7. refused with 24: this is not the board that you followed, or it was started anew or put back from an older copy; start afresh, and so does every other
+///    follower;
+/// 8. refused with 17: not you but the board is at fault; keep what you hold, change nothing, tell whoever keeps the board.
+///
+/// To start afresh: forget the mark, empty yourself, then take and keep the fresh mark. Whoever has a mark without the paths that went with it, or paths
+/// without a mark, starts afresh.
 ///
 /// ```
 /// use std::collections::BTreeMap;
@@ -73,14 +80,14 @@ pub struct Mark {
     pub w: u64,
 }
 
-/// A path on the board: its form, and its octets, which are those of the ERO behind its header.
+/// A path on the board: its form, and its octets, which are those of the ERO behind its header. To judge them again put a header of 4 octets before them.
 #[derive(Clone, Copy, Debug, PartialEq, Eq)]
 pub struct Path<'a> {
     pub form: Form,
     pub body: &'a [u8],
 }
 
-/// What a follower is handed.
+/// What a follower is handed. The octets of a path are as in [`Path`].
 #[derive(Clone, Copy, Debug, PartialEq, Eq)]
 pub enum Change<'a> {
     Path { key: u32, version: u64, form: Form, body: &'a [u8] },
@@ -89,10 +96,11 @@ pub enum Change<'a> {
 }
 
 impl<S: AsRef<[u8]> + AsMut<[u8]>> Board<S> {
-    /// The empty board over this store. A store of fewer than `STORE_OCTETS` octets is refused with 17 by every call.
+    /// The empty board over this store. A store of fewer than `STORE_OCTETS` octets is refused with 17 by every call but `fresh_mark`; by `report` with 28,
+    /// where the addresses are not usable.
     ///
-    /// An old mark may fit a board that was started anew, and its follower would keep paths that are withdrawn: whoever starts a board anew
-    /// sees to it that every follower empties itself and takes a fresh mark, and that who remembers a version for `moved` counts every range as moved.
+    /// An old mark may fit a board that was started anew, or put back from an older copy, and its follower would keep paths that are withdrawn: whoever does
+    /// either sees to it that every follower empties itself and takes a fresh mark, and that who remembers a version for `moved` counts every range as moved.
     pub fn new(store: S) -> Board<S> {
         let mut record = raw::Record {
             keys: [0; PLACES],
@@ -108,33 +116,40 @@ impl<S: AsRef<[u8]> + AsMut<[u8]>> Board<S> {
         Board { record, store }
     }
 
-    /// A board of the caller's, as `into_parts` gave it. A record that is not proper is refused with 17 by every call.
+    /// A board of the caller's, as `into_parts` gave it. A record that is not proper is refused as a short store is (`new`).
+    ///
+    /// An older copy rewinds the board, and is proper, so that no number tells: every follower then empties itself and takes a fresh mark.
     pub fn from_parts(record: raw::Record, store: S) -> Board<S> {
         Board { record, store }
     }
 
+    /// The record and the store, to be put together again by `from_parts`. The record is in the machine's own order and layout: not for sending.
     pub fn into_parts(self) -> (raw::Record, S) {
         (self.record, self.store)
     }
 
+    /// The record: what stands at each place.
     pub fn record(&self) -> &raw::Record {
         &self.record
     }
 
+    /// The store: the octets of place i begin at `PLACE_OCTETS` times i.
     pub fn store(&self) -> &[u8] {
         self.store.as_ref()
     }
 
+    /// The version: each accepted report or removal raised it by 1.
     pub fn version(&self) -> u64 {
         self.record.version
     }
 
+    /// The floor: removals up to this version may have been dropped.
     pub fn floor(&self) -> u64 {
         self.record.floor
     }
 
-    /// Reports a path, whose form is that of its setup type: the number of its segments, and of those that are stray. Refused with 28, 17, 18, the route's
-    /// numbers, 19, 20, 21. The addresses are the head end's, as in `judge`.
+    /// Reports a path, whose form is that of its setup type, by its whole ERO: the number of its segments, and of those that are stray. Refused with 28, 17, 18,
+    /// the route's numbers, 19, 20, 21. The addresses are the head end's, as in `judge`.
     #[inline]
     pub fn report(&mut self, key: u32, ero: &[u8], session: &Session, pst: u64, addresses: &[u8]) -> Result<Counts> {
         raw::report(&mut self.record, self.store.as_mut(), key.into(), ero, session.raw(), pst, addresses).counts()
@@ -176,8 +191,9 @@ impl<S: AsRef<[u8]> + AsMut<[u8]>> Board<S> {
         })
     }
 
-    /// Whether a key of this range changed after version `v`: was reported, reported again or removed. Refused with 17, 24, 23. Remember the board's version with
-    /// each answer, for the next time; after 23 or 24 count the range as moved.
+    /// Whether a key of this range changed after version `v`: was reported, reported again or removed. Refused with 17, 24, 23. Read the board's version before
+    /// anyone can change the board again, and remember it with the answer, for the next time; begin with that of a time when you looked at every key. After 23 or
+    /// 24 count the range as moved.
     #[inline]
     pub fn moved(&self, keys: core::ops::RangeInclusive<u64>, v: u64) -> Result<bool> {
         raw::moved(&self.record, self.store.as_ref(), *keys.start(), *keys.end(), v).counts().map(|counts| counts.segments == 1)

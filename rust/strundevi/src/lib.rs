@@ -3,6 +3,11 @@
 //! Every answer comes from the proved library; this crate lends it slices and turns its numbers into `Result`s. A refusal is a number and a
 //! place, and leaves everything as it was. Nothing is allocated, and no call needs more than 2,048 octets of stack.
 //!
+//! Octets are as on the wire: an object goes in by itself, from its class octet on, with no message header before it and nothing behind it.
+//!
+//! For x86-64 Linux, Rust 1.81 or later. Crate, C header and archive are of one version: a minor version may change the records, and nothing tests it, so build
+//! all three together.
+//!
 //! ```
 //! use strundevi::{judge, read_open, Form, Kind, Segment, Session, Setup, Writer, PST_SRV6};
 //!
@@ -45,5 +50,5 @@ pub use route::{judge, segment, segments, step, Kind, Segments, FIRST_PLACE};
 pub use segment::{Segment, Strays};
 pub use writer::{Writer, OBJECT_MOST};
 
-/// The version of this crate, which is that of the header.
+/// The version of this crate, which is that of the header and of the archive.
 pub const VERSION: &str = env!("CARGO_PKG_VERSION");

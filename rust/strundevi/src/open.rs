@@ -108,7 +108,8 @@ fn given<T>(there: u8, value: T) -> Option<T> {
     (there != 0).then_some(value)
 }
 
-/// Reads an OPEN object, with A and R at the positions of set-up. Refused with 28, 1, 2, 3; of each that a form is at fault for, MPLS's goes before SRv6's.
+/// Reads an OPEN object, from its class octet on, with A and R at the positions of set-up. Refused with 28; then 1, 2, 3, and within each number MPLS's capability
+/// before SRv6's.
 #[inline]
 pub fn read_open(at: Setup, octets: &[u8]) -> OpenResult {
     let r = raw::read_open(raw::Setup { a: at.a, r: at.r }, octets);

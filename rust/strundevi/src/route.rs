@@ -5,6 +5,7 @@ use crate::open::Session;
 use crate::raw;
 use crate::segment::{Segment, Strays};
 
+/// Which object a route is: an ERO, the route to take, or an RRO, the route taken.
 #[derive(Clone, Copy, Debug, PartialEq, Eq)]
 pub enum Kind {
     Ero,
@@ -29,8 +30,8 @@ impl Kind {
     }
 }
 
-/// The number of segments of a good route, and of those that are stray. Refused with 28; 4, 5, 6, 14, 13; 8, 9, 7, 10, 11, 29, 30 segment by segment; 12. The
-/// setup type names the form ([`Form::of`](crate::Form::of)).
+/// The number of segments of a good route, and of those that are stray. The octets are one object, from its class octet on. Refused with 28; 4, 5, 6, 14, 13; 8, 9,
+/// 7, 10, 11, 29, 30 segment by segment; 12. The setup type names the form ([`Form::of`](crate::Form::of)).
 ///
 /// The addresses are the head end's, 16 octets each: where A is agreed they say whether an ERO's first segment is one of its adjacencies, and so stays
 /// off the header; where R is agreed it always does. One segment more is then within H.Encaps ([`Session`](crate::Session)).

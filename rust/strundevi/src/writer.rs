@@ -27,7 +27,8 @@ impl<'a> Writer<'a> {
         Ok(Writer { buffer, kind: Kind::of(r.writer.ero), form: Form::of(r.writer.form.into()), at: r.writer.at })
     }
 
-    /// Goes on at a place of an object begun before. A place that cannot be one is refused by the calls that follow.
+    /// Goes on at a place of an object begun before, its last `at`: at an earlier one a segment is overwritten. A place that cannot be one is refused by the calls
+    /// that follow.
     pub fn resume(buffer: &'a mut [u8], kind: Kind, form: Form, at: usize) -> Writer<'a> {
         Writer { buffer, kind, form, at }
     }
