@@ -43,9 +43,9 @@
 #define STRUNDEVI_H
 
 #define STRUNDEVI_VERSION_MAJOR 1
-#define STRUNDEVI_VERSION_MINOR 1
+#define STRUNDEVI_VERSION_MINOR 2
 #define STRUNDEVI_VERSION_PATCH 0
-#define STRUNDEVI_VERSION 10100 /* 10000 times major, 100 times minor, patch */
+#define STRUNDEVI_VERSION 10200 /* 10000 times major, 100 times minor, patch */
 
 #include <stddef.h>
 #include <stdint.h>
@@ -213,11 +213,10 @@ typedef struct strundevi_outline {
     uint8_t loose;
     uint8_t verify;
     uint8_t nt;
+    uint8_t label; /* M is worth 1 in it, C 2 */
     uint16_t behaviour;
     uint8_t hassid;
     uint8_t structured;
-    uint8_t labelled;
-    uint8_t complete;
 } strundevi_outline;
 
 /* The verdict, with the number of segments, and the segment asked for; refused: all zeros behind the verdict. Behind the segment, what is set in its
@@ -395,8 +394,8 @@ STRUNDEVI_LOOK_AT static inline strundevi_written strundevi_begin(uint8_t *buffe
  * complete label before the last, is written too, and a peer that checks refuses it with PCErr 10/20 or 10/4. */
 STRUNDEVI_LOOK_AT static inline strundevi_written strundevi_add(uint8_t *buffer, size_t size, strundevi_writer writer, strundevi_segment segment) {
     uint8_t none[1];
-    strundevi_outline outline = {segment.loose, segment.verify, segment.nt, segment.behaviour, segment.hassid, segment.structured,
-                                 segment.labelled, segment.complete};
+    uint8_t label = (uint8_t)((segment.labelled != 0) + 2 * (segment.complete != 0));
+    strundevi_outline outline = {segment.loose, segment.verify, segment.nt, label, segment.behaviour, segment.hassid, segment.structured};
     return strundevi_raw_add(strundevi_into(buffer, none), strundevi_lent(buffer, size), writer, outline, segment.sid, segment.nai,
                              segment.structure);
 }

@@ -1,4 +1,7 @@
 -- What an outline at the border stands for, and the records that a segment and an answer with a segment are handed out as (include/strundevi.h).
+use Prim.Native.Nat.{ℕ, _+_, _*_, _/_, _%_}
+use mathlib.Core.Bool.{Bool}
+use lib.Dec.{eqb}
 use Rattle.subobject.specs.declared.segment.Outline.{Outline}
 use Rattle.subobject.specs.declared.segment.Segment.{Segment}
 use Rattle.route.specs.declared.picking.Picked.{Picked}
@@ -9,6 +12,16 @@ use Rattle.route_step.specs.declared.stepping.Stepped.{Stepped}
 use Rattle.border_segment.specs.declared.picking.PickedRecord.{PickedRecord}
 use Rattle.border_segment.specs.declared.stepping.SteppedRecord.{SteppedRecord}
 
+-- M and C are one octet of an outline, in which M is worth 1 and C 2.
+abbrev pub labelledIn : ℕ → Bool
+labelledIn label = eqb (label % 2) 1
+
+abbrev pub completeIn : ℕ → Bool
+completeIn label = eqb (label / 2 % 2) 1
+
+abbrev pub labelOut : Bool → Bool → ℕ
+labelOut m c = flagOf m + 2 * flagOf c
+
 abbrev pub outlineIn : OutlineRecord → Outline
 outlineIn o =
     record {
@@ -18,8 +31,8 @@ outlineIn o =
       behaviour = o .behaviour;
       hassid = isYes (o .hassid);
       structured = isYes (o .structured);
-      labelled = isYes (o .labelled);
-      complete = isYes (o .complete);
+      labelled = labelledIn (o .label);
+      complete = completeIn (o .label);
     }
 
 abbrev pub segmentOut : Segment → SegmentRecord
@@ -45,11 +58,10 @@ outlineWithin g =
       loose = g .loose;
       verify = g .verify;
       nt = g .nt;
+      label = labelOut (isYes (g .labelled)) (isYes (g .complete));
       behaviour = g .behaviour;
       hassid = g .hassid;
       structured = g .structured;
-      labelled = g .labelled;
-      complete = g .complete;
     }
 
 abbrev pub pickedOut : Picked → PickedRecord

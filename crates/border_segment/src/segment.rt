@@ -21,16 +21,16 @@ pub struct SegmentRecord {
     pub complete: u8,
 }
 
+// M and C are one octet, in which M is worth 1 and C 2, so that an outline has 8 octets and crosses as one number.
 #[repr(C)]
 pub struct OutlineRecord {
     pub loose: u8,
     pub verify: u8,
     pub nt: u8,
+    pub label: u8,
     pub behaviour: u16,
     pub hassid: u8,
     pub structured: u8,
-    pub labelled: u8,
-    pub complete: u8,
 }
 
 pub fn outline_in(o: OutlineRecord) -> Outline
@@ -44,8 +44,8 @@ pub fn outline_in(o: OutlineRecord) -> Outline
         behaviour: o.behaviour as usize,
         hassid: border_records::yes(o.hassid),
         structured: border_records::yes(o.structured),
-        labelled: border_records::yes(o.labelled),
-        complete: border_records::yes(o.complete),
+        labelled: o.label % 2 == 1,
+        complete: o.label / 2 % 2 == 1,
     }
 }
 

@@ -114,25 +114,20 @@ pub struct Stepped {
     pub next: usize,
 }
 
-/// What a segment names beside its octets: the header's record, `strundevi_outline`, as two numbers. A number is stored and loaded whole; a record stored octet by octet
+/// What a segment names beside its octets: the header's record, `strundevi_outline`, as one number, which goes in a register. A record stored octet by octet
 /// and loaded as one number makes the processor wait.
-#[repr(C, packed(2))]
+#[repr(transparent)]
 #[derive(Clone, Copy)]
-struct Outline {
-    first: u64,
-    last: u16,
-}
+struct Outline(u64);
 
-const _: () = assert!(size_of::<Outline>() == 10 && align_of::<Outline>() == 2 && cfg!(target_endian = "little"));
+const _: () = assert!(cfg!(target_endian = "little"));
 
 impl Outline {
     #[inline]
     fn of(s: &Segment) -> Self {
         let at = |octet: u8, place: u32| (octet as u64) << (8 * place);
-        Self {
-            first: at(s.loose, 0) | at(s.verify, 1) | at(s.nt, 2) | (s.behaviour as u64) << 32 | at(s.hassid, 6) | at(s.structured, 7),
-            last: s.labelled as u16 | (s.complete as u16) << 8,
-        }
+        let label = (s.labelled != 0) as u8 | ((s.complete != 0) as u8) << 1;
+        Self(at(s.loose, 0) | at(s.verify, 1) | at(s.nt, 2) | at(label, 3) | (s.behaviour as u64) << 32 | at(s.hassid, 6) | at(s.structured, 7))
     }
 }
 

@@ -17,16 +17,9 @@ yes-requires-3 c κs = search needs
 yes-requires-4 : tie.Need-yes-requires-4
 yes-requires-4 c κs = search needs
 
-yes-requires-5 : tie.Need-yes-requires-5
-yes-requires-5 c κs = search needs
-
-yes-requires-6 : tie.Need-yes-requires-6
-yes-requires-6 c κs = search needs
-
 returns : tie.Need-returns
 returns c = (cc, search needs)
 
 pub outline-in-spec : {M : Type 1} → statement M
 outline-in-spec =
-    tie.close
-    (tie.spec yes-requires yes-requires-2 cast-t4 yes-requires-3 yes-requires-4 yes-requires-5 yes-requires-6 returns)
+    tie.close (tie.spec yes-requires yes-requires-2 cast-t4 yes-requires-3 yes-requires-4 returns)
