@@ -1,5 +1,5 @@
 #!/bin/sh
-# The pages say what is so: the definitions and edits that they name are there, and the console's examples answer as they show.
+# The pages say what is so: the definitions and edits that they name are there, and the console's examples and the samples' dialogues answer as they show.
 #
 #     tests/pages.sh             with the console of rust/reference, once tests/library.sh has built it
 #     tests/pages.sh proved      with the proved one, which is proved and built first
@@ -113,5 +113,19 @@ for command in pcc pce ero rro ero-segment rro-segment begin add finish lent rep
     cat "$out"/CONSOLE/*.in | grep -qE "^$command( |\$)" || fault "docs/CONSOLE.md has no example of $command"
 done
 
+# ---- the dialogues of samples/: NAME.out has what NAME.txt is answered
+
+dialogues=0
+for typed in samples/*.txt; do
+    name=$(basename "$typed" .txt)
+    grep -qE "^\| $name\.txt \|" samples/README.md || fault "samples/README.md has no row for $typed"
+    console < "$typed" > "$out/$name.told"
+    diff "samples/$name.out" "$out/$name.told" || fault "$typed is answered otherwise"
+    dialogues=$((dialogues + 1))
+done
+if [ "$dialogues" -lt 4 ]; then
+    fault "only $dialogues dialogues were found"
+fi
+
 [ "$faults" = 0 ] || exit 1
-echo "pages: $named names are there, $examples examples answer as they should"
+echo "pages: $named names are there, $examples examples and $dialogues dialogues answer as they should"

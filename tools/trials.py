@@ -698,7 +698,7 @@ def mpls_writing(out):
     out.append("# the most octets of an object are 65,532")
     out.append("begin ero 1 65536")
     out += ["add 0 0 6 0 %s %s - 0 0" % ("0" * 8, "0" * 80)] * 1365
-    out += [labelled(nt=1, sid=b"", m=0), labelled(), "finish 1"]
+    out += [labelled(nt=1, sid=b"", m=0), labelled(), "finish"]
 
 
 # -- the board ----------------------------------------------------------------------------------------------------

@@ -79,8 +79,9 @@ pub fn open(r: &mut Random) -> Vec<u8> {
     let before = r.of(&[0, 0, 0, 1, 2]);
     for _ in 0..before {
         let size = r.below(9);
-        let kind = r.of(&[0, 9, 35, 27, 0x2200]);
-        let value = r.octets(size);
+        // 26 stands here in boxes older than RFC 8664, and counts for nothing
+        let kind = r.of(&[0, 9, 35, 26, 27, 0x2200]);
+        let value = if kind == 26 { mpls_capability(r) } else { r.octets(size) };
         octets.extend_from_slice(&item(kind, &value, || 0));
     }
     if !r.one_in(12) {

@@ -15,6 +15,8 @@ const E: &str = "0710001C281800020000000120010DB8000000010000000000000001";
 const BOTH: &str = "01100028201E78070022001A0000000201030000001A000400000205001B0006000000002C040000";
 /// Labels as routers send them, with an IPv4 node, an IPv4 adjacency and an unnumbered one.
 const LABELS: &str = "07100038240C100103E81000C000020124103001061A8000C0000201C000020224185001061A9000C000020100000003C000020200000004";
+/// Label 7 alone: one octet away from it are labels 0 to 15, 16 and above, an index, and C with a TTL of 0.
+const LABEL_7: &str = "0710000C2408000900007100";
 
 fn octets(hex: &str) -> Vec<u8> {
     (0..hex.len()).step_by(2).map(|i| u8::from_str_radix(&hex[i..i + 2], 16).unwrap()).collect()
@@ -210,6 +212,9 @@ fn shown(s: &[u8], q: &Question) -> String {
 pub fn check_route(tally: &mut Tally, s: &[u8], q: &Question) -> Result<(), String> {
     let theirs = their_judge(s, q);
     tally.count(q.door, if q.ero { Call::Ero } else { Call::Rro }.of(q.pst), theirs.0);
+    if q.pst == 1 {
+        tally.look(s.get(4..12).unwrap_or_default(), theirs.0);
+    }
     if our_judge(s, q) != theirs {
         let small = shrink(s.to_vec(), |s| our_judge(s, q) != their_judge(s, q));
         let (ours, theirs) = (our_judge(&small, q), their_judge(&small, q));
@@ -307,11 +312,13 @@ fn around(sample: &[u8], mut look: impl FnMut(&[u8]) -> Result<(), String>) -> R
 
 fn sample_routes(r: &mut Random) -> Vec<(Form, bool, Vec<u8>)> {
     let mut samples = Vec::new();
-    for (form, object) in [(Form::Srv6, octets(E)), (Form::Mpls, octets(LABELS))] {
-        samples.push((form, true, object.clone()));
-        let mut rro = object;
+    for (form, object) in [(Form::Srv6, E), (Form::Mpls, LABELS), (Form::Mpls, LABEL_7)] {
+        samples.push((form, true, octets(object)));
+        let mut rro = octets(object);
         rro[0] = 8;
         samples.push((form, false, rro));
+    }
+    for form in [Form::Srv6, Form::Mpls] {
         for n in [1, 1, 2, 2, 3, 5] {
             for ero in [true, false] {
                 samples.push((form, ero, objects::route(r, form, ero, n, usize::MAX)));

@@ -72,11 +72,30 @@ const CALLS: [(&str, &[usize]); 23] = [
     ("MPLS report", &[0, 4, 5, 6, 7, 8, 9, 10, 12, 13, 14, 17, 18, 19, 20, 21, 28, 29, 30]),
 ];
 
+/// What a first MPLS subobject is to have had, with the number that the route ended in: each NT, labels on either side of the rule, a TTL of 0 with C and without.
+const BORDERS: [(&str, usize); 13] = [
+    ("NT 0", 0),
+    ("NT 1", 0),
+    ("NT 2", 0),
+    ("NT 3", 0),
+    ("NT 4", 0),
+    ("NT 5", 0),
+    ("NT 6", 0),
+    ("label 3", 29),
+    ("label 7", 0),
+    ("label 15", 29),
+    ("label 16", 0),
+    ("TTL 0 with C", 30),
+    ("TTL 0 without C", 0),
+];
+
 #[derive(Default)]
 pub struct Tally {
     counts: [[u64; 31]; CALLS.len()],
     /// Acceptances of each call by each door.
     accepted: [[u64; DOORS.len()]; CALLS.len()],
+    /// Routes on each border.
+    borders: [u64; BORDERS.len()],
     /// Reports that took the place of the oldest removal.
     pub evictions: u64,
     /// Times that a follower was level, and held what the board held.
@@ -87,6 +106,18 @@ impl Tally {
     pub fn count(&mut self, door: Door, call: Call, number: usize) {
         self.counts[call as usize][number] += 1;
         self.accepted[call as usize][door as usize] += u64::from(number == 0);
+    }
+
+    /// Looks at the first eight octets of a route's first subobject, judged in MPLS's form, and at the number answered.
+    pub fn look(&mut self, first: &[u8], number: usize) {
+        let &[36, _, nt, flags, a, b, c, ttl] = first else { return };
+        let label = (flags & 5 == 1).then_some(u32::from_be_bytes([0, a, b, c]) >> 4);
+        let named = (0..7).map(|n| nt >> 4 == n);
+        let labels = [3, 7, 15, 16].map(|n| label == Some(n));
+        let timed = [2, 0].map(|complete| label.is_some() && flags & 2 == complete && ttl == 0);
+        for (i, on) in named.chain(labels).chain(timed).enumerate() {
+            self.borders[i] += u64::from(on && number == BORDERS[i].1);
+        }
     }
 
     pub fn calls(&self, calls: &[Call]) -> u64 {
@@ -101,6 +132,8 @@ impl Tally {
         for (accepted, (name, _)) in self.accepted.iter().zip(CALLS) {
             missing.extend(DOORS.iter().filter(|&&door| accepted[door as usize] == 0).map(|door| format!("{name} 0 by the {door:?}")));
         }
+        let borders = BORDERS.iter().zip(self.borders).filter(|&(_, count)| count == 0);
+        missing.extend(borders.map(|((name, number), _)| format!("MPLS {number} of {name}")));
         if self.evictions == 0 {
             missing.push("a report in a removal's place".to_string());
         }
@@ -120,6 +153,8 @@ impl fmt::Display for Tally {
             }
             writeln!(f)?;
         }
+        let borders: Vec<String> = BORDERS.iter().zip(self.borders).map(|((name, number), count)| format!("{number} of {name}:{count}")).collect();
+        writeln!(f, "MPLS {}", borders.join(", "))?;
         writeln!(f, "{} reports in a removal's place, {} times a follower was level", self.evictions, self.level)
     }
 }
