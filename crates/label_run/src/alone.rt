@@ -38,7 +38,9 @@ fn is_alone(s: &[u8], at: usize) -> bool
     requires { ⌜ at + labelSize ≤ length (now s) ⌝ }
     ensures alone { λ r. ⌜ (r ≡ true → LabelAlone (now (s .entry)) at) ⌝ }
 {
-    if octets::read16(s, at) * UPPER_HALF + octets::read16(s, at + subobject::FLAGS_PLACE) != ALONE {
+    if octets::read16(s, at) * UPPER_HALF + octets::read16(s, at + subobject::FLAGS_PLACE)
+        != ALONE
+    {
         return false;
     }
     label_good(s, at + ENTRY_PLACE)

@@ -10,7 +10,7 @@ ghost use Rattle.forms.specs.Sized.{Sized};
 ghost use Rattle.subobject.specs.Layout.{expectedLength};
 ghost use Rattle.subobject.specs.Inner.{OfLength};
 ghost use Rattle.subobject_strays.specs.Four.{straysWith, markedAt, endingMarked};
-ghost use Rattle.subobject_strays.specs.Strays.{reservedPlace, strayFlags, straysBy, noStrays, strayOne};
+ghost use Rattle.subobject_strays.specs.Strays.{allFlags, reservedPlace, strayFlags, straysBy, noStrays, strayOne};
 use forms::Form;
 use subobject::FLAGS_PLACE;
 use subobject::Head;
@@ -44,7 +44,7 @@ pub fn no_strays() -> Strays
 // The unassigned flags of the subobject at `at`.
 fn stray_flags(form: Form, s: &[u8], at: usize) -> usize
     requires { ⌜ (at + 4 ≤ length (now s)) × Sized form ⌝ }
-    ensures flags { λ r. ⌜ (r ≡ strayFlags form (now (s .entry)) at) × (r < 4096) ⌝ }
+    ensures flags { λ r. ⌜ (r ≡ strayFlags form (now (s .entry)) at) × (r < allFlags) ⌝ }
 {
     let free = octets::wide(form.free);
     octets::read16(s, at + FLAGS_PLACE) % ALL_FLAGS / free * free
@@ -63,7 +63,7 @@ fn reserved_two(form: Form, s: &[u8], at: usize) -> usize
 
 // The strays with a structure whose last four octets stand at p.
 fn with_structure(s: &[u8], p: usize, flags: usize, fixed: usize) -> Strays
-    requires { ⌜ (p + 4 ≤ length (now s)) × (flags < 4096) ⌝ }
+    requires { ⌜ (p + 4 ≤ length (now s)) × (flags < allFlags) ⌝ }
     ensures strays { λ r. ⌜ r ≡ straysWith (now (s .entry)) p flags fixed ⌝ }
 {
     let more = octet_sums::sum_three(s, p);
