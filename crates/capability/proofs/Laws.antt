@@ -13,7 +13,8 @@ use Rattle.session.specs.declared.Limit.the-variants.{Free}
 use Rattle.session.specs.declared.Opened.{Opened}
 use Rattle.session.specs.Sessions.{openCarries}
 use Rattle.msd.specs.declared.Gathered.{Gathered}
-use Rattle.msd.specs.Msd.{maxSegmentsLeft, maxHEncaps, wrongPairs, smallestOf, depthNumber, depthIn, Stands, gatheredOf}
+use Rattle.msd.specs.Msd.{maxSegmentsLeft, maxHEncaps, wrongPairs, smallestOf, depthNumber, depthIn, gatheredOf}
+use Rattle.msd.specs.Stands.{Stands}
 use Rattle.msd_limit.specs.Limits.{limitBy, limitOfPairs, present, onlyEnds}
 use Rattle.msd_limit.proofs.Theorems.{free-exactly, only-ends-limit-nothing}
 use Rattle.octets.specs.Octets.{octetOf}

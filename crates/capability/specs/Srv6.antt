@@ -35,14 +35,20 @@ unfoldable pub sizedOf : List ℕ → Bool
 sizedOf w = eqb (length w % 2) 0 && leb pairsAt (length w)
 
 -- "N is the bit worth 2 and X the bit worth 1 of the second flag octet."
+abbrev pub worthN : ℕ
+worthN = 2
+
+abbrev pub worthX : ℕ
+worthX = 1
+
 abbrev pub flagSet : ℕ → List ℕ → Bool
 flagSet worth w = eqb (octetOf w flagsAt / worth % 2) 1
 
 unfoldable pub nOf : List ℕ → Bool
-nOf w = flagSet 2 w
+nOf w = flagSet worthN w
 
 unfoldable pub xOf : List ℕ → Bool
-xOf w = flagSet 1 w
+xOf w = flagSet worthX w
 
 -- A and R, at their positions among the 16 flags (document 02, C-15).
 unfoldable pub aOf : Setup → List ℕ → Bool

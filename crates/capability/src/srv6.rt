@@ -24,9 +24,9 @@ const BOTH_FLAGS_AT: usize = 2;
 
 const FLAGS_AT: usize = 3;
 
-const N: usize = 2;
+const WORTH_N: usize = 2;
 
-const X: usize = 1;
+const WORTH_X: usize = 1;
 
 // The place of the first pair.
 const PAIRS_AT: usize = 4;
@@ -39,11 +39,11 @@ pub fn announced(p: Setup, w: &[u8]) -> Opened
         return session::refused_open(OPEN_MALFORMED, SRV6_FORM);
     }
     let flags = octets::octet(w, FLAGS_AT);
-    let n = flags / N % 2 == 1;
+    let n = flags / WORTH_N % 2 == 1;
     let all = octets::read16(w, BOTH_FLAGS_AT);
     let a = positions::flag(all, p.a);
     let r = positions::flag(all, p.r);
-    if flags / X % 2 == 1 {
+    if flags / WORTH_X % 2 == 1 {
         return session::carried(true, n, Limit::Free, a, r, ABSENT, ABSENT);
     }
     let pairs = msd::gather(&w[PAIRS_AT..]);

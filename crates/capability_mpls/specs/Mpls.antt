@@ -31,14 +31,20 @@ unfoldable pub mplsSizedOf : List ℕ → Bool
 mplsSizedOf w = eqb (length w) mplsSize
 
 -- N is the bit worth 2 and X the bit worth 1.
+abbrev pub mplsWorthN : ℕ
+mplsWorthN = 2
+
+abbrev pub mplsWorthX : ℕ
+mplsWorthX = 1
+
 abbrev pub mplsFlagIn : ℕ → List ℕ → Bool
 mplsFlagIn worth w = eqb (octetOf w mplsFlagsAt / worth % 2) 1
 
 unfoldable pub mplsNOf : List ℕ → Bool
-mplsNOf w = mplsFlagIn 2 w
+mplsNOf w = mplsFlagIn mplsWorthN w
 
 unfoldable pub mplsXOf : List ℕ → Bool
-mplsXOf w = mplsFlagIn 1 w
+mplsXOf w = mplsFlagIn mplsWorthX w
 
 unfoldable pub depthOf : List ℕ → ℕ
 depthOf w = octetOf w depthAt

@@ -20,9 +20,9 @@ pub const MPLS_FORM: usize = MPLS_SETUP as usize;
 // The place of the flag octet, and what N and X are worth in it.
 const MPLS_FLAGS_AT: usize = 2;
 
-const N: usize = 2;
+const MPLS_WORTH_N: usize = 2;
 
-const X: usize = 1;
+const MPLS_WORTH_X: usize = 1;
 
 // The place of the depth, and the length.
 const DEPTH_AT: usize = 3;
@@ -37,8 +37,8 @@ pub fn announced_mpls(w: &[u8]) -> Opened
         return session::refused_open(OPEN_MALFORMED, MPLS_FORM);
     }
     let flags = octets::octet(w, MPLS_FLAGS_AT);
-    let n = flags / N % 2 == 1;
-    if flags / X % 2 == 1 {
+    let n = flags / MPLS_WORTH_N % 2 == 1;
+    if flags / MPLS_WORTH_X % 2 == 1 {
         return session::with_mpls(session::without_srv6(), n, Limit::Free);
     }
     let depth = octets::octet(w, DEPTH_AT);

@@ -1,4 +1,5 @@
--- A flag of an octet, by what it is worth; the sizes of the two forms. Assumes nothing.
+-- A flag of an octet, by what it is worth; the sizes of the two forms. What holds of a form's NAIs is computed for each NT to 6, by cases of the tests of `naiLength`,
+-- and past 6 there are none; what holds of both forms holds of the one that a setup type names (`of-both`). Assumes nothing.
 use Prim.Native.Nat.{ℕ, zero, suc, _*_, _^_, _/_, _%_, _≤_, _<_}
 use mathlib.Core.Path.{_≡_, refl, sym, _∙_}
 use mathlib.Core.Bool.{Bool, true, false, cond}

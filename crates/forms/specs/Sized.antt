@@ -3,13 +3,14 @@
 use Prim.Native.Nat.{ℕ, _≤_, _<_}
 use mathlib.Core.Path.{_≡_}
 use mathlib.Core.Bool.{cond}
+use Rattle.objects.specs.Objects.{sidSize, naiSize}
 use Rattle.forms.specs.declared.Form.{Form}
-use Rattle.forms.specs.Forms.{naiLength}
+use Rattle.forms.specs.Forms.{srv6Form, mplsForm, naiLength}
 
 pub record Sized (form : Form) : Type 0 where
-  pub fixed : form .fixed ≡ cond (form .behaves) 8 4
-  pub sid : form .sid ≤ 16
-  pub nai : (nt : ℕ) → naiLength form nt ≤ 40
+  pub fixed : form .fixed ≡ cond (form .behaves) (srv6Form .fixed) (mplsForm .fixed)
+  pub sid : form .sid ≤ sidSize
+  pub nai : (nt : ℕ) → naiLength form nt ≤ naiSize
   pub free : 0 < form .free
 
 -- The least that stands behind the fixed part of a subobject with a SID or an NAI.

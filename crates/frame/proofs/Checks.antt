@@ -1,4 +1,5 @@
--- Laws about checks in order. Assumes nothing.
+-- Laws about checks in order, each by induction along the list: a check at its head is broken and answers, or is not and the rest answers. By rank the same is
+-- said of the place in the list (`first-answer`, `answer-first`). Assumes nothing.
 use Prim.Native.Nat.{ℕ, zero, suc, _+_, _≤_, _<_}
 use mathlib.Core.Path.{_≡_, refl, sym, _∙_, ap}
 use mathlib.Core.List.{List, [], _∷_, _++_}

@@ -1,4 +1,6 @@
--- What is left of a walk over the frame, in the order of specs/Frames. Assumes nothing.
+-- What is left of a walk over the frame, in the order of specs/Frames. `Over F s at whole` says that what F makes of the frame from `at` on is the whole's; one step
+-- of `apart` (`parted`) gives the ways out of a turn, and each loop has such an F: what was gathered with the rest (`Looking`), the place of a number (`Going`).
+-- Assumes nothing.
 use Prim.Native.Nat.{ℕ, zero, suc, pred, _+_, _-_, _*_, _/_, _%_, _≤_, _<_}
 use mathlib.Core.Path.{_≡_, refl, sym, _∙_, ap}
 use mathlib.Core.List.{List, [], _∷_}
@@ -10,7 +12,7 @@ use native.Mathlib.Omega.{arith}
 use borrow.Author.Tests.{eq-eqb, ne-eqb, le-ltb, le-leb, lt-leb, ltb-true, ltb-false, leb-true, eqb-true, eqb-false, not-true, not-false}
 use Rattle.octets.specs.Octets.{octetOf, be16}
 use Rattle.subobject.specs.Layout.{kindOf}
-use Rattle.octets.proofs.Said.{both-true}
+use Rattle.octets.proofs.Said.{both-true, or-none}
 use Rattle.objects.specs.Objects.{header, unit, classPlace, typePlace, lengthPlace, typeWorth, objectType}
 use Rattle.frame.specs.declared.gathering.Facts.{Facts}
 use Rattle.frame.specs.Frames.{classOf, headed, fitsIn, Apart, ended, unfilled, from, apart, apartOf, kindAt, anyIs, otherThan, mixedAt}
@@ -68,6 +70,9 @@ fits-true len room e =
     let h = both-true (not (ltb len unit)) (eqb (len % unit) 0 && leb len room) e in
     let g = both-true (eqb (len % unit) 0) (leb len room) (h .1) in
     (ltb-false len unit (not-true _ (h .0)), eqb-true (len % unit) 0 (g .0), leb-true len room (g .1))
+
+pub fits-made : (len room : ℕ) → unit ≤ len → len % unit ≡ 0 → len ≤ room → fitsIn len room ≡ true
+fits-made len room l f r = sym (long-enough len room r f) ∙ le-leb unit len l
 
 -- the frame from a place on ------------------------------------------------------------------------------------
 
@@ -221,10 +226,6 @@ or-assoc : (a b c : Bool) → (a || (b || c)) ≡ ((a || b) || c)
 or-assoc true b c = refl
 or-assoc false b c = refl
 
-or-false : (a : Bool) → (a || false) ≡ a
-or-false true = refl
-or-false false = refl
-
 zero-self : (n : ℕ) → cond (eqb n 0) 0 n ≡ n
 zero-self n = go (eqb n 0) refl
   where
@@ -277,7 +278,7 @@ joined-next kinds kind first p g ps h = go (eqb (kinds p) first)
 joined-all : (kinds : ℕ → ℕ) (kind first : ℕ) (g : Facts) → joined kinds kind first g [] ≡ g
 joined-all kinds kind first g =
     let n : g .count + 0 ≡ g .count = omega arith in
-    let a = or-false (g .any) in
+    let a = or-none (g .any) in
     let o = zero-self (g .other) in
     λ i. record { whole = g .whole; count = n i; any = a i; other = o i }
 

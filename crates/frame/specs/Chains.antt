@@ -5,11 +5,11 @@ use mathlib.Core.Path.{_≡_}
 use mathlib.Core.Bool.{true}
 use mathlib.Core.List.{List, [], _∷_}
 use lib.ListN.{length}
-use Rattle.octets.specs.Octets.{octetOf}
+use Rattle.subobject.specs.Layout.{sizeAt}
 use Rattle.frame.specs.Frames.{fitsIn}
 
 -- The subobjects from a place on stand at these places, and fill the object to its end.
 pub data Chain (s : List ℕ) : ℕ → List ℕ → Type 0 where
   stop : {at : ℕ} → at ≡ length s → Chain s at []
-  link : {at : ℕ} {ps : List ℕ} → (at ≡ length s → ⊥) → fitsIn (octetOf s (at + 1)) (length s - at) ≡ true → Chain s (at + octetOf s (at + 1)) ps
+  link : {at : ℕ} {ps : List ℕ} → (at ≡ length s → ⊥) → fitsIn (sizeAt s at) (length s - at) ≡ true → Chain s (at + sizeAt s at) ps
       → Chain s at (at ∷ ps)

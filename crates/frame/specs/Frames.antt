@@ -6,11 +6,9 @@ use lib.ListN.{length}
 use lib.Dec.{ltb, leb, eqb}
 use Rattle.octets.specs.Octets.{octetOf, be16}
 use Rattle.objects.specs.Objects.{header, unit, classPlace, typePlace, lengthPlace, typeWorth, eroClass, rroClass, objectType}
-use Rattle.answers.specs.declared.verdict.Verdict.{Verdict}
 use Rattle.answers.specs.Numbers.{frameBroken, routeEmpty, kindsMixed, noneOfForm}
-use Rattle.answers.specs.Verdicts.{acceptedWith}
-use Rattle.subobject.specs.Layout.{kindOf}
-use Rattle.frame.specs.Checks.{Check, check, firstBroken}
+use Rattle.subobject.specs.Layout.{kindOf, sizeAt}
+use Rattle.frame.specs.Checks.{Check, check}
 
 -- the frame ----------------------------------------------------------------------------------------------------
 
@@ -52,7 +50,7 @@ unfoldable pub apart : List ℕ → ℕ → ℕ → Apart
 apart s at zero = unfilled
 apart s at (suc f) =
     cond (eqb at (length s)) ended
-    (cond (fitsIn (octetOf s (at + 1)) (length s - at)) (from at (apart s (at + octetOf s (at + 1)) f)) unfilled)
+    (cond (fitsIn (sizeAt s at) (length s - at)) (from at (apart s (at + sizeAt s at) f)) unfilled)
 
 -- The whole frame: subobjects begin behind the header.
 unfoldable pub apartOf : List ℕ → Apart
@@ -111,7 +109,3 @@ frameChecks s ero kind =
     ∷ check kindsMixed (rule6Place s ero) (rule6 s ero kind)
     ∷ check noneOfForm 0 (rule14 s ero kind)
     ∷ []
-
--- The frame's answer: the first broken one, or the number of subobjects.
-unfoldable pub frameOf : List ℕ → Bool → ℕ → Verdict
-frameOf s ero kind = firstBroken (frameChecks s ero kind) (acceptedWith (length (placesOf s)))

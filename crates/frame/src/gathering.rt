@@ -4,6 +4,7 @@ ghost use mathlib.Core.Bool.{cond};
 ghost use Prim.Native.Nat.{_≤_, _<_, _%_};
 ghost use lib.ListN.{length};
 ghost use lib.Dec.{eqb};
+ghost use Rattle.octets.specs.Octets.{end16};
 ghost use Rattle.objects.specs.Objects.{header, unit};
 ghost use Rattle.frame.specs.Frames.{fitsIn, kindAt};
 ghost use Rattle.frame.specs.Gathered.{factsOf, seenOf};
@@ -38,7 +39,7 @@ fn earlier(had: usize, at: usize) -> usize
 
 // A subobject of the type k at `at` more. Mostly it is of the type of the first.
 fn seen(g: Facts, at: usize, k: usize, kind: usize, first: usize) -> Facts
-    requires { ⌜ g .count < 65536 ⌝ }
+    requires { ⌜ g .count < end16 ⌝ }
     ensures seen { λ r. ⌜ r ≡ seenOf g at k kind first ⌝ }
 {
     if k == first {
@@ -59,7 +60,7 @@ fn seen(g: Facts, at: usize, k: usize, kind: usize, first: usize) -> Facts
 
 // What the subobjects are; `first` is the type of the first.
 pub fn look(s: &[u8], ero: bool, kind: usize, first: usize) -> Facts
-    requires { ⌜ (header ≤ length (now s)) × (length (now s) % unit ≡ 0) × (length (now s) < 65536) × (first ≡ kindAt (now s) ero header) ⌝ }
+    requires { ⌜ (header ≤ length (now s)) × (length (now s) % unit ≡ 0) × (length (now s) < end16) × (first ≡ kindAt (now s) ero header) ⌝ }
     ensures facts { λ r. ⌜ r ≡ factsOf (now (s .entry)) ero kind ⌝ }
 {
     let end = s.len();
@@ -71,7 +72,7 @@ pub fn look(s: &[u8], ero: bool, kind: usize, first: usize) -> Facts
         other: 0,
     };
     while at != end {
-        let len = octets::wide(s[at + 1]);
+        let len = octets::wide(s[at + subobject::SIZE_PLACE]);
         if !fits(len, end - at) {
             return Facts {
                 whole: false,

@@ -12,8 +12,8 @@ use Rattle.answers.specs.declared.verdict.Verdict.{Verdict}
 use Rattle.answers.specs.Numbers.{frameBroken, routeEmpty, kindsMixed, noneOfForm}
 use Rattle.answers.specs.Verdicts.{refusedBy, acceptedWith}
 use Rattle.frame.specs.declared.gathering.Facts.{Facts}
-use Rattle.frame.specs.Frames.{classOf, headed, apartOf, rule4, rule5, rule6, rule6Place, rule14, frameOf}
-use Rattle.frame.specs.Gathered.{factsOf}
+use Rattle.frame.specs.Frames.{classOf, headed, apartOf, rule4, rule5, rule6, rule6Place, rule14}
+use Rattle.frame.specs.Gathered.{factsOf, frameOf}
 
 -- The last test of a header.
 pub headed-last : (ero : Bool) (s : List ℕ) → header ≤ length s → getD s classPlace 0 ≡ classOf ero → getD s typePlace 0 / typeWorth ≡ objectType → be16 s lengthPlace ≡ length s

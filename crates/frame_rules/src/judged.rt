@@ -1,6 +1,7 @@
 // The frame's rules, over what one pass gathers.
 ghost use mathlib.Core.Path.{_≡_};
-ghost use Rattle.frame.specs.Frames.{headed, frameOf};
+ghost use Rattle.frame.specs.Frames.{headed};
+ghost use Rattle.frame.specs.Gathered.{frameOf};
 use answers::Verdict;
 
 // The object's own part of 4.

@@ -1,4 +1,5 @@
--- Laws of the list of addresses: the two loops, what a search answers, any two answers that fit are equal.
+-- Laws of the list of addresses: the two loops, what a search answers, any two answers that fit are equal. Octets are compared from a place on (`same-end`, `same-miss`,
+-- `same-step`), addresses from the last to the first (`among-hit`, `among-miss`, `among-end`); that a hit is an address of the list is shown along their number.
 use Prim.Native.Nat.{ℕ, zero, suc, _+_, _-_, _*_, _/_, _≤_, _<_}
 use native.Mathlib.Omega.{arith}
 use native.Mathlib.Numerals.{add-one}
@@ -6,7 +7,7 @@ use mathlib.Core.Path.{_≡_, refl, sym, ap, _∙_}
 use mathlib.Core.Logic.{_↔_, _⊎_, inl, inr}
 use mathlib.Core.List.{List, [], _∷_}
 use mathlib.Core.Bool.{Bool, true, false, _&&_, _||_, false≢true}
-use lib.ListN.{length, getD, take, drop, drop-of-length-le}
+use lib.ListN.{length, getD, drop, drop-of-length-le}
 use lib.Seq.{drop-cons}
 use lib.Dec.{eqb}
 use borrow.Author.Tests.{eq-eqb, ne-eqb, eqb-true, eqb-false}
@@ -62,11 +63,6 @@ module _ (x list : List ℕ) where
   pub among-end : (n : ℕ) → n ≤ 0 → false ≡ amongFirst n x list
   among-end zero h = refl
   among-end (suc n) h = absurd (omega arith)
-
--- What is lent from a place on is the part there.
-pub lent-part : (s : List ℕ) (a n : ℕ) → take (a + n - a) (drop a s) ≡ part s a n
-unfolding part
-lent-part s a n = let q : a + n - a ≡ n = omega arith in ap (λ (k : ℕ). take k (drop a s)) q
 
 module _ (x list : List ℕ) where
   -- An address is found exactly if one of the list is it.

@@ -11,6 +11,9 @@ pub const SECOND_WORTH: usize = 16;
 
 pub const THIRD_PART: usize = 16;
 
+// the place of the TTL in it
+pub const TIME_PLACE: usize = 3;
+
 // The label of the label stack entry at a place; octets past the end are 0.
 pub fn label_at(s: &[u8], at: usize) -> usize
     requires { ⌜ at < length (now s) + 128 ⌝ }
@@ -26,5 +29,5 @@ pub fn time_at(s: &[u8], at: usize) -> usize
     requires { ⌜ at < length (now s) + 128 ⌝ }
     ensures time { λ r. ⌜ r ≡ timeAt (now (s .entry)) at ⌝ }
 {
-    octets::octet(s, at + 3)
+    octets::octet(s, at + TIME_PLACE)
 }

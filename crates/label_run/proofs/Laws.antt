@@ -8,12 +8,9 @@ use lib.ListN.{length, getD}
 use native.Mathlib.Omega.{arith}
 use borrow.Author.Tests.{eq-eqb, eqb-true, le-ltb}
 use Rattle.octets.specs.Octets.{octetOf, be16}
-use Rattle.octets.proofs.Said.{and-false}
+use Rattle.octets.proofs.Said.{and-no}
 use Rattle.subobject.specs.Rules.{labelAt, firstFree, goodLabel}
 use Rattle.label_run.specs.Alone.{LabelAlone, EachAlone, AloneTo}
-
-and-no : (b c : Bool) → c ≡ false → (b && c) ≡ false
-and-no b c e = rw e (and-false b)
 
 -- A label is above those below 16 if one of its first 16 bits is set;
 pub label-above : (s : List ℕ) (at x : ℕ) → x ≡ be16 s at → (x ≡ 0 → ⊥) → (ltb (labelAt s at) firstFree && not (eqb (labelAt s at) goodLabel)) ≡ false

@@ -1,4 +1,5 @@
--- Laws of the pass over the pairs: the pairs one by one, the smallest value of a type, the numbers that stand for it, one turn, the end.
+-- Laws of the pass over the pairs: the pairs one by one, the smallest value of a type, the numbers that stand for it, one turn, the end. `Passing` says that the
+-- smaller of what was met and of what is left is the smallest of all; a pair passes from what is left to what was met (`least-with`), and at the end nothing is left.
 use Prim.Native.Nat.{ℕ, suc, _+_, _≤_, _<_, min}
 use native.Mathlib.Nat.{min-comm}
 use native.Mathlib.Numerals.{add-one, add-two}
@@ -13,24 +14,8 @@ use lib.Dec.{eqb, ltb}
 use borrow.Author.Tests.{ltb-true, ltb-false, lt-ltb, le-ltb, ne-eqb}
 use Rattle.answers.proofs.Determined.{determined}
 use Rattle.msd.specs.declared.Gathered.{Gathered}
-use Rattle.msd.specs.Msd.{
-  maxSegmentsLeft,
-  maxEndPop,
-  maxHEncaps,
-  maxEndD,
-  knownMsd,
-  Pair,
-  pairsIn,
-  wrongPairs,
-  smaller,
-  withPair,
-  smallestOf,
-  absent,
-  depthNumber,
-  depthIn,
-  Stands,
-  gatheredOf,
-}
+use Rattle.msd.specs.Msd.{maxSegmentsLeft, maxEndPop, maxHEncaps, maxEndD, knownMsd, Pair, pairsIn, wrongPairs, smaller, withPair, smallestOf, absent, depthNumber, depthIn, gatheredOf}
+use Rattle.msd.specs.Stands.{Stands}
 
 -- pairs --------------------------------------------------------------------------------------------------------
 

@@ -1,1 +1,2 @@
 pub mod Msd
+pub mod Stands

@@ -1,6 +1,5 @@
 -- "pairs of MSD type and MSD value" (document 01, "The OPEN object").
 use Prim.Native.Nat.{ℕ, min}
-use mathlib.Core.Path.{_≡_}
 use mathlib.Core.List.{List, [], _∷_}
 use mathlib.Core.Bool.{Bool, true, false, cond, not, _||_}
 use mathlib.Core.Option.{Option, none, some}
@@ -63,9 +62,6 @@ depthNumber (some v) = v
 -- The smallest value that a number stands for.
 unfoldable pub depthIn : ℕ → Option ℕ
 depthIn n = cond (ltb n absent) (some n) none
-
-abbrev pub Stands : ℕ → ℕ → List Pair → Type 0
-Stands v m ps = (depthIn v ≡ smallestOf maxHEncaps ps) × (depthIn m ≡ smallestOf maxSegmentsLeft ps)
 
 -- Beside a wrong type nothing else counts.
 abbrev pub gatheredOf : List Pair → Gathered

@@ -6,7 +6,8 @@
 ghost use Prim.Native.Nat.{min};
 ghost use mathlib.Core.Path.{_≡_};
 ghost use mathlib.Core.Bool.{false};
-ghost use Rattle.msd.specs.Msd.{pairsIn, wrongPairs, gatheredOf, Stands};
+ghost use Rattle.msd.specs.Msd.{pairsIn, wrongPairs, gatheredOf};
+ghost use Rattle.msd.specs.Stands.{Stands};
 
 const MAX_SEGMENTS_LEFT: usize = 41;
 

@@ -1,4 +1,5 @@
--- What a reader can cite of the limit that a list of pairs sets.
+-- What a reader can cite of the limit that a list of pairs sets. A pair put anywhere among others is one value more of its type and nothing to another (`more-same`,
+-- `more-other`, along the list before it); what the limit then is follows by cases of the two smallest values, there or not, by arithmetic.
 use Prim.Native.Nat.{ℕ, _+_, _≤_, min, max}
 use native.Mathlib.Omega.{arith}
 use mathlib.Core.Path.{_≡_, refl, ap, sym, subst, _∙_}

@@ -1,4 +1,5 @@
--- Octets of a run as one number. No promise rests on it: contracts of inner functions cite it, and proofs turn it into what they promise.
+-- Octets of a run as one number. Rule 11 is stated by `sumAt` (subobject/specs/Rules); no promise rests on the others: contracts of inner functions cite them,
+-- and proofs turn them into what is promised.
 use Prim.Native.Nat.{ℕ, _+_, _*_}
 use mathlib.Core.List.{List}
 use Rattle.octets.specs.Octets.{octetOf}
@@ -7,8 +8,8 @@ use Rattle.octets.specs.Octets.{octetOf}
 unfoldable pub sumThree : List ℕ → ℕ → ℕ
 sumThree s at = octetOf s at + octetOf s (at + 1) + octetOf s (at + 2)
 
-unfoldable pub sumFour : List ℕ → ℕ → ℕ
-sumFour s at = octetOf s at + octetOf s (at + 1) + octetOf s (at + 2) + octetOf s (at + 3)
+unfoldable pub sumAt : List ℕ → ℕ → ℕ
+sumAt s at = octetOf s at + octetOf s (at + 1) + octetOf s (at + 2) + octetOf s (at + 3)
 
 -- Four octets as one number, the first the lowest.
 abbrev pub fourOf : ℕ → ℕ → ℕ → ℕ → ℕ

@@ -2,7 +2,7 @@
 ghost use mathlib.Core.Path.{_≡_};
 ghost use Prim.Native.Nat.{_+_, _≤_, _<_};
 ghost use lib.ListN.{length};
-ghost use Rattle.octet_sums.specs.Sums.{sumThree, sumFour, fourAt};
+ghost use Rattle.octet_sums.specs.Sums.{sumThree, sumAt, fourAt};
 
 // The sum of three octets.
 pub fn sum_three(s: &[u8], at: usize) -> usize
@@ -15,7 +15,7 @@ pub fn sum_three(s: &[u8], at: usize) -> usize
 // The sum of four octets; past the end they are 0.
 pub fn sum_four(s: &[u8], at: usize) -> usize
     requires { ⌜ at < length (now s) + 128 ⌝ }
-    ensures sum { λ r. ⌜ (r ≡ sumFour (now (s .entry)) at) × (r < 1024) ⌝ }
+    ensures sum { λ r. ⌜ (r ≡ sumAt (now (s .entry)) at) × (r < 1024) ⌝ }
 {
     if at + 4 <= s.len() {
         return octets::wide(s[at])

@@ -13,6 +13,10 @@ octetOf s at = getD s at 0
 unfoldable pub be16 : List ℕ → ℕ → ℕ
 be16 s at = getD s at 0 * 256 + getD s (at + 1) 0
 
+-- What two octets say is below this.
+abbrev pub end16 : ℕ
+end16 = 65536
+
 -- A length with its padding to a multiple of 4.
 abbrev pub pad4 : ℕ → ℕ
 pad4 n = (n + 3) / 4 * 4
@@ -23,7 +27,7 @@ part s at n = take n (drop at s)
 
 -- writing ------------------------------------------------------------------------------------------------------
 
--- The two octets of a number below 65,536.
+-- The two octets of a number below `end16`.
 abbrev pub hi : ℕ → ℕ
 hi n = n / 256 % 256
 

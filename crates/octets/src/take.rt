@@ -2,7 +2,7 @@
 ghost use mathlib.Core.Path.{_≡_};
 ghost use Prim.Native.Nat.{_+_, _*_, _≤_, _<_};
 ghost use lib.ListN.{length};
-ghost use Rattle.octets.specs.Octets.{octetOf, be16, pad4, partOf};
+ghost use Rattle.octets.specs.Octets.{octetOf, be16, end16, pad4, partOf};
 
 pub fn wide(x: u8) -> usize
     ensures same { λ r. ⌜ (r ≡ x) × (r < 256) ⌝ }
@@ -20,7 +20,7 @@ pub fn octet(s: &[u8], at: usize) -> usize
 // Two octets, the first worth 256.
 pub fn read16(s: &[u8], at: usize) -> usize
     requires { ⌜ at + 2 ≤ length (now s) ⌝ }
-    ensures number { λ r. ⌜ (r ≡ be16 (now (s .entry)) at) × (r < 65536) ⌝ }
+    ensures number { λ r. ⌜ (r ≡ be16 (now (s .entry)) at) × (r < end16) ⌝ }
 {
     wide(s[at]) * 256 + wide(s[at + 1])
 }

@@ -1,4 +1,5 @@
--- The answer to an OPEN object by the walk over its TLVs is the one that its rules give.
+-- The answer to an OPEN object by the walk over its TLVs is the one that its rules give. Each form's half is the first broken one of its three rules (`srv6-half`,
+-- `mpls-half`); the halves joined are the first broken one of the six by number (`joined-halves`, by cases); a torn walk is the rule that all fits (`answered`).
 use Prim.Native.Nat.{ℕ, _-_}
 use mathlib.Core.Path.{_≡_, refl, _∙_}
 use mathlib.Core.List.{List, [], _∷_}
@@ -42,7 +43,7 @@ use Rattle.open.specs.Open.{
   breaks3Mpls,
   breaks3Srv6,
   saidBy,
-  carriesSrv6,
+  srv6Carried,
   besideBy,
   carriesOf,
   Rule,
@@ -199,7 +200,7 @@ unframed p s u e = rw (u, e)
 -- The walks of the code and the rules of the paper give the same answer.
 module _ (p : Setup) (s : List ℕ) (u : usableSetup p ≡ true) (e : framed s ≡ true) where
   pub answered : answerBy p (openWalk false srv6Capability (drop tlvsAt s)) (openWalk false mplsCapability (drop tlvsAt s)) ≡ openOf p s
-  unfolding openWalk openOf breaks28 breaks1 breaks1Mpls breaks1Srv6 breaks2Mpls breaks2Srv6 breaks3Mpls breaks3Srv6 fitting holding mplsListed listed mplsOf srv6Of setupOf carriesOf carriesSrv6
+  unfolding openWalk openOf breaks28 breaks1 breaks1Mpls breaks1Srv6 breaks2Mpls breaks2Srv6 breaks3Mpls breaks3Srv6 fitting holding mplsListed listed mplsOf srv6Of setupOf carriesOf srv6Carried
   answered = fit (tlvsWhole (openTlvs s)) (firstTlv pathSetup (openTlvs s)) refl refl
     where
       hold : (v : List ℕ) → tlvsWhole (openTlvs s) ≡ true → firstTlv pathSetup (openTlvs s) ≡ some v

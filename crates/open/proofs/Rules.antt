@@ -1,5 +1,6 @@
--- What a reader can cite of the answer to an OPEN object: accepted exactly if no rule is broken, refused by a number in a form's name exactly if
--- that rule is broken and none before it; SRv6's answers as they were; when there is a limit.
+-- What a reader can cite of the answer to an OPEN object: accepted exactly if no rule is broken, refused by a number in a form's name exactly if that rule is broken
+-- and none before it; SRv6's answers are those of document 01 alone; when there is a limit. The first part holds of any list of rules in an order, by induction, and of
+-- the table since no two rows have one number and form (computed); what is carried is found by cases of what is listed and there.
 use Prim.Native.Nat.{ℕ, zero, suc, _<_}
 use mathlib.Core.Path.{_≡_, refl, sym, ap, _∙_}
 use mathlib.Core.Logic.{_↔_, _⊎_}
@@ -43,7 +44,7 @@ use Rattle.open.specs.Open.{
   breaks2Srv6,
   breaks3Mpls,
   breaks3Srv6,
-  carriesSrv6,
+  srv6Carried,
   besideBy,
   carriesOf,
   Rule,
@@ -164,7 +165,7 @@ module _ (p : Setup) (s : List ℕ) where
   is-first = refl
 
   carries-zero : carriesOf p s .number ≡ 0
-  unfolding carriesOf carriesSrv6
+  unfolding carriesOf srv6Carried
   carries-zero = beside-zero (mplsListed s) (mplsOf s) (cond (listed s) (saidBy p (srv6Of s)) withoutSrv6) (said-zero p (listed s) (srv6Of s))
 
   -- "Otherwise accepted": accepted exactly if no rule is broken.
@@ -254,7 +255,7 @@ module _ (p : Setup) (s : List ℕ) where
 
   -- SRv6's answers stay: where no rule of sub-TLV 26 is broken, number and SRv6's half are those that document 01 alone gives,
   pub as-before : breaks1Mpls s ≡ false → breaks2Mpls s ≡ false → breaks3Mpls s ≡ false → srv6Half (openOf p s) ≡ openBefore p s
-  unfolding openOf carriesOf carriesSrv6 breaks1 breaks1Srv6
+  unfolding openOf carriesOf srv6Carried breaks1 breaks1Srv6
   as-before e f g = rw (e, f, g, one (framed s) (fitting s) (holding s) (listed s) (sizedIn (srv6Of s))) (
       go (breaks28 p) (not (framed s && (fitting s && holding s))) (listed s && not (sizedIn (srv6Of s))) (breaks2Srv6 s) (breaks3Srv6 s) (mplsListed s) (mplsOf s)
       )
@@ -282,9 +283,9 @@ module _ (p : Setup) (s : List ℕ) where
       go : (z a a′ b c l : Bool) (sub : Option (List ℕ))
           → srv6Half (firstRule (
           rule z notUsable noForm ∷ rule a openMalformed noForm ∷ rule a′ openMalformed srv6Setup ∷ rule b capabilityMissing srv6Setup ∷ rule c wrongMsd srv6Setup ∷ []
-          ) (besideBy l sub (carriesSrv6 p s)))
+          ) (besideBy l sub (srv6Carried p s)))
           ≡ cond z (openRefused notUsable noForm)
-          (cond (a || a′) (openRefused openMalformed noForm) (cond b (openRefused capabilityMissing noForm) (cond c (openRefused wrongMsd noForm) (carriesSrv6 p s))))
+          (cond (a || a′) (openRefused openMalformed noForm) (cond b (openRefused capabilityMissing noForm) (cond c (openRefused wrongMsd noForm) (srv6Carried p s))))
       go true a a′ b c l sub = refl
       go false true a′ b c l sub = refl
       go false false true b c l sub = refl
@@ -298,7 +299,7 @@ module _ (p : Setup) (s : List ℕ) where
   unlisted-as-before e = as-before (rw e) (rw e) (rw e)
 
   pub unlisted-carries-none : mplsListed s ≡ false → openOf p s .mpls ≡ false
-  unfolding carriesOf carriesSrv6
+  unfolding carriesOf srv6Carried
   unlisted-carries-none e = rw is-first (first-keeps (λ (o : Opened). o .mpls ≡ false) (λ k f. refl) (openRules p s) (rw e (go (listed s) (srv6Of s))))
     where
       go : (b : Bool) (o : Option (List ℕ)) → cond b (saidBy p o) withoutSrv6 .mpls ≡ false
@@ -314,7 +315,7 @@ module _ (p : Setup) (s : List ℕ) where
 
   -- The limit of an accepted OPEN that lists type 3 is that of its sub-TLV 27,
   pub accepted-limit : (w : List ℕ) → openOf p s .number ≡ 0 → listed s ≡ true → srv6Of s ≡ some w → openOf p s .limit ≡ limitOf w
-  unfolding carriesOf carriesSrv6
+  unfolding carriesOf srv6Carried
   accepted-limit w e f g = rw (accepted-carries e, f, g) (beside-limit (mplsListed s) (mplsOf s) (carriesBy p w))
 
   -- so there is none exactly if X is set or neither H.Encaps nor Segments Left is present;
@@ -324,7 +325,7 @@ module _ (p : Setup) (s : List ℕ) where
 
   -- and an OPEN whose pairs are only End Pop and End D limits nothing.
   pub ends-open-limits-nothing : (w : List ℕ) → srv6Of s ≡ some w → onlyEnds (pairsOf w) ≡ true → openOf p s .limit ≡ Free
-  unfolding carriesOf carriesSrv6
+  unfolding carriesOf srv6Carried
   ends-open-limits-nothing w g h =
       rw is-first (
       first-keeps (λ (o : Opened). o .limit ≡ Free) (λ k f. refl) (openRules p s)
@@ -337,7 +338,7 @@ module _ (p : Setup) (s : List ℕ) where
 
   -- The limit of an answer is the one that its v and m set, the octets being octets: what the flags are judged by.
   pub limit-of-depths : ((i : ℕ) → getD s i 0 < 256) → openOf p s .limit ≡ limitBy (depthIn (openOf p s .v)) (depthIn (openOf p s .m))
-  unfolding carriesOf carriesSrv6 limitOf hEncapsOf segmentsLeftOf depthIn
+  unfolding carriesOf srv6Carried limitOf hEncapsOf segmentsLeftOf depthIn
   limit-of-depths small =
       rw is-first (
       first-keeps (λ (x : Opened). x .limit ≡ limitBy (depthIn (x .v)) (depthIn (x .m))) (λ k f. refl) (openRules p s)

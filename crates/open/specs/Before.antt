@@ -1,4 +1,4 @@
--- What document 01 alone says of an OPEN object, before sub-TLV 26 was read (document 02, C-16), and the part of an answer that it says.
+-- What document 01 alone says of an OPEN object: no sub-TLV 26 (document 02, C-16). And the part of an answer that it says.
 use Prim.Native.Nat.{ℕ}
 use mathlib.Core.List.{List}
 use mathlib.Core.Bool.{Bool, false, cond, not, _&&_, _||_}
@@ -7,7 +7,7 @@ use Rattle.positions.specs.declared.Setup.{Setup}
 use Rattle.session.specs.declared.Limit.the-variants.{Free}
 use Rattle.session.specs.declared.Opened.{Opened}
 use Rattle.session.specs.Sessions.{openRefused}
-use Rattle.open.specs.Open.{srv6Of, listed, framed, fitting, holding, sizedIn, breaks28, breaks2Srv6, breaks3Srv6, carriesSrv6, noForm}
+use Rattle.open.specs.Open.{srv6Of, listed, framed, fitting, holding, sizedIn, breaks28, breaks2Srv6, breaks3Srv6, srv6Carried, noForm}
 
 -- An answer's number and SRv6's half: no form at fault is named, and there is no MPLS.
 abbrev pub srv6Half : Opened → Opened
@@ -42,4 +42,4 @@ openBefore p s =
     (cond (breaks1Before s) (openRefused openMalformed noForm)
     (cond (breaks2Srv6 s) (openRefused capabilityMissing noForm)
     (cond (breaks3Srv6 s) (openRefused wrongMsd noForm)
-    (carriesSrv6 p s))))
+    (srv6Carried p s))))

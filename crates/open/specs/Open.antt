@@ -120,8 +120,8 @@ saidBy p none = withoutSrv6
 saidBy p (some w) = carriesBy p w
 
 -- SRv6 is carried where type 3 is listed, as sub-TLV 27 says.
-unfoldable pub carriesSrv6 : Setup → List ℕ → Opened
-carriesSrv6 p s = cond (listed s) (saidBy p (srv6Of s)) withoutSrv6
+unfoldable pub srv6Carried : Setup → List ℕ → Opened
+srv6Carried p s = cond (listed s) (saidBy p (srv6Of s)) withoutSrv6
 
 abbrev pub besideBy : Bool → Option (List ℕ) → Opened → Opened
 besideBy false sub o = o
@@ -130,7 +130,7 @@ besideBy true (some w) o = mplsBeside w o
 
 -- MPLS is carried beside it where type 1 is listed, as sub-TLV 26 says.
 unfoldable pub carriesOf : Setup → List ℕ → Opened
-carriesOf p s = besideBy (mplsListed s) (mplsOf s) (carriesSrv6 p s)
+carriesOf p s = besideBy (mplsListed s) (mplsOf s) (srv6Carried p s)
 
 -- A rule: whether it is broken, the number that it refuses by, and the form at fault.
 pub record Rule : Type 0 where

@@ -4,6 +4,7 @@ ghost use mathlib.Core.Path.{_≡_};
 ghost use mathlib.Core.Bool.{true};
 ghost use Prim.Native.Nat.{_<_};
 ghost use lib.ListN.{length};
+ghost use Rattle.octets.specs.Octets.{end16};
 ghost use Rattle.open_frame.specs.Framed.{framed};
 use objects::CLASS_PLACE;
 use objects::HEADER;
@@ -27,7 +28,7 @@ const VERSION_WORTH: usize = 32;
 // Class, type, version and length are an OPEN's.
 pub fn is_framed(s: &[u8]) -> bool
     ensures framed { λ r. ⌜ r ≡ framed (now (s .entry)) ⌝ }
-    ensures short { λ r. ⌜ (r ≡ true → length (now (s .entry)) < 65536) ⌝ }
+    ensures short { λ r. ⌜ (r ≡ true → length (now (s .entry)) < end16) ⌝ }
 {
     if s.len() < TLVS_AT {
         return false;
@@ -36,6 +37,6 @@ pub fn is_framed(s: &[u8]) -> bool
     let kind = octets::octet(s, TYPE_PLACE) / TYPE_WORTH == OBJECT_TYPE;
     let version = octets::octet(s, VERSION_PLACE) / VERSION_WORTH == OPEN_VERSION;
     let same = octets::read16(s, LENGTH_PLACE) == s.len();
-    let openHeaded = octets::both(octets::both(class, kind), version);
-    octets::both(openHeaded, octets::both(same, s.len() % UNIT == 0))
+    let headed = octets::both(octets::both(class, kind), version);
+    octets::both(headed, octets::both(same, s.len() % UNIT == 0))
 }

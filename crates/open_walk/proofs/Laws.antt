@@ -2,13 +2,12 @@
 -- place on, with what was found before, gives the whole walk's answer; `left-end`, `left-broken`, `left-torn` and `left-next` are the ways
 -- out of a turn, and the laws before them say what a turn adds.
 use Prim.Native.Nat.{ℕ, suc, pred, _+_, _-_, _≤_, _<_}
-use native.Mathlib.Nat.{add-sub-cancel-left}
 use native.Mathlib.Omega.{arith}
 use mathlib.Core.Path.{_≡_, refl, sym, _∙_}
 use mathlib.Core.List.{List}
 use mathlib.Core.Bool.{Bool, true, false, cond, _&&_}
 use mathlib.Core.Option.{Option, none, some}
-use lib.ListN.{length, take, drop}
+use lib.ListN.{length, drop}
 use lib.Dec.{eqb}
 use Rattle.octets.specs.Octets.{part}
 use Rattle.octets.proofs.Laws.{length-part}
@@ -19,11 +18,6 @@ use Rattle.tlvs.proofs.Laws.{drop-part, items-end, items-turn}
 use Rattle.answers.proofs.Determined.{determined}
 use Rattle.setup_types.specs.SetupTypes.{pathSetup, listSize, holdsList, subsOf}
 use Rattle.open_walk.specs.Walk.{Sight, torn, seen, insideOf, openOnward, openWalk}
-
--- A part of a slice, as it is lent.
-pub part-lent : (s : List ℕ) (a n : ℕ) → take (a + n - a) (drop a s) ≡ part s a n
-unfolding part
-part-lent s a n = rw (add-sub-cancel-left a n)
 
 -- one turn -----------------------------------------------------------------------------------------------------
 

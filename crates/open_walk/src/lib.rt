@@ -6,7 +6,7 @@
 ghost use mathlib.Core.Path.{_≡_};
 ghost use Prim.Native.Nat.{_-_, _≤_, _<_};
 ghost use lib.ListN.{length};
-ghost use Rattle.octets.specs.Octets.{part};
+ghost use Rattle.octets.specs.Octets.{end16, part};
 ghost use Rattle.open_walk.specs.Walk.{sightOf, openWalk, Bounds};
 use setup_types::PATH_SETUP;
 use tlvs::Item;
@@ -21,7 +21,7 @@ pub enum Found {
 
 // The TLVs from `start` to `end`, or with `inner` the sub-TLVs there.
 pub fn walk(s: &[u8], start: usize, end: usize, inner: bool, want: usize) -> Found
-    requires { ⌜ (start ≤ end) × (end ≤ length (now s)) × (end < 65536) ⌝ }
+    requires { ⌜ (start ≤ end) × (end ≤ length (now s)) × (end < end16) ⌝ }
     ensures found { λ r. ⌜ sightOf (now (s .entry)) r ≡ openWalk inner want (part (now (s .entry)) start (end - start)) ⌝ }
     ensures within { λ r. ⌜ Bounds (now (s .entry)) r ⌝ }
 {

@@ -1,4 +1,4 @@
-// The two bit positions that come in at set-up (document 02, C-15): the flags A and R of sub-TLV 27 are not assigned yet.
+// The two bit positions that come in at set-up (document 02, C-15): the flags A and R of sub-TLV 27 have no assigned position.
 //
 // Positions count from the high end of the 16 flags: position p is worth 2^(15-p), so N stands at 14 and X at 15.
 // Usable are two different ones of 0 to 13: else 28.

@@ -1,11 +1,12 @@
--- Under every setup type but 1 judging and picking compute to SRv6's own, in document 01's numbers (specs/Alone). Assumes nothing.
+-- Under every setup type but 1 judging and picking compute to SRv6's own, in document 01's numbers (specs/Alone). Each rule of SRv6's form is rewritten into the
+-- paper's words (`r7` to `r30`; 29 and 30 never hold), then along the subobjects the checks give the same answer (`all-alone`). Assumes nothing.
 use Prim.Native.Nat.{ℕ, _+_, _/_, _%_}
 use mathlib.Core.Path.{_≡_, refl, sym, _∙_, ap}
 use mathlib.Core.List.{List, [], _∷_, _++_, append-nil}
 use mathlib.Core.Bool.{Bool, true, false, cond, not, _&&_, _||_}
 use lib.ListN.{length, getD}
 use lib.Dec.{eqb, ltb}
-use native.Mathlib.Omega.{arith}
+use native.Mathlib.Nat.{div-one}
 use borrow.Author.Tests.{eqb-true}
 use Rattle.octets.proofs.Said.{and-false}
 use Rattle.answers.specs.declared.verdict.Verdict.{Verdict}
@@ -69,9 +70,6 @@ knows-alone nt = rw (nai-alone nt) (go (eqb nt 0) (eqb nt 2) (eqb nt 4) (eqb nt 
     go false false false true = refl
     go false false false false = refl
 
-by-one : (a : ℕ) → a / 1 ≡ a
-by-one a = omega arith
-
 pub or-false : (a b : Bool) → (a || (b || false)) ≡ (a || b)
 or-false true b = refl
 or-false false true = refl
@@ -81,9 +79,9 @@ module _ (s : List ℕ) (ero : Bool) (at : ℕ) where
   abbrev head : Head
   head = headAlone s ero at
 
-  head-alone : headAt srv6Form s ero at ≡ head
+  pub head-alone : headAt srv6Form s ero at ≡ head
   unfolding headAt headOf kindOf flagIn
-  head-alone = rw (by-one (octetOf s (at + 3)))
+  head-alone = rw (div-one (octetOf s (at + 3)))
 
   -- The flags that MPLS has are not there.
   formed : malformed head ≡ false
@@ -94,25 +92,25 @@ module _ (s : List ℕ) (ero : Bool) (at : ℕ) where
   unfolding hasLabel
   unlabelled = and-false (eqb (head .s) 0)
 
-  r8 : rule8 srv6Form head ≡ not (eqb (head .nt) 0 || (eqb (head .nt) 2 || (eqb (head .nt) 4 || eqb (head .nt) 6)))
+  pub r8 : rule8 srv6Form head ≡ not (eqb (head .nt) 0 || (eqb (head .nt) 2 || (eqb (head .nt) 4 || eqb (head .nt) 6)))
   unfolding rule8
   r8 = ap not (knows-alone (head .nt))
 
-  r7 : rule7 srv6Form head ≡ (not (eqb (head .f) (cond (eqb (head .nt) 0) 1 0)) || not (eqb (head .size) (lengthAlone (head .nt) (head .s) (head .t))))
+  pub r7 : rule7 srv6Form head ≡ (not (eqb (head .f) (cond (eqb (head .nt) 0) 1 0)) || not (eqb (head .size) (lengthAlone (head .nt) (head .s) (head .t))))
   unfolding rule7 expectedLength
   r7 =
       rw (nai-alone (head .nt), formed)
       (or-false (not (eqb (head .f) (cond (eqb (head .nt) 0) 1 0))) (not (eqb (head .size) (lengthAlone (head .nt) (head .s) (head .t)))))
 
-  r11 : rule11 head (bitsAt srv6Form head s at) ≡ (structured (head .s) (head .t) && ltb 128 (fourFrom s (structureAlone at (head .nt))))
+  pub r11 : rule11 head (bitsAt srv6Form head s at) ≡ (structured (head .s) (head .t) && ltb 128 (fourFrom s (structureAlone at (head .nt))))
   unfolding rule11 hasStructure sumAt
   r11 = rw (nai-alone (head .nt))
 
-  r29 : (label : ℕ) → rule29 head label ≡ false
+  pub r29 : (label : ℕ) → rule29 head label ≡ false
   unfolding rule29
   r29 label = rw unlabelled
 
-  r30 : (time : ℕ) → rule30 head time ≡ false
+  pub r30 : (time : ℕ) → rule30 head time ≡ false
   unfolding rule30
   r30 time = rw unlabelled
 
@@ -124,7 +122,7 @@ module _ (s : List ℕ) (ero : Bool) (at : ℕ) where
   unfolding straysAt strayFlags structureFlags reservedOctets hasStructure
   strays-alone = rw (head-alone, nai-alone (head .nt))
 
-  segment-alone : segmentAt srv6Form s ero at ≡ oneSegment head s at
+  pub segment-alone : segmentAt srv6Form s ero at ≡ oneSegment head s at
   unfolding segmentAt hasStructure
   segment-alone = rw (head-alone, nai-alone (head .nt))
 

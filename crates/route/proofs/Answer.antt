@@ -1,5 +1,6 @@
 -- The answer by its parts: what one pass settles, 15's; and what an acceptance says of the octets. The frame's, 13's, the walk's and 12's parts stand in
--- route_ordered/proofs/Ordered. Assumes nothing.
+-- route_ordered/proofs/Ordered. An answer without a number means that no check of the list is broken (`accepted-none`); from the checks of subobject i and from its
+-- place in the frame (`place-fits`) it follows where its parts lie. Assumes nothing.
 use Prim.Native.Nat.{ℕ, zero, suc, _+_, _-_, _%_, _≤_, _<_}
 use mathlib.Core.Path.{_≡_, refl, sym, _∙_, ap}
 use mathlib.Core.List.{List, [], _∷_, _++_}
@@ -31,7 +32,8 @@ use Rattle.subobject_read.specs.Reader.{readOf}
 use Rattle.octets.proofs.Said.{both-true}
 use Rattle.subobject.proofs.Laws.{sound-length, sound-least}
 use Rattle.frame.specs.Checks.{Check, check, firstBroken}
-use Rattle.frame.specs.Frames.{headed, fitsIn, Apart, ended, unfilled, from, apart, apartOf, placesOf, rule4, rule5, frameChecks, frameOf}
+use Rattle.frame.specs.Frames.{headed, fitsIn, Apart, ended, unfilled, from, apart, apartOf, placesOf, rule4, rule5, frameChecks}
+use Rattle.frame.specs.Gathered.{frameOf}
 use Rattle.frame.proofs.Checks.{first-append, None, Numbered, none-first, none-append, none-split, numbered-append, first-none, first-some}
 use Rattle.frame.proofs.Laws.{Sized, headed-sized, fits-true}
 use Rattle.route.specs.declared.picking.Picked.{Picked}

@@ -1,4 +1,5 @@
--- The judgement by setup type: the PST names the form, SRv6's if it names none. Accepted is only 1 with MPLS agreed, and 3 with SRv6 agreed. Assumes nothing.
+-- The judgement by setup type: the PST names the form, SRv6's if it names none. Accepted is only 1 with MPLS agreed, and 3 with SRv6 agreed: an acceptance leaves 13
+-- unbroken, and 13 is taken apart. The rest is the law of any form, taken to the form named (`by-named`). Assumes nothing.
 use Prim.Native.Nat.{ℕ, _%_, _≤_, _<_}
 use mathlib.Core.Path.{_≡_, refl, sym, _∙_, ap, subst}
 use mathlib.Core.List.{List}

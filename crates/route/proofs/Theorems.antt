@@ -1,5 +1,6 @@
--- What a verdict means. Accepted exactly if no rule is broken; refused by n at p exactly if n is broken at p and nothing before it in
--- document 01's order is. Assumes nothing.
+-- What a verdict means. Accepted exactly if no rule is broken; refused by n at p exactly if n is broken at p and nothing before it in document 01's order is. The
+-- answer is the first broken check of a list (frame/proofs/Checks, by rank), and a place in the order is a rank in that list (`rank-check`, `standing`: proofs/Order).
+-- Assumes nothing.
 use Prim.Native.Nat.{ℕ, _+_, _*_, _<_}
 use mathlib.Core.Path.{_≡_, refl, sym, _∙_, ap}
 use mathlib.Core.List.{List, [], _∷_}
@@ -20,6 +21,7 @@ use Rattle.frame.specs.Checks.{Check, check}
 use Rattle.frame.proofs.Checks.{checkOf, First, Found, none-all, all-none, none-first, first-answer, answer-first}
 use Rattle.route.specs.declared.picking.Picked.{Picked}
 use Rattle.route_walk.specs.Walk.{checksAt}
+use Rattle.route.specs.Parts.{sessionBy}
 use Rattle.route.specs.Routes.{wholeChecks, rule12, checksOf, countOf, acceptanceOf, judgeAs, segmentAs, judgeOf, segmentOf}
 use Rattle.route.specs.Order.{Where, wholeCount, Among, Before, checkAt, FirstBroken}
 use Rattle.route.proofs.Answer.{accepted-none}
@@ -151,6 +153,10 @@ segment-determined-as form s ero session pst i a b e f = e ∙ sym f
 
 pub judge-determined : (s : List ℕ) (ero : Bool) (session : Session) (pst : ℕ) (a b : Verdict) → a ≡ judgeOf s ero session pst → b ≡ judgeOf s ero session pst → a ≡ b
 judge-determined s ero session pst a b e f = e ∙ sym f
+
+pub judge-parts-determined : (s : List ℕ) (ero agreed n has : Bool) (most pst : ℕ) (a b : Verdict) → a ≡ judgeOf s ero (sessionBy agreed n has most) pst
+    → b ≡ judgeOf s ero (sessionBy agreed n has most) pst → a ≡ b
+judge-parts-determined s ero agreed n has most pst a b e f = e ∙ sym f
 
 pub segment-determined : (s : List ℕ) (ero : Bool) (session : Session) (pst i : ℕ) (a b : Picked) → a ≡ segmentOf s ero session pst i
     → b ≡ segmentOf s ero session pst i → a ≡ b

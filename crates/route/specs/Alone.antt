@@ -1,5 +1,5 @@
--- SRv6 by itself, in document 01's own numbers ("The route object"; strays by document 02, C-18). No contract cites it: that SRv6's routes are judged as before rests
--- on it, and proofs/Alone shows that judging and picking under every setup type but 1 compute to it.
+-- SRv6 by itself, in document 01's own numbers ("The route object"; strays by document 02, C-18). No contract cites it: that SRv6's routes are judged as document 01 alone
+-- says rests on it, and proofs/Alone shows that judging and picking under every setup type but 1 compute to it.
 use Prim.Native.Nat.{ℕ, _+_, _*_, _/_, _%_}
 use mathlib.Core.List.{List, [], _∷_, _++_}
 use mathlib.Core.Bool.{Bool, false, cond, not, _&&_, _||_}

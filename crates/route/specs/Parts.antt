@@ -1,4 +1,5 @@
--- Parts of the judgement. No promise rests on them: contracts of inner functions cite them, and proofs put them together to Routes.
+-- Parts of the judgement. `sessionBy` says in which session `judge_parts` and `route_call::judge_plain` judge, which the border's calls hand their sessions to; no promise
+-- rests on the others: contracts of inner functions cite them, and proofs put them together to Routes.
 use Prim.Native.Nat.{ℕ}
 use mathlib.Core.Bool.{Bool, true, false, cond}
 use Rattle.msd.specs.Msd.{absent}

@@ -28,6 +28,7 @@ use Rattle.msd.specs.Msd.{depthIn}
 use Rattle.msd_limit.specs.Limits.{limitBy, oneMoreBy, within}
 use Rattle.msd_limit.proofs.Theorems.{one-more-keeps}
 use Rattle.route.specs.declared.picking.Picked.{Picked}
+use Rattle.route.specs.Parts.{sessionBy}
 use Rattle.route.specs.Routes.{past, rule12, countOf, judgeAs, judgeOf, segmentOf}
 use Rattle.route.specs.Order.{Where, whole, inside, last, Among, checkAt, FirstBroken}
 use Rattle.route.proofs.Setups.{judge-low}
@@ -230,6 +231,18 @@ pub judge-determined : (s : List ℕ) (ero : Bool) (both : Sessions) (pst : ℕ)
     → x ≡ judgedFor s ero both pst addresses → y ≡ judgedFor s ero both pst addresses → x ≡ y
 judge-determined s ero both pst addresses = determined
 
+pub judge-in-determined : (s : List ℕ) (ero : Bool) (own : Session) (pst : ℕ) (addresses : List ℕ) {x y : Verdict}
+    → x ≡ judgedIn s ero own pst addresses → y ≡ judgedIn s ero own pst addresses → x ≡ y
+judge-in-determined s ero own pst addresses = determined
+
+pub judge-plain-determined : (s : List ℕ) (ero agreed n has : Bool) (most pst : ℕ) (addresses : List ℕ) {x y : Verdict}
+    → x ≡ judgedIn s ero (sessionBy agreed n has most) pst addresses → y ≡ judgedIn s ero (sessionBy agreed n has most) pst addresses → x ≡ y
+judge-plain-determined s ero agreed n has most pst addresses = determined
+
 pub segment-determined : (s : List ℕ) (ero : Bool) (both : Sessions) (pst : ℕ) (addresses : List ℕ) (i : ℕ) {x y : Picked}
     → x ≡ segmentFor s ero both pst addresses i → y ≡ segmentFor s ero both pst addresses i → x ≡ y
 segment-determined s ero both pst addresses i = determined
+
+pub segment-in-determined : (s : List ℕ) (ero : Bool) (own : Session) (pst : ℕ) (addresses : List ℕ) (i : ℕ) {x y : Picked}
+    → x ≡ segmentIn s ero own pst addresses i → y ≡ segmentIn s ero own pst addresses i → x ≡ y
+segment-in-determined s ero own pst addresses i = determined

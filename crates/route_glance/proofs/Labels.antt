@@ -15,7 +15,8 @@ use Rattle.subobject.specs.Rules.{rule7, rule8, rule9, rule10, rule11, hasStruc
 use Rattle.subobject_strays.specs.Strays.{straysBy, strayOne, strayFlags, structureFlags, reservedOctets}
 use Rattle.label_run.specs.Alone.{LabelAlone, EachAlone, AloneTo}
 use Rattle.subobject_sound.proofs.Labels.{good-29, plain-30}
-use Rattle.route_glance.proofs.Pass.{Good, Gone, gone-starts, gone-on, good-made, fits-made}
+use Rattle.frame.proofs.Laws.{fits-made}
+use Rattle.route_glance.proofs.Pass.{Good, Gone, gone-starts, gone-on, good-made}
 
 -- type 36, 8 octets, NT 0, F and M
 abbrev aloneHead : Bool → Head

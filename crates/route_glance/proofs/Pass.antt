@@ -7,19 +7,20 @@ use mathlib.Core.Bool.{Bool, true, false, cond}
 use lib.Dec.{eqb}
 use lib.ListN.{length}
 use native.Mathlib.Omega.{arith}
-use borrow.Author.Tests.{eq-eqb, ne-eqb, le-ltb, le-leb}
+use borrow.Author.Tests.{eq-eqb, ne-eqb, le-ltb}
 use Rattle.answers.specs.Verdicts.{acceptedWith, carryingBoth}
 use Rattle.octets.specs.Octets.{octetOf}
-use Rattle.objects.specs.Objects.{header, unit}
+use Rattle.objects.specs.Objects.{header}
 use Rattle.forms.specs.declared.Form.{Form}
 use Rattle.subobject.specs.declared.head.Head.{Head}
 use Rattle.subobject.specs.Layout.{headOf, headAt, kindOf, sidPlace}
 use Rattle.subobject.specs.Rules.{rule7, rule8, rule9, rule10, rule11, rule29, rule30, bitsAt, labelAt, timeAt, rules, subjectBy}
 use Rattle.subobject_strays.specs.Strays.{straysBy, straysAt, strayOne, strayIn}
 use Rattle.frame.specs.Checks.{Check, firstBroken}
-use Rattle.frame.specs.Frames.{Apart, ended, headed, fitsIn, apartOf, placesOf, kindAt, anyIs, otherThan, mixedAt, rule4, rule5, rule6, rule6Place, rule14, frameOf}
+use Rattle.frame.specs.Frames.{Apart, ended, headed, fitsIn, apartOf, placesOf, kindAt, anyIs, otherThan, mixedAt, rule4, rule5, rule6, rule6Place, rule14}
+use Rattle.frame.specs.Gathered.{frameOf}
 use Rattle.frame.proofs.Checks.{None, none-first, none-append}
-use Rattle.frame.proofs.Laws.{Over, over-starts, over-ends, over-next, long-enough}
+use Rattle.frame.proofs.Laws.{Over, over-starts, over-ends, over-next}
 use Rattle.frame.specs.Rows.{checksBy}
 use Rattle.route_walk.specs.Walk.{checksAt, subobjectChecks, walkOf}
 use Rattle.route_glance.specs.Settled.{Settled, SettledBy, strayWorth}
@@ -69,9 +70,6 @@ good-made form s ero n at h e k a b c d f g i =
       kind = head-kind form s ero at ∙ ap (λ (x : Head). x .kind) (sym e) ∙ k;
       rules = subst (λ (x : Head). None (checksBy rules (subjectBy form x s ero n at) at)) e (a, (b, (c, (d, (f, (g, (i, tt)))))));
     }
-
-pub fits-made : (size room : ℕ) → 4 ≤ size → size % 4 ≡ 0 → size ≤ room → fitsIn size room ≡ true
-fits-made size room l f r = sym (long-enough size room r f) ∙ le-leb unit size l
 
 pub gone-on : {form : Form} {s : List ℕ} {ero n : Bool} {at count stray : ℕ} → Gone form s ero n at count stray → (h : Head) (one : ℕ) → at < length s
     → h ≡ headAt form s ero at → fitsIn (h .size) (length s - at) ≡ true → Good form s ero n at → one ≡ strayOne (straysBy form h s at)

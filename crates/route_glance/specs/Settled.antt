@@ -5,7 +5,7 @@ use mathlib.Core.List.{List}
 use mathlib.Core.Bool.{Bool}
 use Rattle.answers.specs.Verdicts.{acceptedWith, carryingBoth}
 use Rattle.forms.specs.declared.Form.{Form}
-use Rattle.frame.specs.Frames.{frameOf}
+use Rattle.frame.specs.Gathered.{frameOf}
 use Rattle.route_walk.specs.Walk.{walkOf}
 
 -- The rules on the frame are kept, with `count` subobjects, and so are those of the subobjects, of which `stray` are stray.

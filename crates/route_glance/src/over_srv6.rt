@@ -3,13 +3,14 @@ ghost use mathlib.Core.Path.{_≡_};
 ghost use mathlib.Core.Bool.{true};
 ghost use Prim.Native.Nat.{_<_};
 ghost use lib.ListN.{length};
+ghost use Rattle.octets.specs.Octets.{end16};
 ghost use Rattle.forms.specs.Forms.{srv6Form};
 ghost use Rattle.frame.specs.Frames.{headed};
 ghost use Rattle.route_glance.specs.Settled.{SettledBy};
 use super::seen::STRAY_WORTH;
 
 pub fn see_srv6(s: &[u8], ero: bool, n: bool) -> usize
-    requires { ⌜ (headed (now s) ero ≡ true) × (length (now s) < 65536) ⌝ }
+    requires { ⌜ (headed (now s) ero ≡ true) × (length (now s) < end16) ⌝ }
     ensures settled { λ r. ⌜ SettledBy srv6Form (now (s .entry)) ero n r ⌝ }
 {
     let form = forms::srv6();

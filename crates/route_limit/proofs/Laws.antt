@@ -1,4 +1,5 @@
--- Laws of the limit that an ERO is judged by: the first segment in the code's words, and what the limit is.
+-- Laws of the limit that an ERO is judged by: the first segment in the code's words, and what the limit is. Each way out of the code is one law: the tests that led
+-- there are rewritten into the definition, and it computes to what is returned.
 use Prim.Native.Nat.{ℕ, _+_, _/_, _%_, _≤_, _<_}
 use native.Mathlib.Omega.{arith}
 use mathlib.Core.Path.{_≡_, refl, sym, ap, _∙_}
@@ -6,7 +7,7 @@ use mathlib.Core.List.{List, []}
 use mathlib.Core.Bool.{Bool, true, false, cond, _&&_, _||_}
 use lib.ListN.{length, take, drop, length-take, length-drop}
 use lib.Dec.{eqb}
-use Rattle.octets.proofs.Said.{and-false}
+use Rattle.octets.proofs.Said.{and-false, or-true}
 use Rattle.answers.proofs.Determined.{determined}
 use Rattle.octets.specs.Octets.{octetOf, part}
 use Rattle.objects.specs.Objects.{header}
@@ -23,10 +24,6 @@ use Rattle.head_end.proofs.Laws.{short-is-none, none-in-none}
 use Rattle.route_limit.specs.FirstOff.{isAdjacency, firstHead, localAddress, ownAdjacency, staysOff, withOneMore, limitFor, sessionFor}
 
 -- the first segment ----------------------------------------------------------------------------------------------
-
-or-true : (a : Bool) → (a || true) ≡ true
-or-true true = refl
-or-true false = refl
 
 short-part : (s : List ℕ) (at : ℕ) → length s < at + addressSize → length (part s at addressSize) < addressSize
 unfolding part

@@ -17,7 +17,8 @@ use Rattle.octets.specs.Octets.{be16}
 use Rattle.objects.specs.Objects.{header}
 use Rattle.octets.proofs.Said.{both-true}
 use Rattle.frame.specs.Checks.{check, firstBroken}
-use Rattle.frame.specs.Frames.{headed, apartOf, placesOf, rule4, frameChecks, frameOf}
+use Rattle.frame.specs.Frames.{headed, apartOf, placesOf, rule4, frameChecks}
+use Rattle.frame.specs.Gathered.{frameOf}
 use Rattle.frame.proofs.Checks.{first-append, None, Numbered, none-first, numbered-append, first-none, first-some}
 use Rattle.frame.proofs.Laws.{headed-sized}
 use Rattle.route_walk.specs.Walk.{subobjectChecks, walkOf}

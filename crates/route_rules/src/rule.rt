@@ -1,11 +1,8 @@
 // 13 and 12.
 ghost use mathlib.Core.Path.{_≡_};
-ghost use mathlib.Core.Bool.{true, _&&_};
-ghost use Prim.Native.Nat.{_≤_, _<_};
+ghost use mathlib.Core.Bool.{_&&_};
 ghost use lib.Dec.{ltb};
-ghost use lib.ListN.{length};
-ghost use Rattle.frame.specs.Frames.{apartOf};
-ghost use Rattle.objects.specs.Objects.{header};
+ghost use Rattle.frame.specs.Gathered.{Walkable};
 ghost use Rattle.route_rules.specs.Parts.{limitedOf};
 ghost use Rattle.route_rules.specs.SessionRules.{rule13};
 use answers::Verdict;
@@ -28,7 +25,7 @@ fn past(ero: bool, most: usize, count: usize) -> bool
 
 // Last 12: of an acceptance of more segments than the limit.
 pub fn limited(s: &[u8], ero: bool, limit: Limit, w: Verdict) -> Verdict
-    requires { ⌜ (header ≤ length (now s)) × (length (now s) < 65536) × (apartOf (now s) .whole ≡ true) ⌝ }
+    requires { ⌜ Walkable (now s) ⌝ }
     ensures limited { λ r. ⌜ r ≡ limitedOf (now (s .entry)) ero limit w ⌝ }
 {
     if w.number != 0 {

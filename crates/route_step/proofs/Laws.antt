@@ -1,4 +1,5 @@
--- A step's answer from its verdict: what an acceptance says of the subobject, and what is handed out. Assumes nothing.
+-- A step's answer from its verdict: what an acceptance says of the subobject, and what is handed out. An acceptance is taken apart check by check (`accepted-sound`):
+-- a broken one would have answered its number. From the rules left unbroken come the lengths that the reader asks for. Assumes nothing.
 use Prim.Native.Nat.{ℕ, _+_, _-_, _%_, _≤_, _<_}
 use native.Mathlib.Omega.{arith}
 use mathlib.Core.Path.{_≡_, refl, sym, ap, _∙_}

@@ -3,9 +3,9 @@ use Prim.Native.Nat.{ℕ, zero, suc, _+_}
 use mathlib.Core.List.{List}
 use mathlib.Core.Bool.{Bool, cond}
 use lib.Dec.{eqb}
-use Rattle.octets.specs.Octets.{octetOf}
 use Rattle.forms.specs.declared.Form.{Form}
 use Rattle.forms.specs.Forms.{formOf}
+use Rattle.subobject.specs.Layout.{sizeAt}
 use Rattle.subobject.specs.Segments.{segmentAt, noSegment}
 use Rattle.route_step_rules.specs.StepRules.{stepVerdict}
 use Rattle.route_step.specs.declared.stepping.Stepped.{Stepped}
@@ -16,7 +16,7 @@ stepAs form s ero at =
     record {
       verdict = stepVerdict form s ero at;
       segment = cond (eqb (stepVerdict form s ero at .number) 0) (segmentAt form s ero at) noSegment;
-      next = cond (eqb (stepVerdict form s ero at .number) 0) (at + octetOf s (at + 1)) at;
+      next = cond (eqb (stepVerdict form s ero at .number) 0) (at + sizeAt s at) at;
     }
 
 -- The form is the one that the PST names, SRv6's if it names none.

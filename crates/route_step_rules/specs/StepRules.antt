@@ -1,6 +1,6 @@
 -- The rules of a step through a route: the subobject at a place, looked at by itself. The rules are document 01's, without those that hang on the whole route or
 -- on a session: 5, 6, 13, 10, 12.
-use Prim.Native.Nat.{ℕ, _+_, _-_}
+use Prim.Native.Nat.{ℕ, _-_}
 use mathlib.Core.List.{List, _∷_}
 use mathlib.Core.Bool.{Bool, true, not}
 use lib.Dec.{eqb}
@@ -8,10 +8,9 @@ use lib.ListN.{length}
 use Rattle.answers.specs.declared.verdict.Verdict.{Verdict}
 use Rattle.answers.specs.Numbers.{frameBroken, sidNeeded, noneOfForm, noSuchSegment}
 use Rattle.answers.specs.Verdicts.{acceptedWith}
-use Rattle.octets.specs.Octets.{octetOf}
 use Rattle.forms.specs.declared.Form.{Form}
 use Rattle.subobject.specs.declared.head.Head.{Head}
-use Rattle.subobject.specs.Layout.{headAt}
+use Rattle.subobject.specs.Layout.{sizeAt, headAt}
 use Rattle.subobject.specs.Rules.{subjectBy, rules}
 use Rattle.frame.specs.Checks.{Check, check, firstBroken}
 use Rattle.frame.specs.Frames.{fitsIn}
@@ -28,7 +27,7 @@ headChecks form h s at =
 abbrev pub stepChecks : Form → List ℕ → Bool → ℕ → List Check
 stepChecks form s ero at =
     check noSuchSegment 0 (outside s at)
-    ∷ check frameBroken 0 (not (fitsIn (octetOf s (at + 1)) (length s - at)))
+    ∷ check frameBroken 0 (not (fitsIn (sizeAt s at) (length s - at)))
     ∷ headChecks form (headAt form s ero at) s at
 
 unfoldable pub headVerdict : Form → Head → List ℕ → ℕ → Verdict

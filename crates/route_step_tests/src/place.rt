@@ -1,9 +1,9 @@
 // A place of a route: whether a subobject begins there, and whether it fits.
 ghost use mathlib.Core.Path.{_≡_};
 ghost use mathlib.Core.Bool.{not};
-ghost use Prim.Native.Nat.{_+_, _-_, _<_};
+ghost use Prim.Native.Nat.{_-_, _<_};
 ghost use lib.ListN.{length};
-ghost use Rattle.octets.specs.Octets.{octetOf};
+ghost use Rattle.subobject.specs.Layout.{sizeAt};
 ghost use Rattle.frame.specs.Frames.{fitsIn};
 ghost use Rattle.route_step_tests.specs.Places.{outside};
 
@@ -23,13 +23,13 @@ pub fn is_outside(s: &[u8], at: usize) -> bool
 // The subobject at a place doesn't fit.
 pub fn is_unfit(s: &[u8], at: usize) -> bool
     requires { ⌜ at < length (now s) ⌝ }
-    ensures unfit { λ r. ⌜ r ≡ not (fitsIn (octetOf (now (s .entry)) (at + 1)) (length (now (s .entry)) - at)) ⌝ }
+    ensures unfit { λ r. ⌜ r ≡ not (fitsIn (sizeAt (now (s .entry)) at) (length (now (s .entry)) - at)) ⌝ }
 {
     let room = s.len() - at;
     if room < objects::UNIT {
         return true;
     }
-    let len = octets::wide(s[at + 1]);
+    let len = octets::wide(s[at + subobject::SIZE_PLACE]);
     if room < len {
         return true;
     }

@@ -1,11 +1,7 @@
 // A nested walk over a route's subobjects and their checks. It stops at the first broken rule, even inside a subobject. What is set and ought to be 0 is no
 // broken rule: the subobjects that are stray are counted.
 ghost use mathlib.Core.Path.{_≡_};
-ghost use mathlib.Core.Bool.{true};
-ghost use Prim.Native.Nat.{_≤_, _<_};
-ghost use lib.ListN.{length};
-ghost use Rattle.objects.specs.Objects.{header};
-ghost use Rattle.frame.specs.Frames.{apartOf};
+ghost use Rattle.frame.specs.Gathered.{Walkable};
 ghost use Rattle.forms.specs.Sized.{Sized};
 ghost use Rattle.route_walk.specs.Walk.{walkOf};
 use super::order;
@@ -14,7 +10,7 @@ use forms::Form;
 
 // The first broken rule with the place of its subobject; else an acceptance of `count` segments, with how many of them are stray.
 pub fn walk(form: Form, s: &[u8], ero: bool, n: bool, count: usize) -> Verdict
-    requires { ⌜ (header ≤ length (now s)) × (length (now s) < 65536) × (apartOf (now s) .whole ≡ true) × (Sized form) ⌝ }
+    requires { ⌜ (Sized form) × Walkable (now s) ⌝ }
     ensures walked { λ r. ⌜ r ≡ walkOf form (now (s .entry)) ero n count ⌝ }
 {
     let end = s.len();

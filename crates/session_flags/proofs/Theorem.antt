@@ -9,7 +9,7 @@ use Rattle.positions.specs.declared.Setup.{Setup}
 use Rattle.session.specs.declared.Opened.{Opened}
 use Rattle.session.specs.Sessions.{openRefused, withoutSrv6, sessionsOf}
 use Rattle.capability_mpls.specs.Mpls.{mplsBeside}
-use Rattle.open.specs.Open.{mplsOf, srv6Of, mplsListed, listed, breaks28, saidBy, carriesSrv6, besideBy, carriesOf, Rule, openRules, firstRule, openOf}
+use Rattle.open.specs.Open.{mplsOf, srv6Of, mplsListed, listed, breaks28, saidBy, srv6Carried, besideBy, carriesOf, Rule, openRules, firstRule, openOf}
 use Rattle.open.proofs.Rules.{limit-of-depths}
 use Rattle.route_call.specs.Called.{judgedFor, flaggedOpen, withA, withR}
 use Rattle.route_call.proofs.Theorems.{flags-never-refuse}
@@ -54,10 +54,10 @@ behind28 p s = drop 1 (openRules p s)
 
 -- Where A and R stand is told by A and R alone: at any two pairs of usable positions all else is the same.
 pub positions-tell-flags : (p q : Setup) (s : List ℕ) → breaks28 p ≡ false → breaks28 q ≡ false → unflagged (openOf p s) ≡ unflagged (openOf q s)
-unfolding openOf carriesOf carriesSrv6
+unfolding openOf carriesOf srv6Carried
 positions-tell-flags p q s e f = rw (e, f) (
     refused (behind28 p s) (carriesOf p s) (carriesOf q s)
-    (beside (mplsListed s) (mplsOf s) (carriesSrv6 p s) (carriesSrv6 q s) (said (listed s) (srv6Of s)))
+    (beside (mplsListed s) (mplsOf s) (srv6Carried p s) (srv6Carried q s) (said (listed s) (srv6Of s)))
     )
   where
     said : (l : Bool) (o : Option (List ℕ)) → unflagged (cond l (saidBy p o) withoutSrv6) ≡ unflagged (cond l (saidBy q o) withoutSrv6)

@@ -10,6 +10,16 @@ use Rattle.forms.specs.declared.Form.{Form}
 use Rattle.forms.specs.Forms.{flagIn, naiLength}
 use Rattle.subobject.specs.declared.head.Head.{Head}
 
+-- "1 length", "2-3: NT (4 bits), 12 flags", the lower eight of them in octet 3.
+abbrev pub sizePlace : ℕ
+sizePlace = 1
+
+abbrev pub flagsPlace : ℕ
+flagsPlace = 2
+
+abbrev pub lowFlagsPlace : ℕ
+lowFlagsPlace = 3
+
 -- "6-7 endpoint behaviour", where the form has one.
 abbrev pub behaviourPlace : ℕ
 behaviourPlace = 6
@@ -34,10 +44,6 @@ structureLength s t = cond (structureThere s t) structureSize 0
 -- "The expected length is 8 plus the parts present"; for MPLS 4 plus these.
 unfoldable pub expectedLength : Form → ℕ → ℕ → ℕ → ℕ
 expectedLength form nt s t = form .fixed + sidLength form s + naiLength form nt + structureLength s t
-
--- More than a subobject with all its parts has.
-abbrev pub longest : ℕ
-longest = 773
 
 -- where the parts begin in a subobject at a place
 abbrev pub sidPlace : Form → ℕ → ℕ
@@ -76,9 +82,13 @@ headOf form o0 o1 o2 o3 ero =
       m = flagIn o3 (form .m);
     }
 
+-- The length that the subobject at a place says it has.
+abbrev pub sizeAt : List ℕ → ℕ → ℕ
+sizeAt s at = octetOf s (at + sizePlace)
+
 -- The head of the subobject at a place.
 unfoldable pub headAt : Form → List ℕ → Bool → ℕ → Head
-headAt form s ero at = headOf form (octetOf s at) (octetOf s (at + 1)) (octetOf s (at + 2)) (octetOf s (at + 3)) ero
+headAt form s ero at = headOf form (octetOf s at) (sizeAt s at) (octetOf s (at + flagsPlace)) (octetOf s (at + lowFlagsPlace)) ero
 
 -- The expected length of the subobject at a place.
 unfoldable pub expectedAt : Form → List ℕ → Bool → ℕ → ℕ

@@ -1,3 +1,4 @@
+pub mod Inner
 pub mod Layout
 pub mod Rules
 pub mod Segments

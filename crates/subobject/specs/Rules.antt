@@ -6,6 +6,7 @@ use mathlib.Core.List.{List, [], _∷_}
 use lib.Dec.{eqb, ltb}
 use Rattle.answers.specs.Numbers.{naiUnknown, nothingThere, lengthWrong, sidNeeded, structureTooLong, labelValue, labelFormat}
 use Rattle.octets.specs.Octets.{octetOf}
+unfoldable pub use Rattle.octet_sums.specs.Sums.{sumAt}
 use Rattle.forms.specs.declared.Form.{Form}
 use Rattle.forms.specs.Forms.{noNai, knows}
 use Rattle.subobject.specs.declared.head.Head.{Head}
@@ -47,20 +48,29 @@ mostBits = 128
 unfoldable pub rule11 : Head → ℕ → Bool
 rule11 h sum = hasStructure h && ltb mostBits sum
 
--- The sum of four octets from a place on.
-unfoldable pub sumAt : List ℕ → ℕ → ℕ
-sumAt s at = octetOf s at + octetOf s (at + 1) + octetOf s (at + 2) + octetOf s (at + 3)
-
 -- The sum of the four bit lengths of the subobject at a place.
 abbrev pub bitsAt : Form → Head → List ℕ → ℕ → ℕ
 bitsAt form h s at = sumAt s (structurePlace form at (h .nt))
 
 -- A label stack entry: 20 bits of label, 3 of TC, 1 of S, 8 of TTL. It stands where the SID does, if there is a SID and M is 1.
+-- What the lowest bit of its first and second octet is worth in the label, and that of the third octet which is in it; the place of the TTL.
+abbrev pub firstWorth : ℕ
+firstWorth = 4096
+
+abbrev pub secondWorth : ℕ
+secondWorth = 16
+
+abbrev pub thirdPart : ℕ
+thirdPart = 16
+
+abbrev pub timePlace : ℕ
+timePlace = 3
+
 unfoldable pub labelAt : List ℕ → ℕ → ℕ
-labelAt s at = octetOf s at * 4096 + octetOf s (at + 1) * 16 + octetOf s (at + 2) / 16
+labelAt s at = octetOf s at * firstWorth + octetOf s (at + 1) * secondWorth + octetOf s (at + 2) / thirdPart
 
 unfoldable pub timeAt : List ℕ → ℕ → ℕ
-timeAt s at = octetOf s (at + 3)
+timeAt s at = octetOf s (at + timePlace)
 
 unfoldable pub hasLabel : Head → Bool
 hasLabel h = eqb (h .s) 0 && eqb (h .m) 1

@@ -3,7 +3,8 @@ ghost use mathlib.Core.Path.{_≡_};
 ghost use mathlib.Core.Bool.{cond};
 ghost use Prim.Native.Nat.{_+_, _≤_, _<_};
 ghost use lib.ListN.{length};
-ghost use Rattle.subobject.specs.Layout.{headAt, kindOf, longest};
+ghost use Rattle.subobject.specs.Layout.{headAt, kindOf};
+ghost use Rattle.subobject.specs.Inner.{longest};
 ghost use Rattle.subobject.specs.Rules.{hasStructure};
 ghost use Rattle.subobject.specs.Segments.{headOfOutline};
 use super::parts;
@@ -51,9 +52,9 @@ pub fn head_at(form: Form, s: &[u8], at: usize, ero: bool) -> Head
     ensures small { λ r. ⌜ (r .size < 256) × (r .nt < 16) ⌝ }
 {
     let first = octets::wide(s[at]);
-    let size = octets::wide(s[at + 1]);
-    let high = octets::wide(s[at + 2]);
-    let low = octets::wide(s[at + 3]);
+    let size = octets::wide(s[at + parts::SIZE_PLACE]);
+    let high = octets::wide(s[at + parts::FLAGS_PLACE]);
+    let low = octets::wide(s[at + parts::LOW_FLAGS_PLACE]);
     Head {
         kind: kind(first, ero),
         size: size,

@@ -1,13 +1,21 @@
 // The parts of a subobject, and the length that is expected of it.
 ghost use mathlib.Core.Path.{_≡_};
 ghost use Prim.Native.Nat.{_+_, _≤_};
-ghost use Rattle.subobject.specs.Layout.{structureThere, expectedLength, longest};
+ghost use Rattle.subobject.specs.Layout.{structureThere, expectedLength};
+ghost use Rattle.subobject.specs.Inner.{longest};
 use forms::Form;
 
 // what a segment keeps for an NAI and for a SID
 pub const NAI_SIZE: usize = objects::NAI_SIZE;
 
 pub const SID_SIZE: usize = objects::SID_SIZE;
+
+// the length; NT and the 12 flags, and the lower eight of these
+pub const SIZE_PLACE: usize = 1;
+
+pub const FLAGS_PLACE: usize = 2;
+
+pub const LOW_FLAGS_PLACE: usize = 3;
 
 // the endpoint behaviour; the SID structure and its four bit lengths
 pub const BEHAVIOUR_PLACE: usize = 6;

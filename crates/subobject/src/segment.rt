@@ -2,6 +2,7 @@
 // Octets kept for a part that is absent or shorter are 0.
 ghost use mathlib.Core.Path.{_≡_};
 ghost use Prim.Native.Nat.{_<_};
+ghost use Rattle.octets.specs.Octets.{end16};
 ghost use Rattle.subobject.specs.Segments.{outlineOf};
 
 // A type takes no named length: 16 is SID_SIZE, 40 NAI_SIZE, 4 BIT_LENGTHS, here and wherever an array of them is made.
@@ -33,7 +34,7 @@ pub struct Outline {
 
 pub fn outline_of(g: Segment) -> Outline
     ensures outline { λ r. ⌜ r ≡ outlineOf g ⌝ }
-    ensures small { λ r. ⌜ r .behaviour < 65536 ⌝ }
+    ensures small { λ r. ⌜ r .behaviour < end16 ⌝ }
 {
     Outline {
         loose: g.loose,

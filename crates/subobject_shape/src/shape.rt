@@ -10,12 +10,11 @@
 //   1 to 6   0  1  0  0      4 and the NAI; not where a SID is needed
 ghost use mathlib.Core.Path.{_≡_};
 ghost use mathlib.Core.Bool.{true, Bool};
-ghost use mathlib.Core.Bool.{false};
 ghost use Prim.Native.Nat.{ℕ, _+_, _≤_, _<_};
 ghost use lib.ListN.{length};
 ghost use Rattle.forms.specs.Forms.{mplsForm};
 ghost use Rattle.subobject.specs.Layout.{headOf, headAt};
-ghost use Rattle.subobject.specs.Rules.{rule7, rule8, rule9, rule10};
+ghost use Rattle.subobject.specs.Inner.{HeadSound};
 ghost use Rattle.subobject_shape.specs.Fitting.{Fitting, allowedBy};
 use subobject::Head;
 
@@ -58,9 +57,9 @@ fn fits(needed: bool, size: usize, high: usize, low: usize) -> bool
 // The same of the subobject at a place, which has the head h.
 pub fn mpls_head_sound(s: &[u8], at: usize, h: Head, ero: bool, n: bool) -> bool
     requires { ⌜ (at + 4 ≤ length (now s)) × (h ≡ headAt mplsForm (now s) ero at) × (h .size < 256) ⌝ }
-    ensures sound { λ r. ⌜ (r ≡ true → (rule8 mplsForm h ≡ false) × (rule9 h ≡ false) × (rule7 mplsForm h ≡ false) × (rule10 h ero n ≡ false)) ⌝ }
+    ensures sound { λ r. ⌜ (r ≡ true → HeadSound mplsForm h ero n) ⌝ }
 {
-    let high = octets::wide(s[at + 2]);
-    let low = octets::wide(s[at + 3]);
+    let high = octets::wide(s[at + subobject::FLAGS_PLACE]);
+    let low = octets::wide(s[at + subobject::LOW_FLAGS_PLACE]);
     fits(octets::both(ero, !n), h.size, high, low)
 }

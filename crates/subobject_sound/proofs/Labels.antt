@@ -8,15 +8,12 @@ use lib.ListN.{getD}
 use native.Mathlib.Omega.{arith}
 use borrow.Author.Tests.{eq-eqb, ne-eqb, eqb-true, eqb-false, le-ltb, not-true}
 use Rattle.octets.specs.Octets.{octetOf, be16}
-use Rattle.octets.proofs.Said.{either-false, and-false}
+use Rattle.octets.proofs.Said.{either-false, and-no}
 use Rattle.forms.specs.Forms.{mplsForm}
 use Rattle.subobject.specs.declared.head.Head.{Head}
 use Rattle.subobject.specs.Layout.{expectedLength}
 use Rattle.subobject.specs.Rules.{rule7, rule29, rule30, flagF, malformed, hasLabel, labelAt, timeAt, firstFree, goodLabel}
 use Rattle.subobject_sound.proofs.Laws.{label-room}
-
-and-no : (b c : Bool) → c ≡ false → (b && c) ≡ false
-and-no b c e = rw e (and-false b)
 
 pub no-label : (h : Head) → (h .m ≡ 1 → ⊥) → hasLabel h ≡ false
 unfolding hasLabel

@@ -8,7 +8,7 @@ use lib.ListN.{length, getD}
 use native.Mathlib.Omega.{arith}
 use borrow.Author.Tests.{eq-eqb, eqb-true, le-ltb, leb-true, not-true}
 use Rattle.octets.specs.Octets.{octetOf}
-use Rattle.octets.proofs.Said.{both-true}
+use Rattle.octets.proofs.Said.{both-true, and-false}
 use Rattle.forms.specs.declared.Form.{Form}
 use Rattle.forms.specs.Forms.{noNai, naiLength, knows}
 use Rattle.subobject.specs.declared.head.Head.{Head}
@@ -54,11 +54,7 @@ pub eleven-kept : (form : Form) (h : Head) (s : List ℕ) (at p sum : ℕ) (b : 
 unfolding rule11
 eleven-kept form h s at p sum b e q l z =
     let few : sum ≤ mostBits = leb-true sum mostBits (sym l ∙ z) in
-    rw (← q, ← e, le-ltb mostBits sum few) (go (hasStructure h))
-  where
-    go : (a : Bool) → (a && false) ≡ false
-    go true = refl
-    go false = refl
+    rw (← q, ← e, le-ltb mostBits sum few) (and-false (hasStructure h))
 
 pub eleven-none : (h : Head) (sum : ℕ) (r : Bool) → r ≡ hasStructure h → r ≡ false → rule11 h sum ≡ false
 unfolding rule11

@@ -4,8 +4,9 @@ ghost use mathlib.Core.Bool.{true, false};
 ghost use Prim.Native.Nat.{_+_, _≤_};
 ghost use lib.ListN.{length};
 ghost use Rattle.forms.specs.Forms.{mplsForm, naiLength};
-ghost use Rattle.subobject.specs.Layout.{expectedLength, sidPlace};
-ghost use Rattle.subobject.specs.Rules.{rule7, rule8, rule9, rule10, rule11, rule29, rule30, bitsAt, labelAt, timeAt, sumAt};
+ghost use Rattle.subobject.specs.Layout.{expectedLength};
+ghost use Rattle.subobject.specs.Rules.{rule7, rule11, bitsAt, labelAt, sumAt};
+ghost use Rattle.subobject.specs.Inner.{OfLength, HeadSound, LabelSound};
 use forms::Form;
 use subobject::Head;
 
@@ -22,7 +23,7 @@ fn expected(form: Form, h: Head, nai: usize) -> usize
 
 // 8, 9, 7 and 10, over the head.
 pub fn head_sound(form: Form, h: Head, ero: bool, n: bool) -> bool
-    ensures sound { λ r. ⌜ (r ≡ true → (rule8 form h ≡ false) × (rule9 h ≡ false) × (rule7 form h ≡ false) × (rule10 h ero n ≡ false)) ⌝ }
+    ensures sound { λ r. ⌜ (r ≡ true → HeadSound form h ero n) ⌝ }
 {
     let nai = forms::nai_length(form, h.nt);
     let bare = h.nt == forms::NO_NAI;
@@ -57,7 +58,7 @@ fn sum_in(s: &[u8], at: usize) -> usize
 
 // 11. A structure ends a subobject of the expected length.
 pub fn structure_sound(form: Form, s: &[u8], at: usize, h: Head) -> bool
-    requires { ⌜ (h .size ≡ expectedLength form (h .nt) (h .s) (h .t)) × (at + h .size ≤ length (now s)) ⌝ }
+    requires { ⌜ OfLength form h (now s) at ⌝ }
     ensures sound { λ r. ⌜ (r ≡ true → rule11 h (bitsAt form h (now (s .entry)) at) ≡ false) ⌝ }
 {
     if subobject::structured(h) {
@@ -78,23 +79,23 @@ fn label_in(s: &[u8], at: usize) -> usize
 
 // 29 and 30.
 pub fn label_sound(form: Form, s: &[u8], at: usize, h: Head) -> bool
-    requires { ⌜ (h .size ≡ expectedLength form (h .nt) (h .s) (h .t)) × (at + h .size ≤ length (now s)) × (4 ≤ form .sid) ⌝ }
-    ensures sound { λ r. ⌜ (r ≡ true → (rule29 h (labelAt (now (s .entry)) (sidPlace form at)) ≡ false) × (rule30 h (timeAt (now (s .entry)) (sidPlace form at)) ≡ false)) ⌝ }
+    requires { ⌜ (4 ≤ form .sid) × OfLength form h (now s) at ⌝ }
+    ensures sound { λ r. ⌜ (r ≡ true → LabelSound form h (now (s .entry)) at) ⌝ }
 {
     if label_rules::labelled(h) {
         let p = at + octets::wide(form.fixed);
         if label_rules::twenty_nine(h, label_in(s, p)) {
             return false;
         }
-        return !label_rules::thirty(h, octets::wide(s[p + 3]));
+        return !label_rules::thirty(h, octets::wide(s[p + label_entry::TIME_PLACE]));
     }
     true
 }
 
 // 29 and 30 of an MPLS subobject that breaks no rule before them: M is 1 only where there is a SID.
 pub fn mpls_label_sound(s: &[u8], at: usize, h: Head) -> bool
-    requires { ⌜ (h .size ≡ expectedLength mplsForm (h .nt) (h .s) (h .t)) × (at + h .size ≤ length (now s)) × (rule7 mplsForm h ≡ false) × (h .s ≤ 1) ⌝ }
-    ensures sound { λ r. ⌜ (r ≡ true → (rule29 h (labelAt (now (s .entry)) (sidPlace mplsForm at)) ≡ false) × (rule30 h (timeAt (now (s .entry)) (sidPlace mplsForm at)) ≡ false)) ⌝ }
+    requires { ⌜ (rule7 mplsForm h ≡ false) × (h .s ≤ 1) × OfLength mplsForm h (now s) at ⌝ }
+    ensures sound { λ r. ⌜ (r ≡ true → LabelSound mplsForm h (now (s .entry)) at) ⌝ }
 {
     if h.m != 1 {
         return true;

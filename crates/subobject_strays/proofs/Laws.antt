@@ -1,4 +1,5 @@
--- What is set and ought to be 0, as the code looks at it: octets two, three and four at a time. Assumes nothing.
+-- What is set and ought to be 0, as the code looks at it: octets two, three and four at a time. A sum is 0 exactly if its parts are (`set-sum`, `set-worth`), so
+-- a number made of octets is set where one of them is; what the code asks is then the specification's test in another order of its parts. Assumes nothing.
 use Prim.Native.Nat.{ℕ, zero, suc, _+_, _-_, _*_, _/_, _%_, _≤_, _<_}
 use mathlib.Core.Path.{_≡_, refl, sym, _∙_, ap}
 use mathlib.Core.Bool.{Bool, true, false, false≢true, cond, not, _&&_, _||_}
@@ -9,9 +10,9 @@ use native.Mathlib.Nat.{zero-add, le-refl, le-div-iff-mul-le}
 use native.Mathlib.Omega.{arith}
 use borrow.Author.Tests.{eq-eqb, ne-eqb, eqb-true, eqb-false}
 use Rattle.octets.specs.Octets.{octetOf, be16}
+use Rattle.octets.proofs.Said.{or-none}
 use Rattle.forms.specs.declared.Form.{Form}
 use Rattle.forms.specs.Forms.{naiLength}
-use Rattle.forms.specs.Sized.{Sized}
 use Rattle.subobject.specs.declared.head.Head.{Head}
 use Rattle.subobject_strays.specs.declared.Strays.{Strays}
 use Rattle.subobject.specs.Layout.{structureSize, bitLengths, expectedLength}
@@ -22,24 +23,6 @@ use Rattle.subobject_strays.specs.Four.{straysWith, markedAt, endingMark
 use Rattle.subobject.proofs.Laws.{there-sid}
 
 -- where things lie ---------------------------------------------------------------------------------------------
-
--- The fixed part has four octets, and eight where the form has a behaviour.
-pub fixed-least : {form : Form} → Sized form → 4 ≤ form .fixed
-fixed-least {form} z = rw (z .fixed) (go (form .behaves))
-  where
-    go : (b : Bool) → 4 ≤ cond b 8 4
-    go true = omega arith
-    go false = omega arith
-
-pub fixed-eight : {form : Form} → Sized form → form .behaves ≡ true → form .fixed ≡ 8
-fixed-eight z e = rw e at (z .fixed)
-
-pub fixed-most : {form : Form} → Sized form → form .fixed ≤ 8
-fixed-most {form} z = rw (z .fixed) (go (form .behaves))
-  where
-    go : (b : Bool) → cond b 8 4 ≤ 8
-    go true = omega arith
-    go false = omega arith
 
 pub fixed-expected : (form : Form) (nt s t : ℕ) → form .fixed ≤ expectedLength form nt s t
 unfolding expectedLength
@@ -83,10 +66,6 @@ set-worth a n f g = go (eqb a 0) refl
     go : (b : Bool) → eqb a 0 ≡ b → not (eqb n 0) ≡ not (eqb a 0)
     go true e = rw (e, eq-eqb n 0 (g (eqb-true a 0 e)))
     go false e = rw (e, ne-eqb n 0 (λ z. eqb-false a 0 e (f z)))
-
-pub or-none : (a : Bool) → (a || false) ≡ a
-or-none true = refl
-or-none false = refl
 
 or-join : (a b c : Bool) → ((a || b) || c) ≡ (a || (b || c))
 or-join true b c = refl

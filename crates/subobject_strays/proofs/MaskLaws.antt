@@ -1,4 +1,5 @@
--- Octets 2 to 5 of an SRv6 subobject as one number: its unassigned flags and its reserved octets are the bits of a mask. Assumes nothing.
+-- Octets 2 to 5 of an SRv6 subobject as one number: its unassigned flags and its reserved octets are the bits of a mask. Masking leaves the number below 16 and the
+-- one above 4095 (`masked`, by blocks of bits), and these are 0 exactly if the flags and both octets are (`set-fixed`, by arithmetic). Assumes nothing.
 use Prim.Native.Nat.{ℕ, zero, suc, _+_, _-_, _*_, _/_, _%_, _≤_, _<_}
 use mathlib.Core.Path.{_≡_, refl, sym, _∙_, ap}
 use mathlib.Core.Bool.{Bool, true, false, cond, not, _&&_, _||_}
@@ -9,11 +10,12 @@ use lib.ListN.{getD}
 use native.Mathlib.Omega.{arith}
 use borrow.Author.Tests.{eq-eqb, ne-eqb, eqb-true, eqb-false}
 use Rattle.octets.specs.Octets.{octetOf, be16}
+use Rattle.octets.proofs.Said.{or-none}
 use Rattle.forms.specs.Forms.{srv6Form}
 use Rattle.subobject_strays.specs.Strays.{strayFlags, anySet}
 use Rattle.octet_sums.specs.Sums.{fourOf, fourAt}
 use Rattle.subobject_strays.specs.Four.{markedAt}
-use Rattle.subobject_strays.proofs.Laws.{set-sum, set-worth, or-none, set-two}
+use Rattle.subobject_strays.proofs.Laws.{set-sum, set-worth, set-two}
 
 -- Octets 2 to 5: the unassigned flags, and the reserved two.
 low-parts : (a b c d : ℕ) → fourOf a b c d / 4096 ≡ 0 → (c + d ≡ 0) × (b < 16)

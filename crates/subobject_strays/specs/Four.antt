@@ -1,5 +1,5 @@
--- What a walk over many subobjects looks at to tell that nothing is stray. No promise rests on it: contracts of inner functions cite it, and
--- proofs turn it into Strays.
+-- What a walk over many subobjects looks at to tell that nothing is stray. No call is promised by it: contracts of inner functions cite it, and proofs turn it
+-- into Strays. Only the law that a segment without a mark counts 0 (`unmarked-none`) is stated by `markedAt` and `endingMarked`.
 use Prim.Native.Nat.{ℕ, _+_, _-_}
 use mathlib.Core.Bool.{Bool, false, cond, not, _&&_, _||_}
 use mathlib.Core.List.{List}

@@ -8,13 +8,10 @@ use Rattle.octets.specs.Octets.{octetOf, be16}
 use Rattle.forms.specs.declared.Form.{Form}
 use Rattle.subobject.specs.declared.head.Head.{Head}
 use Rattle.subobject_strays.specs.declared.Strays.{Strays}
-use Rattle.subobject.specs.Layout.{bitLengths, structurePlace, headAt}
+use Rattle.subobject.specs.Layout.{flagsPlace, bitLengths, structurePlace, headAt}
 use Rattle.subobject.specs.Rules.{hasStructure}
 
 -- "2-3: NT (4 bits), 12 flags", of which the form assigns the lowest: the 12 flags with these 0.
-abbrev pub flagsPlace : ℕ
-flagsPlace = 2
-
 abbrev pub allFlags : ℕ
 allFlags = 4096
 

@@ -8,14 +8,14 @@ ghost use Rattle.octets.specs.Octets.{be16};
 ghost use Rattle.forms.specs.Forms.{srv6Form};
 ghost use Rattle.forms.specs.Sized.{Sized};
 ghost use Rattle.subobject.specs.Layout.{expectedLength};
+ghost use Rattle.subobject.specs.Inner.{OfLength};
 ghost use Rattle.subobject_strays.specs.Four.{straysWith, markedAt, endingMarked};
-ghost use Rattle.subobject_strays.specs.Strays.{reservedPlace, strayFlags, straysBy, noStrays, strayOne};
+ghost use Rattle.subobject_strays.specs.Strays.{allFlags, reservedPlace, strayFlags, straysBy, noStrays, strayOne};
 use forms::Form;
+use subobject::FLAGS_PLACE;
 use subobject::Head;
 
-// where the flags stand with NT, and what NT's lowest bit is worth there
-pub const FLAGS_PLACE: usize = 2;
-
+// what NT's lowest bit is worth in the two octets that it shares with the flags
 pub const ALL_FLAGS: usize = 4096;
 
 // octets 2 to 5 of SRv6, the first the lowest, without NT, V, T, F and S
@@ -44,7 +44,7 @@ pub fn no_strays() -> Strays
 // The unassigned flags of the subobject at `at`.
 fn stray_flags(form: Form, s: &[u8], at: usize) -> usize
     requires { ⌜ (at + 4 ≤ length (now s)) × Sized form ⌝ }
-    ensures flags { λ r. ⌜ (r ≡ strayFlags form (now (s .entry)) at) × (r < 4096) ⌝ }
+    ensures flags { λ r. ⌜ (r ≡ strayFlags form (now (s .entry)) at) × (r < allFlags) ⌝ }
 {
     let free = octets::wide(form.free);
     octets::read16(s, at + FLAGS_PLACE) % ALL_FLAGS / free * free
@@ -63,7 +63,7 @@ fn reserved_two(form: Form, s: &[u8], at: usize) -> usize
 
 // The strays with a structure whose last four octets stand at p.
 fn with_structure(s: &[u8], p: usize, flags: usize, fixed: usize) -> Strays
-    requires { ⌜ (p + 4 ≤ length (now s)) × (flags < 4096) ⌝ }
+    requires { ⌜ (p + 4 ≤ length (now s)) × (flags < allFlags) ⌝ }
     ensures strays { λ r. ⌜ r ≡ straysWith (now (s .entry)) p flags fixed ⌝ }
 {
     let more = octet_sums::sum_three(s, p);
@@ -118,7 +118,7 @@ fn marked_srv6(s: &[u8], at: usize) -> bool
 
 // Whether one of the last four octets of a structure is set. They end a subobject of the expected length.
 fn ending_marked(form: Form, s: &[u8], at: usize, h: Head) -> bool
-    requires { ⌜ (h .size ≡ expectedLength form (h .nt) (h .s) (h .t)) × (at + h .size ≤ length (now s)) ⌝ }
+    requires { ⌜ OfLength form h (now s) at ⌝ }
     ensures marked { λ r. ⌜ r ≡ endingMarked h (now (s .entry)) at ⌝ }
 {
     if subobject::structured(h) {
@@ -129,7 +129,7 @@ fn ending_marked(form: Form, s: &[u8], at: usize, h: Head) -> bool
 
 // 1 for a stray segment, else 0: what a walk over many subobjects counts.
 pub fn stray_of(form: Form, s: &[u8], at: usize, h: Head) -> usize
-    requires { ⌜ (at + form .fixed ≤ length (now s)) × (h .size ≡ expectedLength form (h .nt) (h .s) (h .t)) × (at + h .size ≤ length (now s)) × Sized form ⌝ }
+    requires { ⌜ (at + form .fixed ≤ length (now s)) × (Sized form) × OfLength form h (now s) at ⌝ }
     ensures one { λ r. ⌜ (r ≡ strayOne (straysBy form h (now (s .entry)) at)) × (r ≤ 1) ⌝ }
 {
     if marked(form, s, at) {
@@ -143,7 +143,7 @@ pub fn stray_of(form: Form, s: &[u8], at: usize, h: Head) -> usize
 
 // The same for SRv6.
 pub fn stray_srv6(s: &[u8], at: usize, h: Head) -> usize
-    requires { ⌜ (at + srv6Form .fixed ≤ length (now s)) × (h .size ≡ expectedLength srv6Form (h .nt) (h .s) (h .t)) × (at + h .size ≤ length (now s)) ⌝ }
+    requires { ⌜ (at + srv6Form .fixed ≤ length (now s)) × OfLength srv6Form h (now s) at ⌝ }
     ensures one { λ r. ⌜ (r ≡ strayOne (straysBy srv6Form h (now (s .entry)) at)) × (r ≤ 1) ⌝ }
 {
     if marked_srv6(s, at) {

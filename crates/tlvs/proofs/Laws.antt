@@ -5,7 +5,7 @@ use Prim.Native.Nat.{ℕ, zero, suc, pred, _+_, _-_, _≤_, _<_}
 use native.Mathlib.Nat.{add-assoc, add-zero, le-refl}
 use native.Mathlib.Omega.{arith}
 use mathlib.Core.Path.{_≡_, refl, sym, _∙_}
-use mathlib.Core.List.{List, []}
+use mathlib.Core.List.{List}
 use mathlib.Core.Bool.{Bool, true, false, cond}
 use lib.ListN.{length, drop, drop-of-length-le}
 use lib.Seq.{ext-getD}
@@ -13,7 +13,7 @@ use lib.Dec.{ltb, leb}
 use borrow.Author.Tests.{ne-eqb, lt-ltb, le-ltb, le-leb, lt-leb, ltb-true, ltb-false, leb-true, leb-false}
 use Rattle.answers.proofs.Determined.{determined}
 use Rattle.octets.specs.Octets.{be16, pad4, part}
-use Rattle.octets.proofs.Laws.{length-part, getD-part, rest-lent}
+use Rattle.octets.proofs.Laws.{length-part, getD-part, rest-lent, part-none}
 use Rattle.tlvs.specs.Tlvs.{Tlvs, tlvsEnd, tlvsCut, tlv, tlvHead, tlvFits, tlvTurn, tlvsIn}
 use Rattle.tlvs.specs.Places.{itemAt}
 use Rattle.tlvs.specs.declared.Item.{Item}
@@ -37,10 +37,6 @@ behind : (q : List ℕ) (k n : ℕ) → length q ≡ n → drop k q ≡ part q k
 unfolding part
 behind q k n e = rw (← e) (sym (rest-lent q k))
 
-nothing : (s : List ℕ) (a : ℕ) → part s a 0 ≡ []
-unfolding part
-nothing s a = refl
-
 pub drop-part : (s : List ℕ) (a m k : ℕ) → a + m ≤ length s → drop k (part s a m) ≡ part s (a + k) (m - k)
 drop-part s a m k h = go (leb k m) refl
   where
@@ -49,7 +45,7 @@ drop-part s a m k h = go (leb k m) refl
     go false e =
         let z : m - k ≡ 0 = omega (arith, leb-false k m e) in
         let g : length (part s a m) ≤ k = omega (arith, leb-false k m e, length-part s a m h) in
-        drop-of-length-le (part s a m) g ∙ sym (rw z (nothing s (a + k)))
+        drop-of-length-le (part s a m) g ∙ sym (rw z (part-none s (a + k)))
 
 -- How much of a value and its padding must be there ------------------------------------------------------------
 
@@ -140,7 +136,7 @@ module _ (s : List ℕ) (at stop : ℕ) (short : Bool) (on : List ℕ → Tlvs) 
 pub items-end : (n : ℕ) (short : Bool) (s : List ℕ) (at stop : ℕ) → 0 < n → stop ≤ at → tlvsIn n short (part s at (stop - at)) ≡ tlvsEnd
 unfolding tlvsIn
 items-end zero short s at stop h e = absurd (omega arith)
-items-end (suc n) short s at stop h e = let z : stop - at ≡ 0 = omega arith in rw (z, nothing s at)
+items-end (suc n) short s at stop h e = let z : stop - at ≡ 0 = omega arith in rw (z, part-none s at)
 
 -- and before it the item there, and then the rest.
 pub items-turn : (n : ℕ) (short : Bool) (s : List ℕ) (at stop : ℕ) → 0 < n → at < stop → stop ≤ length s

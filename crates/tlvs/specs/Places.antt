@@ -7,17 +7,21 @@ use mathlib.Core.Bool.{Bool, cond, _&&_}
 use mathlib.Core.Option.{Option, none, some}
 use lib.Dec.{eqb, ltb}
 use Rattle.octets.specs.Octets.{be16, pad4, part}
-use Rattle.tlvs.specs.Tlvs.{tlvHead}
+use Rattle.tlvs.specs.Tlvs.{tlvHead, tlvLengthPlace}
 use Rattle.tlvs.specs.declared.Item.{Item}
 use Rattle.tlvs.specs.declared.Item.the-variants.{One, Broken}
 use Rattle.tlvs.specs.declared.span.Span.{Span}
+
+-- The length of the TLV at a place.
+abbrev pub tlvLengthAt : List ℕ → ℕ → ℕ
+tlvLengthAt s at = be16 s (at + tlvLengthPlace)
 
 -- The TLV at `at` of those that end at `end`. With `short` its padding may be missing or cut at the end.
 unfoldable pub itemAt : Bool → List ℕ → ℕ → ℕ → Item
 itemAt short s at end =
     cond (ltb (end - at) tlvHead) Broken
-    (cond (ltb (end - at) (tlvHead + cond short (be16 s (at + 2)) (pad4 (be16 s (at + 2))))) Broken
-    (One (be16 s at) (at + tlvHead) (be16 s (at + 2)) (at + tlvHead + pad4 (be16 s (at + 2)))))
+    (cond (ltb (end - at) (tlvHead + cond short (tlvLengthAt s at) (pad4 (tlvLengthAt s at)))) Broken
+    (One (be16 s at) (at + tlvHead) (tlvLengthAt s at) (at + tlvHead + pad4 (tlvLengthAt s at))))
 
 -- A value lies before the end, and the next item behind its head.
 abbrev pub Within : ℕ → ℕ → Item → Type 0

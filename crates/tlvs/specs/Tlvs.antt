@@ -7,16 +7,19 @@ use lib.ListN.{length, drop}
 use lib.Dec.{eqb, leb}
 use Rattle.octets.specs.Octets.{be16, pad4, part}
 
--- The octets of type and length.
+-- The octets of type and length, and the place of the length.
 abbrev pub tlvHead : ℕ
 tlvHead = 4
+
+abbrev pub tlvLengthPlace : ℕ
+tlvLengthPlace = 2
 
 -- "A TLV is type (2), length (2), value, then padding to a multiple of 4 that the length doesn't count."
 abbrev pub tlvKind : List ℕ → ℕ
 tlvKind s = be16 s 0
 
 abbrev pub tlvLength : List ℕ → ℕ
-tlvLength s = be16 s 2
+tlvLength s = be16 s tlvLengthPlace
 
 abbrev pub tlvValue : List ℕ → List ℕ
 tlvValue s = part s tlvHead (tlvLength s)

@@ -12,10 +12,13 @@ ghost use mathlib.Core.Path.{_≡_};
 ghost use mathlib.Core.Bool.{cond};
 ghost use Prim.Native.Nat.{_≤_, _<_};
 ghost use lib.ListN.{length};
+ghost use Rattle.octets.specs.Octets.{end16};
 ghost use Rattle.tlvs.specs.Places.{itemAt, Within};
 
-// The octets of type and length.
+// The octets of type and length, and the place of the length.
 pub const TLV_HEAD: usize = 4;
+
+const TLV_LENGTH_PLACE: usize = 2;
 
 // One TLV: its type, where its value starts, its length, and where the next one starts.
 pub enum Item {
@@ -38,7 +41,7 @@ fn needed(short: bool, len: usize, padded: usize) -> usize
 
 // The TLV at `at` of those that end at `end`. With `short` its padding may be missing or cut at the end.
 pub fn item_at(s: &[u8], at: usize, end: usize, short: bool) -> Item
-    requires { ⌜ (at ≤ end) × (end ≤ length (now s)) × (end < 65536) ⌝ }
+    requires { ⌜ (at ≤ end) × (end ≤ length (now s)) × (end < end16) ⌝ }
     ensures exact { λ r. ⌜ r ≡ itemAt short (now (s .entry)) at end ⌝ }
     ensures within { λ r. ⌜ Within at end r ⌝ }
 {
@@ -47,7 +50,7 @@ pub fn item_at(s: &[u8], at: usize, end: usize, short: bool) -> Item
         return Item::Broken;
     }
     let kind = octets::read16(s, at);
-    let len = octets::read16(s, at + 2);
+    let len = octets::read16(s, at + TLV_LENGTH_PLACE);
     let padded = octets::padded(len);
     if room < TLV_HEAD + needed(short, len, padded) {
         return Item::Broken;

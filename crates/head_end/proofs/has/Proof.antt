@@ -1,4 +1,5 @@
-use Rattle.head_end.proofs.Laws.{among-hit, among-miss, among-end, lent-part}
+use Rattle.octets.proofs.Laws.{part-lent}
+use Rattle.head_end.proofs.Laws.{among-hit, among-miss, among-end}
 use Rattle.head_end.specs.Addresses.{addressSize, sameOctets, amongFirst, hasAddress}
 use Rattle.octets.specs.Octets.{part}
 use lib.ListN.{length}
@@ -19,7 +20,7 @@ abbrev μ-loop : tie.MeasureT-loop
 compared : (c : tie.After-same Inv-loop μ-loop)
     → (let at = c .before .before .before in let args = at .before .before .before .args in
     c .same .result ≡ sameOctets (part (args .addresses .now) (addressSize * (at .loop .left - 1)) addressSize) (args .x .now))
-compared c = rw lent-part at (c .same .ensures)
+compared c = rw part-lent at (c .same .ensures)
 
 loop-holds : tie.Need-loop-holds Inv-loop μ-loop
 unfolding hasAddress

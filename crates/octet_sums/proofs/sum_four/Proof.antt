@@ -1,7 +1,7 @@
--- The four octets are read one by one, inside the end or past it; both sums are `sumFour` by its definition.
+-- The four octets are read one by one, inside the end or past it; both sums are `sumAt` by its definition.
 use native.Mathlib.Omega.{arith}
 use Rattle.octets.specs.Octets.{octetOf}
-use Rattle.octet_sums.specs.Sums.{sumFour}
+use Rattle.octet_sums.specs.Sums.{sumAt}
 use borrow.Author.Needs.{needs}
 use Rattle.octet_sums.proofs.sum_four.Statement.{statement}
 use Rattle.octet_sums.proofs.sum_four.Tie as tie
@@ -52,7 +52,7 @@ add-result-3 : tie.Need-add-result-3
 add-result-3 c = search needs
 
 returns : tie.Need-returns
-unfolding sumFour octetOf
+unfolding sumAt octetOf
 returns c = (cc, omega arith)
 
 octet-requires : tie.Need-octet-requires
@@ -86,7 +86,7 @@ add-result-6 : tie.Need-add-result-6
 add-result-6 c = search needs
 
 returns-2 : tie.Need-returns-2
-unfolding sumFour
+unfolding sumAt
 returns-2 c = (cc, omega arith)
 
 pub sum-four-spec : {M : Type 1} → statement M

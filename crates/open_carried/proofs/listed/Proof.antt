@@ -1,8 +1,7 @@
 -- A span is turned into the value that lies there (`value-missing`, `value-there`), a lent part into `part` (`part-lent`).
-use Rattle.open_walk.proofs.Laws.{part-lent}
 use Rattle.tlvs.proofs.Spans.{value-missing, value-there}
 use Rattle.tlvs.specs.Places.{missingOf}
-use Rattle.octets.proofs.Laws.{length-part}
+use Rattle.octets.proofs.Laws.{length-part, part-lent}
 use borrow.Author.Tests.{eq-eqb, ne-eqb}
 use mathlib.Core.Bool.{false}
 use mathlib.Core.Path.{_≡_}

@@ -1,5 +1,5 @@
 -- A span is turned into the value that lies there (`value-missing`, `value-there`), a lent part into `part` (`part-lent`).
-use Rattle.open_walk.proofs.Laws.{part-lent}
+use Rattle.octets.proofs.Laws.{part-lent}
 use Rattle.tlvs.proofs.Spans.{value-missing, value-there}
 use borrow.Author.Tests.{eq-eqb, ne-eqb}
 use borrow.Author.Needs.{needs}

@@ -1,6 +1,6 @@
 -- Each return is one row of `srv6By`: a span is turned into the value that lies there (`value-missing`, `value-there`), a lent part into
 -- `part` (`part-lent`), and then what the callee ensures is the row.
-use Rattle.open_walk.proofs.Laws.{part-lent}
+use Rattle.octets.proofs.Laws.{part-lent}
 use Rattle.tlvs.proofs.Spans.{value-missing, value-there}
 use borrow.Author.Tests.{eq-eqb, ne-eqb, not-true, not-false}
 use mathlib.Core.Path.{sym, _∙_}

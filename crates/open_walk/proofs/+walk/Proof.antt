@@ -9,7 +9,7 @@ use Rattle.setup_types.specs.SetupTypes.{pathSetup, listSize, holdsList}
 use Rattle.tlvs.specs.declared.Item.the-variants.{One}
 use Rattle.tlvs.specs.Places.{Within, nowhere, valueAt, missingOf, keepOf, Inside}
 use Rattle.tlvs.specs.Tlvs.{Tlvs, tlv, tlvsWhole}
-use Rattle.octets.proofs.Laws.{length-part}
+use Rattle.octets.proofs.Laws.{length-part, part-lent}
 use Rattle.octets.proofs.Said.{both-true}
 use Rattle.octets.specs.Octets.{part}
 use lib.Dec.{eqb}
@@ -147,7 +147,7 @@ size-same : (t : ℕ) (c : Sized t)
 size-same t c =
     let r = c .before .before .before .before .before .before in
     let v = r .before .kind .given .0 in
-    rw (Laws.part-lent (r .before .before .before .before .before .before .before .args .s .now) (v .1 .0) (v .1 .1 .0)) at (c .list-size .ensures .0)
+    rw (part-lent (r .before .before .before .before .before .before .before .args .s .now) (v .1 .0) (v .1 .1 .0)) at (c .list-size .ensures .0)
 
 value-long : (t : ℕ) (c : Sized t)
     → (let r = c .before .before .before .before .before .before in

@@ -1,5 +1,5 @@
 use Rattle.route_limit.proofs.Laws.{not-own, own-short, own-told}
-use Rattle.head_end.proofs.Laws.{lent-part}
+use Rattle.octets.proofs.Laws.{part-lent}
 use borrow.Author.Tests.{not-true, not-false}
 use borrow.Author.Needs.{needs}
 use Rattle.route_limit.proofs.own_adjacency.Statement.{statement}
@@ -53,7 +53,7 @@ returns-3 c =
     let args = before7 .before .before .before .args in
     own-told (args .s .now) (args .addresses .now) _ (before7 .octet .ensures .0) _ (c .before .before .before .before .octet2 .ensures .0) _
     (c .before .before .before .local-place .ensures .0) (c .before .before .before .before .before .before .adjacency .ensures)
-    (not-false _ (c .before .before .before .before .before .if1 .left)) (rw lent-part at (c .has .ensures))
+    (not-false _ (c .before .before .before .before .before .if1 .left)) (rw part-lent at (c .has .ensures))
 
 pub own-adjacency-spec : {M : Type 1} → statement M
 own-adjacency-spec =

@@ -1,5 +1,6 @@
 use native.Mathlib.Omega.{arith}
-use Rattle.subobject_strays.proofs.Laws.{fixed-least, marked-of}
+use Rattle.forms.proofs.Laws.{fixed-least}
+use Rattle.subobject_strays.proofs.Laws.{marked-of}
 use borrow.Author.Needs.{needs}
 use Rattle.subobject_strays.proofs.marked.Statement.{statement}
 use Rattle.subobject_strays.proofs.marked.Tie as tie

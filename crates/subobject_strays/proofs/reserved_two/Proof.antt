@@ -1,5 +1,6 @@
 use native.Mathlib.Omega.{arith}
-use Rattle.subobject_strays.proofs.Laws.{fixed-eight, two-there, two-absent}
+use Rattle.forms.proofs.Laws.{fixed-eight}
+use Rattle.subobject_strays.proofs.Laws.{two-there, two-absent}
 use borrow.Author.Needs.{needs}
 use Rattle.subobject_strays.proofs.reserved_two.Statement.{statement}
 use Rattle.subobject_strays.proofs.reserved_two.Tie as tie

@@ -6,7 +6,7 @@ use Rattle.subobject_strays.proofs.stray_of.Statement.{statement}
 use Rattle.subobject_strays.proofs.stray_of.Tie as tie
 
 marked-requires : tie.Need-marked-requires
-marked-requires c κs = let pre = c .before .pre in (pre .0, pre .3)
+marked-requires c κs = let pre = c .before .pre in (pre .0, pre .1)
 
 returns : tie.Need-returns
 returns c =
@@ -14,19 +14,19 @@ returns c =
     (marked-one (args .form) (args .h) (args .s .now) (args .at) (sym (c .before .marked .ensures) ∙ c .if1 .taken), omega arith)
 
 ending-marked-requires : tie.Need-ending-marked-requires
-ending-marked-requires c κs = let pre = c .before .before .before .pre in (pre .1, pre .2)
+ending-marked-requires c κs = c .before .before .before .pre .2
 
 returns-2 : tie.Need-returns-2
 returns-2 c =
     let start = c .before .before .before .before .before in
     let args = start .args in
-    (ending-one (args .form) (args .h) (args .s .now) (args .at) (start .pre .1) (sym (c .before .ending-marked .ensures) ∙ c .if2 .taken), omega arith)
+    (ending-one (args .form) (args .h) (args .s .now) (args .at) (start .pre .2 .0) (sym (c .before .ending-marked .ensures) ∙ c .if2 .taken), omega arith)
 
 returns-3 : tie.Need-returns-3
 returns-3 c =
     let start = c .before .before .before .before .before in
     let args = start .args in (
-      unmarked-none (args .form) (args .h) (args .s .now) (args .at) (start .pre .1) (sym (c .before .before .before .marked .ensures) ∙ c .before .before .if1 .left)
+      unmarked-none (args .form) (args .h) (args .s .now) (args .at) (start .pre .2 .0) (sym (c .before .before .before .marked .ensures) ∙ c .before .before .if1 .left)
           (sym (c .before .ending-marked .ensures) ∙ c .if2 .left),
       omega arith,
     )

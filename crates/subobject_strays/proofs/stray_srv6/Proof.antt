@@ -18,19 +18,19 @@ srv6-requires : tie.Need-srv6-requires
 srv6-requires c κs = search needs
 
 ending-marked-requires : tie.Need-ending-marked-requires
-ending-marked-requires c κs = let pre = c .before .before .before .before .pre in (rw (c .srv6 .ensures) (pre .1), pre .2)
+ending-marked-requires c κs = let pre = c .before .before .before .before .pre in (rw (c .srv6 .ensures) (pre .1 .0), pre .1 .1)
 
 returns-2 : tie.Need-returns-2
 returns-2 c =
     let start = c .before .before .before .before .before .before in
     let args = start .args in
-    (ending-one srv6Form (args .h) (args .s .now) (args .at) (start .pre .1) (sym (c .before .ending-marked .ensures) ∙ c .if2 .taken), omega arith)
+    (ending-one srv6Form (args .h) (args .s .now) (args .at) (start .pre .1 .0) (sym (c .before .ending-marked .ensures) ∙ c .if2 .taken), omega arith)
 
 returns-3 : tie.Need-returns-3
 returns-3 c =
     let start = c .before .before .before .before .before .before in
     let args = start .args in (
-      unmarked-none srv6Form (args .h) (args .s .now) (args .at) (start .pre .1)
+      unmarked-none srv6Form (args .h) (args .s .now) (args .at) (start .pre .1 .0)
           (sym (c .before .before .before .before .marked-srv6 .ensures) ∙ c .before .before .before .if1 .left) (sym (c .before .ending-marked .ensures) ∙ c .if2 .left),
       omega arith,
     )

@@ -2,7 +2,8 @@
 use Prim.Native.Nat.{_+_}
 use mathlib.Core.Path.{sym, _∙_}
 use native.Mathlib.Omega.{arith}
-use Rattle.subobject_strays.proofs.Laws.{fixed-least, fixed-expected, structure-end, strays-structured, strays-plain}
+use Rattle.forms.proofs.Laws.{fixed-least}
+use Rattle.subobject_strays.proofs.Laws.{fixed-expected, structure-end, strays-structured, strays-plain}
 use borrow.Author.Needs.{needs}
 use Rattle.subobject_strays.proofs.strays_at.Statement.{statement}
 use Rattle.subobject_strays.proofs.strays_at.Tie as tie

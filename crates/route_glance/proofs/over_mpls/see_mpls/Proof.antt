@@ -12,10 +12,10 @@ use Rattle.forms.proofs.Laws.{mpls-sized, mpls-fours}
 use Rattle.subobject.specs.Layout.{expectedLength}
 use Rattle.subobject_strays.specs.Strays.{strayOne, straysBy}
 use Rattle.subobject.proofs.Laws.{sound-length}
-use Rattle.frame.proofs.Laws.{headed-sized}
+use Rattle.frame.proofs.Laws.{headed-sized, fits-made}
 use Rattle.route_glance.specs.Settled.{SettledBy, strayWorth}
 use Rattle.route_glance.proofs.Laws.{fours-of, rules-of, head-of, s-bit}
-use Rattle.route_glance.proofs.Pass.{Gone, gone-on, good-made, fits-made, settled-by, unsettled}
+use Rattle.route_glance.proofs.Pass.{Gone, gone-on, good-made, settled-by, unsettled}
 use Rattle.route_glance.proofs.Labels.{gone-labels}
 use Rattle.route_glance.proofs.over_mpls.see_mpls.Statement.{statement}
 use Rattle.route_glance.proofs.over_mpls.see_mpls.Tie as tie
@@ -102,10 +102,9 @@ mpls-label-sound-requires c κs =
     let rules = head .mpls-head-sound .ensures (not-false _ (room .before .before .if2 .left)) in
     let start = head .before .before .before .before .before in
     let read = head .before .before .before .head-at in (
-      sound-length _ _ (rules .2),
-      omega (arith, room .if3 .left, start .loop .inv .1),
       rules .2,
       s-bit _ _ _ _ _ (read .ensures .0),
+      (sound-length _ _ (rules .2), omega (arith, room .if3 .left, start .loop .inv .1)),
     )
 
 returns-5 : tie.Need-returns-5 Inv-loop μ-loop
@@ -122,9 +121,8 @@ stray-of-requires c κs =
     let fours = fours-of mplsForm known (h .nt) (h .s) (h .t) refl (omega arith) refl (mpls-fours (h .nt)) in
     let size = sound-length _ _ (rules .2) in (
       rw known (omega (arith, size, fours .1, room .if3 .left, start .loop .inv .1)),
-      size,
-      omega (arith, room .if3 .left, start .loop .inv .1),
       rw known mpls-sized,
+      (size, omega (arith, room .if3 .left, start .loop .inv .1)),
     )
 
 add-stray : tie.Need-add-stray Inv-loop μ-loop

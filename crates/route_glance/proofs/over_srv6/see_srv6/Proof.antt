@@ -12,10 +12,10 @@ use Rattle.forms.proofs.Laws.{srv6-sized, srv6-fours}
 use Rattle.subobject.specs.Layout.{expectedLength}
 use Rattle.subobject_strays.specs.Strays.{strayOne, straysBy}
 use Rattle.subobject.proofs.Laws.{sound-length}
-use Rattle.frame.proofs.Laws.{headed-sized}
+use Rattle.frame.proofs.Laws.{headed-sized, fits-made}
 use Rattle.route_glance.specs.Settled.{SettledBy, strayWorth}
 use Rattle.route_glance.proofs.Laws.{fours-of}
-use Rattle.route_glance.proofs.Pass.{Gone, gone-starts, gone-on, good-made, fits-made, settled-by, unsettled}
+use Rattle.route_glance.proofs.Pass.{Gone, gone-starts, gone-on, good-made, settled-by, unsettled}
 use Rattle.route_glance.proofs.over_srv6.see_srv6.Statement.{statement}
 use Rattle.route_glance.proofs.over_srv6.see_srv6.Tie as tie
 
@@ -73,9 +73,8 @@ label-sound-requires c κs =
     let head = room .before .before .before in
     let rules = head .head-sound .ensures (not-false _ (room .before .before .if2 .left)) in
     let start = head .before .before .before .before .before in (
-      sound-length _ _ (rules .2),
-      omega (arith, room .if3 .left, start .loop .inv .1),
       rw (start .before .before .srv6 .ensures) (omega arith),
+      (sound-length _ _ (rules .2), omega (arith, room .if3 .left, start .loop .inv .1)),
     )
 
 returns-5 : tie.Need-returns-5 Inv-loop μ-loop
@@ -91,7 +90,7 @@ stray-srv6-requires c κs =
     let h = head .before .before .before .head-at .result in
     let known = start .before .before .srv6 .ensures in
     let size = sound-length _ _ (rules .2) ∙ ap (λ (x : Form). expectedLength x (h .nt) (h .s) (h .t)) known in
-    (omega (arith, size, room .if3 .left, start .loop .inv .1), size, omega (arith, room .if3 .left, start .loop .inv .1))
+    (omega (arith, size, room .if3 .left, start .loop .inv .1), (size, omega (arith, room .if3 .left, start .loop .inv .1)))
 
 add-stray : tie.Need-add-stray Inv-loop μ-loop
 add-stray c =

@@ -43,7 +43,7 @@ walk-requires c κs =
     let bounds = frame-bounds (args .ero) (args .s .now)
     (frame-none (args .form) (args .s .now) (args .ero) (args .session) (args .pst) _ framed (c .before .before .if1 .left) .0)
     (omega (arith, known 2)) (omega (arith, known 3)) in
-    (bounds .0, bounds .1, bounds .2, start .pre)
+    (start .pre, bounds)
 
 limited-requires : tie.Need-limited-requires
 limited-requires c κs =

@@ -3,7 +3,7 @@ use borrow.Author.Needs.{needs}
 use borrow.Author.Tests.{eq-eqb, ne-eqb}
 use Rattle.route_rules.specs.Parts.{limitedOf}
 use Rattle.route_rules.specs.SessionRules.{rule12}
-use Rattle.route_rules.proofs.Laws.{never-past}
+use Rattle.octets.proofs.Said.{and-false}
 use Rattle.route_rules.proofs.rule.limited.Statement.{statement}
 use Rattle.route_rules.proofs.rule.limited.Tie as tie
 
@@ -40,7 +40,7 @@ returns-2 c =
 
 returns-3 : tie.Need-returns-3
 unfolding limitedOf rule12
-returns-3 c = rw (eq-eqb _ _ (c .before .before .if1 .left), c .enum-told .given .1, never-past (c .before .before .before .before .before .args .ero))
+returns-3 c = rw (eq-eqb _ _ (c .before .before .if1 .left), c .enum-told .given .1, and-false (c .before .before .before .before .before .args .ero))
 
 returns-4 : tie.Need-returns-4
 unfolding limitedOf rule12

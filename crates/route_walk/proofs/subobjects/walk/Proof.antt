@@ -27,7 +27,7 @@ abbrev μ-walk : tie.MeasureT-walk
 μ-walk form s ero n count end at₀ stray₀ at stray = length s - at
 
 walk-holds : tie.Need-walk-holds Inv-loop μ-loop Inv-walk μ-walk
-walk-holds c = (omega arith, walk-starts _ _ _ _ _ (c .before .pre .2), omega arith)
+walk-holds c = (omega arith, walk-starts _ _ _ _ _ (c .before .pre .1 .2), omega arith)
 
 carrying-requires : tie.Need-carrying-requires Inv-loop μ-loop Inv-walk μ-walk
 carrying-requires c κs = search needs
@@ -53,7 +53,7 @@ array-read-number c = omega arith
 breaks-requires : tie.Need-breaks-requires Inv-loop μ-loop Inv-walk μ-walk
 breaks-requires c κs =
     let walk = c .before .before .before .before .before in
-    (omega (arith, walk .walk .inv .0, c .before .before .before .before .if1 .left), walk .before .before .pre .3)
+    (omega (arith, walk .walk .inv .0, c .before .before .before .before .if1 .left), walk .before .before .pre .0)
 
 place-requires : tie.Need-place-requires Inv-loop μ-loop Inv-walk μ-walk
 place-requires c κs = search needs
@@ -82,7 +82,7 @@ stray-of-requires c κs =
     let e = c .before .before .before .head-at .ensures .0 in
     let h = left-room (walk .walk .inv .1) (c .before .before .before .before .if1 .left) in
     let size = checked-length _ _ _ _ _ (c .before .loop .inv .1) _ e (omega (arith, c .before .loop .inv .0, c .loop-test .left)) in
-    (omega (arith, walk .walk .inv .0, head-size _ _ _ _ _ e, size), size, omega (arith, walk .walk .inv .0, head-size _ _ _ _ _ e), walk .before .before .pre .3)
+    (omega (arith, walk .walk .inv .0, head-size _ _ _ _ _ e, size), walk .before .before .pre .0, (size, omega (arith, walk .walk .inv .0, head-size _ _ _ _ _ e)))
 
 add-stray : tie.Need-add-stray Inv-loop μ-loop Inv-walk μ-walk
 add-stray c = let walk = c .before .before .before .before .before .before in omega (arith, c .stray-of .ensures .1, walk .walk .inv .2, walk .walk .inv .0)

@@ -1,8 +1,7 @@
 use mathlib.Core.Path.{sym, _∙_}
 use native.Mathlib.Omega.{arith}
-use Rattle.forms.proofs.Laws.{nai-most}
+use Rattle.forms.proofs.Laws.{fixed-most, nai-most}
 use Rattle.subobject.specs.Rules.{rule11}
-use Rattle.subobject_strays.proofs.Laws.{fixed-most}
 use Rattle.subobject_numbered.proofs.Laws.{eleven-made}
 use borrow.Author.Needs.{needs}
 use Rattle.subobject_numbered.proofs.rule.too_long.Statement.{statement}

@@ -1,5 +1,5 @@
 use native.Mathlib.Omega.{arith}
-use Rattle.subobject_strays.proofs.Laws.{fixed-eight}
+use Rattle.forms.proofs.Laws.{fixed-eight}
 use borrow.Author.Needs.{needs}
 use Rattle.subobject_parts.proofs.part.behaviour_at.Statement.{statement}
 use Rattle.subobject_parts.proofs.part.behaviour_at.Tie as tie

@@ -1,5 +1,5 @@
 use native.Mathlib.Omega.{arith}
-use Rattle.subobject_strays.proofs.Laws.{fixed-least}
+use Rattle.forms.proofs.Laws.{fixed-least}
 use Rattle.subobject_read.proofs.Laws.{read-short, read-cut, read-whole}
 use borrow.Author.Needs.{needs}
 use Rattle.subobject_read.proofs.answer.read_at.Statement.{statement}

@@ -1,10 +1,9 @@
 -- The parts lie inside the octets given (`parts-room`), each is read where the head says, and together they are the segment (`segment-made`).
 use mathlib.Core.Path.{_≡_}
 use native.Mathlib.Omega.{arith}
-use Rattle.forms.proofs.Laws.{nai-most}
+use Rattle.forms.proofs.Laws.{fixed-least, nai-most}
 use Rattle.subobject.specs.Layout.{sidLength}
 use Rattle.subobject.specs.Rules.{hasStructure}
-use Rattle.subobject_strays.proofs.Laws.{fixed-least}
 use Rattle.subobject_parts.proofs.Made.{fixed-here, sid-most, parts-room, bits-room, segment-made}
 use borrow.Author.Needs.{needs}
 use Rattle.subobject_read.proofs.reading.segment_at.Statement.{statement}

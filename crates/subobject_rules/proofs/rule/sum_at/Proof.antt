@@ -1,5 +1,3 @@
-use Rattle.octet_sums.specs.Sums.{sumFour}
-use Rattle.subobject.specs.Rules.{sumAt}
 use borrow.Author.Needs.{needs}
 use Rattle.subobject_rules.proofs.rule.sum_at.Statement.{statement}
 use Rattle.subobject_rules.proofs.rule.sum_at.Tie as tie
@@ -8,7 +6,6 @@ sum-four-requires : tie.Need-sum-four-requires
 sum-four-requires c κs = search needs
 
 returns : tie.Need-returns
-unfolding sumAt sumFour
 returns c = c .sum-four .ensures
 
 pub sum-at-spec : {M : Type 1} → statement M

@@ -17,7 +17,7 @@ add-p c = search needs
 label-in-requires : tie.Need-label-in-requires
 label-in-requires c κs =
     let start = c .before .before .before .before in
-    omega (arith, label-room _ _ _ (c .before .before .labelled .ensures) (c .before .if1 .taken) (start .pre .0), start .pre .1, start .pre .2, c .wide .ensures .0)
+    omega (arith, label-room _ _ _ (c .before .before .labelled .ensures) (c .before .if1 .taken) (start .pre .1 .0), start .pre .1 .1, start .pre .0, c .wide .ensures .0)
 
 twenty-nine-requires : tie.Need-twenty-nine-requires
 twenty-nine-requires c κs = search needs
@@ -32,8 +32,8 @@ shared-slice-read-wide : tie.Need-shared-slice-read-wide
 shared-slice-read-wide c =
     let seen = c .before .before .before .before .before .before in
     let start = seen .before .before in
-    let room = label-room _ _ _ (seen .labelled .ensures) (c .before .before .before .before .before .if1 .taken) (start .pre .0) in
-    omega (arith, room, start .pre .1, start .pre .2, c .before .before .before .before .wide .ensures .0)
+    let room = label-room _ _ _ (seen .labelled .ensures) (c .before .before .before .before .before .if1 .taken) (start .pre .1 .0) in
+    omega (arith, room, start .pre .1 .1, start .pre .0, c .before .before .before .before .wide .ensures .0)
 
 wide-requires-2 : tie.Need-wide-requires-2
 wide-requires-2 c κs = search needs

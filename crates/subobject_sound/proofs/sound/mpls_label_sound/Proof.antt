@@ -17,8 +17,8 @@ add-label-good c = search needs
 label-good-requires : tie.Need-label-good-requires
 label-good-requires c κs =
     let start = c .before .before .before in
-    let room = entry-room _ (start .pre .2) (c .if1 .left) (start .pre .3) (start .pre .0) in
-    omega (arith, room, start .pre .1)
+    let room = entry-room _ (start .pre .0) (c .if1 .left) (start .pre .1) (start .pre .2 .0) in
+    omega (arith, room, start .pre .2 .1)
 
 returns-2 : tie.Need-returns-2
 returns-2 c = λ e. absurd (false≢true e)
@@ -32,8 +32,8 @@ add-wide c = search needs
 shared-slice-read-wide : tie.Need-shared-slice-read-wide
 shared-slice-read-wide c =
     let start = c .before .before .before .before .before .before .before .before in
-    let room = entry-room _ (start .pre .2) (c .before .before .before .before .before .if1 .left) (start .pre .3) (start .pre .0) in
-    omega (arith, room, start .pre .1)
+    let room = entry-room _ (start .pre .0) (c .before .before .before .before .before .if1 .left) (start .pre .1) (start .pre .2 .0) in
+    omega (arith, room, start .pre .2 .1)
 
 wide-requires : tie.Need-wide-requires
 wide-requires c κs = search needs
