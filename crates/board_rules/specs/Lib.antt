@@ -7,3 +7,4 @@ pub mod Next
 pub mod Moved
 pub mod OnRecord
 pub mod Parts
+pub mod Checks
