@@ -7,15 +7,16 @@ use mathlib.Core.Path.{_≡_, sym, ap, _∙_, subst}
 use mathlib.Core.Bool.{Bool, true, false, not, _&&_}
 use mathlib.Core.List.{List}
 use mathlib.Core.Logic.{_⊎_, inl, inr, ⊎-elim}
-use lib.ListN.{getD, set, length, length-set, replicate, length-replicate, getD-replicate, List·getD-eq-default}
+use lib.ListN.{getD, set, length, length-set, replicate, length-replicate}
 use lib.Dec.{eqb}
 use borrow.Author.Tests.{eq-eqb, ne-eqb, not-true, not-false}
+use Rattle.octets.proofs.Said.{and-false}
 use Rattle.board_record.specs.Proper.{freshB}
-use Rattle.board_record.proofs.Logic.{and-false, same?, from?, at-set}
+use Rattle.board_record.proofs.Logic.{same?, from?, at-set}
 use Rattle.board_record.proofs.All.{all-fails, all-of}
 use Rattle.board_record.specs.Sizes.{places}
 use Rattle.board_record.specs.Order.{placeOn}
-use Rattle.board_record.proofs.Lists.{row-at}
+use Rattle.board_record.proofs.Lists.{zeros, row-at}
 use Rattle.board_along.specs.Chain.{along, slotOf, Node, Heads, Links, Walking}
 
 -- ---- the keys along an order
@@ -84,9 +85,6 @@ chain-links xs hs ns i h n l u =
       all = λ x j m o v w e. at-set (λ y. j < y) ns i x a r
           (λ q. rw (e ∙ ap (λ (y : ℕ). slotOf (getD xs y 0)) q) at (h .all j (omega arith) w)) (λ d. n .all x j (omega (arith, d)) o v w e);
     }
-
-zeros : (n j : ℕ) → getD {A = ℕ} (replicate n 0) j 0 ≡ 0
-zeros n j = ⊎-elim (λ l. List·getD-eq-default (replicate n 0) 0 (omega (arith, length-replicate {A = ℕ} n 0))) (λ l. getD-replicate n j 0 0 l) (from? n j)
 
 pub no-heads : (xs : List ℕ) → Heads xs (replicate 1024 0) 0
 no-heads xs =

@@ -6,8 +6,9 @@ use mathlib.Core.Bool.{Bool, true, false, not, _&&_, _||_}
 use mathlib.Core.Logic.{_⊎_, inl, inr, ⊎-elim}
 use lib.Dec.{eqb, ltb}
 use borrow.Author.Tests.{eq-eqb, ne-eqb, lt-ltb, le-ltb}
+use Rattle.octets.proofs.Said.{and-false, or-true}
 use Rattle.board_record.specs.Order.{named}
-use Rattle.board_record.proofs.Logic.{and-false, or-true, same?, from?}
+use Rattle.board_record.proofs.Logic.{same?, from?}
 use Rattle.board_order.proofs.Names.{named-none, named-some, named-place}
 use Rattle.board_along.specs.Numbers.{Numbered, lateB}
 

@@ -9,7 +9,7 @@ ghost use Rattle.board_record.specs.Sizes.{places};
 ghost use Rattle.board_record.specs.Proper.{freshB};
 ghost use Rattle.board_record.specs.Order.{placeOn};
 ghost use Rattle.board_along.specs.Chain.{along, slots, slotOf, Heads, Links, Walking};
-use board_order::place_in;
+use board_order::named;
 use board_record::wide32;
 use octets::wide;
 
@@ -20,13 +20,16 @@ const MIX: u64 = 2654435761;
 
 const TOP: u64 = 4194304;
 
-const SLOTS: u64 = 1024;
+// hashes are below it
+pub const SLOTS: usize = 1024;
+
+const HASHES: u64 = SLOTS as u64;
 
 // The hash of a number: the ten bits of the product that are worth most in its low 32 bits.
 fn slot(k: u64) -> usize
     ensures slot { λ r. ⌜ (r ≡ slotOf k) × (r < slots) ⌝ }
 {
-    (k % LOW * MIX / TOP % SLOTS) as usize
+    (k % LOW * MIX / TOP % HASHES) as usize
 }
 
 // None of the first i keys along the order is k; start is the head of k's chain.
@@ -38,13 +41,14 @@ fn fresh<'a>(
     k: u32,
     start: usize,
 ) -> bool
-    requires { ⌜ (i ≤ places) × ((j : ℕ) → j < i → placeOn (now order) j < places) × Links (along (now keys) (now order)) (now nexts) i × Walking (along (now keys) (now order)) i k start ⌝ }
+    requires { ⌜ (i ≤ places) × ((j : ℕ) → j < i → placeOn (now order) j < places)
+        × Links (along (now keys) (now order)) (now nexts) i × Walking (along (now keys) (now order)) i k start ⌝ }
     ensures fresh { λ r. ⌜ r ≡ freshB (along (now (keys .entry)) (now (order .entry))) i k ⌝ }
 {
     let mut p = start;
     while p != 0 {
         let x = p - 1;
-        if keys[place_in(order[x])] == k {
+        if keys[named(order[x])] == k {
             return false;
         }
         p = wide(nexts[x]);

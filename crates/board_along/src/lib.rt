@@ -4,6 +4,7 @@
 mod chain;
 mod number;
 
+pub use chain::SLOTS;
 pub use chain::chained;
 pub use number::late;
 pub use number::numbered;

@@ -7,10 +7,11 @@ use mathlib.Core.Bool.{Bool, true, false, not, cond, _&&_}
 use mathlib.Core.List.{List, []}
 use lib.ListN.{length, take, drop}
 use lib.Dec.{eqb, ltb}
-use borrow.Author.Tests.{lt-ltb, ltb-true, not-false}
+use borrow.Author.Tests.{ltb-true, not-false}
 use Rattle.answers.specs.declared.verdict.Verdict.{Verdict}
 use Rattle.answers.specs.Numbers.{notABoard}
 use Rattle.answers.specs.Verdicts.{refusedBy}
+use Rattle.answers.proofs.Kept.{kept-old, kept-new}
 use Rattle.octets.specs.Octets.{part}
 use Rattle.board_record.specs.Sizes.{places, room, storeSize}
 use Rattle.board_record.specs.declared.record.Board.{Board}
@@ -19,12 +20,13 @@ use Rattle.board_record.specs.Table.{Table, lengthAt, formAt}
 use Rattle.board_record.specs.Search.{placeOf}
 use Rattle.octets.proofs.Said.{both-true}
 use Rattle.board_record.proofs.Proper.{properB-sound}
-use Rattle.board_rules.specs.Rules.{isBoard, inRange, lengthIn, formIn, hasPath}
+use Rattle.board_rules.specs.Rules.{isBoard, inRange, hasPath}
+use Rattle.board_rules.specs.Parts.{lengthIn, formIn}
 use Rattle.board_rules.specs.Body.{bodyRules, bodyNumber, octetsAt, bodyOf, bodyForm}
 use Rattle.board_rules.specs.OnRecord.{bodyNumberOn, bodyOn, bodyFormOn}
 use Rattle.board_rules.proofs.OnRecord.{number-order}
-use Rattle.board_rules.proofs.Shared.{path-test}
-use Rattle.board_rules.proofs.Verdicts.{kept-old, kept-new, rule-passed}
+use Rattle.board_rules.proofs.Shared.{path-test, length-here, form-here}
+use Rattle.board_rules.proofs.Verdicts.{rule-passed}
 use Rattle.board_rules.proofs.Told.{board-not, board-is, board-room, board-proper}
 
 -- ---- the number of a body
@@ -56,10 +58,6 @@ module _ (b : Table) (store : List ℕ) (k : ℕ) where
       let f = rule-passed (not (ltb (placeOf b k) places && not (eqb (lengthAt b (placeOf b k)) 0))) 21 0 _ (g .1) in
       ltb-true (placeOf b k) places (both-true (ltb (placeOf b k) places) _ (not-false (ltb (placeOf b k) places && not (eqb (lengthAt b (placeOf b k)) 0)) (f .0)) .0)
 
-  length-here : (at n : ℕ) → at < places → n ≡ lengthIn (b .lengths) at → n ≡ lengthAt b at
-  unfolding lengthIn
-  length-here at n l f = f ∙ rw (lt-ltb at 128 l)
-
   pub body-room : (v : Verdict) (at n : ℕ) → v ≡ bodyNumber b store k → v .number ≡ 0 → at ≡ placeOf b k → n ≡ lengthIn (b .lengths) at
       → (at < places) × (room * at + n ≤ length store) × (room * at + n ≤ storeSize)
   body-room v at n e z p f =
@@ -68,7 +66,7 @@ module _ (b : Table) (store : List ℕ) (k : ℕ) where
       let m : at < 128 = omega arith in
       let g = board-room b (length store) w in
       let h = properB-sound b (board-proper b (length store) w) at m .most in
-      let q = length-here at n m f in
+      let q = length-here b at n m f in
       (m, omega arith, omega arith)
 
   pub body-is : (v : Verdict) (at n from : ℕ) → v ≡ bodyNumber b store k → v .number ≡ 0 → at ≡ placeOf b k → n ≡ lengthIn (b .lengths) at → from ≡ room * at
@@ -76,15 +74,15 @@ module _ (b : Table) (store : List ℕ) (k : ℕ) where
   unfolding bodyOf octetsAt part
   body-is v at n from e z p f g =
       let l = body-here v e z in
-      let q = length-here at n (omega arith) f in
+      let q = length-here b at n (omega arith) f in
       let d : from + n - from ≡ n = omega arith in
       rw (d, ← e, kept-new (v .number) [] (octetsAt b store (placeOf b k)) z, octetsAt, ← p, g, q)
 
   pub form-is : (v : Verdict) (at f : ℕ) → v ≡ bodyNumber b store k → v .number ≡ 0 → at ≡ placeOf b k → f ≡ formIn (b .forms) at → f ≡ bodyForm b store k
-  unfolding bodyForm formIn
+  unfolding bodyForm
   form-is v at f e z p g =
       let l : at < 128 = omega (arith, body-here v e z, p) in
-      rw (← e, kept-new (v .number) 0 (formAt b (placeOf b k)) z, ← p) (g ∙ rw (lt-ltb at 128 l))
+      rw (← e, kept-new (v .number) 0 (formAt b (placeOf b k)) z, ← p) (form-here b at f l g)
 
   pub form-none : (v : Verdict) → v ≡ bodyNumber b store k → (v .number ≡ 0 → ⊥) → 0 ≡ bodyForm b store k
   unfolding bodyForm

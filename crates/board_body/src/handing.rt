@@ -1,17 +1,16 @@
 // Body (key): 17, 18, 22; the path's octets are handed back as a part of the lent store, a refusal hands back an empty part, and its
 // number is had by a call of its own, and so is the path's form.
 ghost use mathlib.Core.Path.{_≡_};
-ghost use Rattle.board_record.specs.Table.{tableOf};
-ghost use Rattle.board_record.specs.Record.{withRows};
+ghost use Rattle.board_record.specs.Record.{boardOf};
 ghost use Rattle.board_rules.specs.OnRecord.{bodyNumberOn, bodyOn, bodyFormOn};
 use answers::NOT_A_BOARD;
 use answers::Verdict;
 use answers::refused;
 use board_refusals::body_rules;
-use board_search::place_of;
-use board_whole::form_at;
+use board_search::place_in;
+use board_whole::form_in;
 use board_whole::is_board;
-use board_whole::length_at;
+use board_whole::length_in;
 use board_whole::start_of;
 
 // The number of a call for a body.
@@ -28,8 +27,8 @@ pub fn body_number<'a>(
     key: u64,
 ) -> Verdict
     ensures number { λ r.
-        let b = tableOf (now (keys .entry)) (now (versions .entry)) (now (lengths .entry)) version floor (now (forms .entry)) in
-        ⌜ r ≡ bodyNumberOn (withRows b (now (order .entry)) (now (tops .entry))) (now (store .entry)) key ⌝ }
+        let b = boardOf (now (keys .entry)) (now (versions .entry)) (now (lengths .entry)) version floor (now (order .entry)) (now (tops .entry)) (now (forms .entry)) in
+        ⌜ r ≡ bodyNumberOn b (now (store .entry)) key ⌝ }
 {
     if !is_board(
         store.len(),
@@ -44,8 +43,8 @@ pub fn body_number<'a>(
     ) {
         return refused(NOT_A_BOARD, 0);
     }
-    let at = place_of(keys, key);
-    body_rules(key, at, length_at(lengths, at))
+    let at = place_in(keys, key);
+    body_rules(key, at, length_in(lengths, at))
 }
 
 // The octets of the key's path.
@@ -62,8 +61,8 @@ pub fn body<'a, 'b>(
     key: u64,
 ) -> &'b [u8]
     ensures body { λ r.
-        let b = tableOf (now (keys .entry)) (now (versions .entry)) (now (lengths .entry)) version floor (now (forms .entry)) in
-        ⌜ now r ≡ bodyOn (withRows b (now (order .entry)) (now (tops .entry))) (now (store .entry)) key ⌝ }
+        let b = boardOf (now (keys .entry)) (now (versions .entry)) (now (lengths .entry)) version floor (now (order .entry)) (now (tops .entry)) (now (forms .entry)) in
+        ⌜ now r ≡ bodyOn b (now (store .entry)) key ⌝ }
 {
     let verdict = body_number(
         keys,
@@ -80,9 +79,9 @@ pub fn body<'a, 'b>(
     if verdict.number != 0 {
         return &store[0..0];
     }
-    let at = place_of(keys, key);
+    let at = place_in(keys, key);
     let from = start_of(at);
-    let to = from + length_at(lengths, at);
+    let to = from + length_in(lengths, at);
     &store[from..to]
 }
 
@@ -100,8 +99,8 @@ pub fn body_form<'a>(
     key: u64,
 ) -> usize
     ensures form { λ r.
-        let b = tableOf (now (keys .entry)) (now (versions .entry)) (now (lengths .entry)) version floor (now (forms .entry)) in
-        ⌜ r ≡ bodyFormOn (withRows b (now (order .entry)) (now (tops .entry))) (now (store .entry)) key ⌝ }
+        let b = boardOf (now (keys .entry)) (now (versions .entry)) (now (lengths .entry)) version floor (now (order .entry)) (now (tops .entry)) (now (forms .entry)) in
+        ⌜ r ≡ bodyFormOn b (now (store .entry)) key ⌝ }
 {
     let verdict = body_number(
         keys,
@@ -118,5 +117,5 @@ pub fn body_form<'a>(
     if verdict.number != 0 {
         return 0;
     }
-    form_at(forms, place_of(keys, key))
+    form_in(forms, place_in(keys, key))
 }

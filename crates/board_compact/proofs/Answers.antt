@@ -8,6 +8,7 @@ use lib.ListN.{length}
 use Rattle.answers.specs.declared.verdict.Verdict.{Verdict}
 use Rattle.answers.specs.Numbers.{notABoard}
 use Rattle.answers.specs.Verdicts.{refusedBy}
+use Rattle.answers.proofs.Kept.{kept-old, kept-new}
 use Rattle.board_record.specs.Sizes.{places}
 use Rattle.board_record.specs.Table.{Table, tableOf, versionAt, Used}
 use Rattle.board_record.specs.Proper.{properB}
@@ -19,7 +20,6 @@ use Rattle.board_order.proofs.Chains.{proper-apart, chained-in, in-chained}
 use Rattle.board_rules.specs.Compact.{compactRules, compactVerdict, dropped, compacted, compactAnswer}
 use Rattle.board_rules.proofs.Keeps.{compacted-key, compacted-version}
 use Rattle.board_rules.proofs.Told.{board-not, board-is}
-use Rattle.board_rules.proofs.Verdicts.{kept-old, kept-new}
 
 -- ---- compact
 module _ (b : Table) (store : List ℕ) (m : ℕ) where

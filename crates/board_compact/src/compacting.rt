@@ -2,8 +2,7 @@
 // higher, what was dropped is off the order, and the largest version of its group may be lower. A mark has neither length nor
 // form, so these stay.
 ghost use mathlib.Core.Path.{_≡_};
-ghost use Rattle.board_record.specs.Table.{tableOf};
-ghost use Rattle.board_record.specs.Record.{withRows};
+ghost use Rattle.board_record.specs.Record.{boardOf};
 ghost use Rattle.board_rules.specs.OnRecord.{resultOf, compactOn};
 use answers::NOT_A_BOARD;
 use answers::Verdict;
@@ -28,9 +27,9 @@ pub fn compact<'a>(
     c: u64,
 ) -> Verdict
     ensures answer { λ r.
-        let before = tableOf (now (keys .entry)) (now (versions .entry)) (now (lengths .entry)) version (now (floor .entry)) (now (forms .entry)) in
-        let after = tableOf (now (keys .exit)) (now (versions .exit)) (now (lengths .entry)) version (now (floor .exit)) (now (forms .entry)) in
-        ⌜ resultOf r (withRows after (now (order .exit)) (now (tops .exit))) ≡ compactOn (withRows before (now (order .entry)) (now (tops .entry))) (now (store .entry)) c ⌝ }
+        let before = boardOf (now (keys .entry)) (now (versions .entry)) (now (lengths .entry)) version (now (floor .entry)) (now (order .entry)) (now (tops .entry)) (now (forms .entry)) in
+        let after = boardOf (now (keys .exit)) (now (versions .exit)) (now (lengths .entry)) version (now (floor .exit)) (now (order .exit)) (now (tops .exit)) (now (forms .entry)) in
+        ⌜ resultOf r after ≡ compactOn before (now (store .entry)) c ⌝ }
 {
     if !is_board(
         store.len(),

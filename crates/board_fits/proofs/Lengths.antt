@@ -6,10 +6,10 @@ use mathlib.Core.Bool.{Bool, true, false, cond, _&&_, _||_}
 use mathlib.Core.Logic.{_⊎_, inl, inr, ⊎-elim}
 use lib.Dec.{eqb, leb}
 use borrow.Author.Tests.{eq-eqb, ne-eqb, eqb-true, le-leb, lt-leb}
-use Rattle.octets.proofs.Said.{and-holding}
+use Rattle.octets.proofs.Said.{and-holding, and-false}
 use Rattle.board_record.specs.Sizes.{bodyLeast}
 use Rattle.board_record.specs.Proper.{pathOk}
-use Rattle.board_record.proofs.Logic.{and-false, same?, from?}
+use Rattle.board_record.proofs.Logic.{same?, from?}
 use Rattle.board_fits.specs.Fits.{bodyB, turnedOf}
 
 -- at least m units

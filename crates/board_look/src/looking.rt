@@ -2,8 +2,7 @@
 // change, or level. Moved (keys from a to b, version v): 17; 24 if v is above the version; 23 if the floor is above v; then the
 // count is 1 if a key of the range changed after v, else 0.
 ghost use mathlib.Core.Path.{_≡_};
-ghost use Rattle.board_record.specs.Table.{tableOf};
-ghost use Rattle.board_record.specs.Record.{withRows};
+ghost use Rattle.board_record.specs.Record.{boardOf};
 ghost use Rattle.board_rules.specs.OnRecord.{nextOn, movedOn};
 use answers::NOT_A_BOARD;
 use answers::Verdict;
@@ -37,8 +36,8 @@ pub fn next<'a>(
     w: u64,
 ) -> Handed
     ensures next { λ r.
-        let b = tableOf (now (keys .entry)) (now (versions .entry)) (now (lengths .entry)) version floor (now (forms .entry)) in
-        ⌜ r ≡ nextOn (withRows b (now (order .entry)) (now (tops .entry))) (now (store .entry)) s w ⌝ }
+        let b = boardOf (now (keys .entry)) (now (versions .entry)) (now (lengths .entry)) version floor (now (order .entry)) (now (tops .entry)) (now (forms .entry)) in
+        ⌜ r ≡ nextOn b (now (store .entry)) s w ⌝ }
 {
     if !is_board(
         store.len(),
@@ -95,8 +94,8 @@ pub fn moved<'a>(
     v: u64,
 ) -> Verdict
     ensures moved { λ r.
-        let b = tableOf (now (keys .entry)) (now (versions .entry)) (now (lengths .entry)) version floor (now (forms .entry)) in
-        ⌜ r ≡ movedOn (withRows b (now (order .entry)) (now (tops .entry))) (now (store .entry)) from to v ⌝ }
+        let b = boardOf (now (keys .entry)) (now (versions .entry)) (now (lengths .entry)) version floor (now (order .entry)) (now (tops .entry)) (now (forms .entry)) in
+        ⌜ r ≡ movedOn b (now (store .entry)) from to v ⌝ }
 {
     if !is_board(
         store.len(),

@@ -8,11 +8,12 @@ use mathlib.Core.Logic.{_⊎_, inl, inr, ⊎-elim}
 use lib.ListN.{getD}
 use lib.Dec.{eqb, ltb, leb}
 use borrow.Author.Tests.{le-ltb}
+use Rattle.octets.proofs.Said.{and-false}
 use Rattle.board_record.specs.Sizes.{places, group, groups}
 use Rattle.board_record.specs.Lists.{anyBelow}
 use Rattle.board_record.specs.Search.{movedB, movedIn}
 use Rattle.board_record.specs.Tops.{topOf, inTops}
-use Rattle.board_record.proofs.Logic.{and-false, from?}
+use Rattle.board_record.proofs.Logic.{from?}
 use Rattle.board_record.proofs.Looks.{any-of, any-not, any-at, any-where}
 use Rattle.board_record.proofs.Tops.{top-of, tops-top}
 

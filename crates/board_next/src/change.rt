@@ -6,7 +6,7 @@ ghost use Rattle.board_record.specs.Search.{nextOf};
 ghost use Rattle.board_record.specs.Proper.{properB};
 ghost use Rattle.board_record.specs.Order.{inOrder};
 use board_order::first_above;
-use board_order::place_in;
+use board_order::named;
 use board_record::PLACES;
 
 // The place of the change of smallest version above w that is a path, or is a removal above s; 128 where there is none.
@@ -28,7 +28,7 @@ pub fn next_place<'a>(
 {
     let mut i = first_above(versions, order, w);
     while i < PLACES {
-        let p = place_in(order[i]);
+        let p = named(order[i]);
         if PLACES <= p {
             return PLACES;
         }

@@ -18,8 +18,8 @@ use Rattle.board_record.specs.Table.{Table, keyAt, versionAt, Used, usedB}
 use Rattle.board_record.specs.Search.{firstWhere}
 use Rattle.board_record.specs.Proper.{Proper, allBelow}
 use Rattle.board_record.specs.Order.{named, placeOn, OnRow, Chained, olderOf, placeAt, orderNumber, orderOf, inOrder}
-use Rattle.octets.proofs.Said.{both-true}
-use Rattle.board_record.proofs.Logic.{true≢false, and-false, same?, from?}
+use Rattle.octets.proofs.Said.{both-true, and-false}
+use Rattle.board_record.proofs.Logic.{true≢false, same?, from?}
 use Rattle.board_order.proofs.Names.{named-number, none-number, same-number}
 use Rattle.board_record.proofs.Lists.{length-row, row-at, count-missed, count-less, count-most, Hit, hits, hits-where, count-hits}
 use Rattle.board_record.proofs.All.{all-at, all-of}

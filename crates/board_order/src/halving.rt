@@ -5,7 +5,7 @@ ghost use lib.ListN.{length};
 ghost use Rattle.board_record.specs.Sizes.{places};
 ghost use Rattle.board_record.specs.Order.{Rises};
 ghost use Rattle.board_order.specs.Rows.{aboveB, firstAbove};
-use super::naming::place_in;
+use super::naming::named;
 use board_record::PLACES;
 
 // Whether number i of the row is no place, or its version is above w.
@@ -13,7 +13,7 @@ fn above<'a>(versions: &'a [u64], order: &'a [u8], i: usize, w: u64) -> bool
     requires { ⌜ (length (now versions) ≡ places) × (length (now order) ≡ places) × (i < places) ⌝ }
     ensures above { λ r. ⌜ r ≡ aboveB (now (versions .entry)) (now (order .entry)) w i ⌝ }
 {
-    let p = place_in(order[i]);
+    let p = named(order[i]);
     if PLACES <= p {
         return true;
     }

@@ -4,4 +4,4 @@ mod halving;
 mod naming;
 
 pub use halving::first_above;
-pub use naming::place_in;
+pub use naming::named;

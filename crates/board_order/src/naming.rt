@@ -5,7 +5,7 @@ use board_record::PLACES;
 use octets::wide;
 
 // The place that a number names; 128 for none.
-pub fn place_in(n: u8) -> usize
+pub fn named(n: u8) -> usize
     ensures place { λ r. ⌜ r ≡ named n ⌝ }
 {
     let number = wide(n);

@@ -6,7 +6,7 @@ ghost use Rattle.board_record.specs.Table.{tableOf};
 ghost use mathlib.Core.Bool.{true, false};
 ghost use Rattle.board_record.specs.Order.{orderOf, inOrder};
 ghost use Rattle.board_order_drops.specs.Rows.{Loose};
-use board_order::place_in;
+use board_order::named;
 use board_record::PLACES;
 
 // The order of the table, whose used places stand on the row in their order, with others among them if `dropped` says so.
@@ -32,7 +32,7 @@ pub fn drop_empty<'a>(
     while i < PLACES {
         let number = order[i];
         i += 1;
-        let p = place_in(number);
+        let p = named(number);
         if PLACES <= p {
             continue;
         }

@@ -5,9 +5,8 @@ use mathlib.Core.Bool.{Bool, true, false, not, _&&_, _||_}
 use mathlib.Core.List.{List}
 use lib.ListN.{getD, replicate}
 use lib.Dec.{eqb}
-use Rattle.octets.proofs.Said.{both-true}
+use Rattle.octets.proofs.Said.{both-true, or-true}
 use Rattle.board_record.specs.Proper.{allBelow, freshB, newB}
-use Rattle.board_record.proofs.Logic.{or-true}
 use Rattle.board_record.proofs.All.{all-none, all-more}
 use Rattle.board_along.specs.Chain.{Heads, Links}
 use Rattle.board_along.proofs.Laws.{no-heads, no-links}

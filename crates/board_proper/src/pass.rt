@@ -6,6 +6,7 @@ ghost use Rattle.board_record.specs.Table.{tableOf};
 ghost use Rattle.board_record.specs.Proper.{properB};
 ghost use Rattle.board_record.specs.Order.{inOrder};
 ghost use Rattle.board_record.specs.Tops.{inTops};
+use board_along::SLOTS;
 use board_along::chained;
 use board_along::late;
 use board_along::numbered;
@@ -13,6 +14,7 @@ use board_extent::extent;
 use board_places::bodies;
 use board_places::low;
 use board_record::GROUP;
+use board_record::GROUPS;
 use board_record::PLACES;
 use board_record::VERSION_MOST;
 use board_record::larger;
@@ -46,9 +48,9 @@ pub fn is_proper<'a>(
     if !low(keys, m) {
         return false;
     }
-    let mut heads = [0u8; 1024];
-    let mut nexts = [0u8; 128];
-    let mut seen = [0u64; 16];
+    let mut heads = [0u8; SLOTS];
+    let mut nexts = [0u8; PLACES];
+    let mut seen = [0u64; GROUPS];
     let mut last: u64 = 0;
     let mut bound = floor;
     let mut i: usize = 0;

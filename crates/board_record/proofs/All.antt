@@ -13,8 +13,8 @@ use borrow.Author.Tests.{eq-eqb, ne-eqb, eqb-true, eqb-false, not-true, not-fals
 use borrow.Author.Count.{below-more}
 use Rattle.board_record.specs.Sizes.{places}
 use Rattle.board_record.specs.Proper.{allBelow, freshB, newB, distinctB}
-use Rattle.octets.proofs.Said.{both-true}
-use Rattle.board_record.proofs.Logic.{and-false, or-true, same?, from?}
+use Rattle.octets.proofs.Said.{both-true, and-false}
+use Rattle.board_record.proofs.Logic.{same?, from?}
 
 -- ---- every number below n passes
 pub all-none : (t : ℕ → Bool) → allBelow t 0 ≡ true

@@ -8,3 +8,4 @@ pub mod Determined
 pub mod Looks
 pub mod Tops
 pub mod Ranges
+pub mod Alone

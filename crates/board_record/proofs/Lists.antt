@@ -6,12 +6,16 @@ use mathlib.Core.Path.{_≡_, refl, sym, ap, _∙_}
 use mathlib.Core.Bool.{Bool, true, false, not, cond}
 use mathlib.Core.List.{List, [], _∷_, _++_}
 use mathlib.Core.Logic.{_⊎_, inl, inr, ⊎-elim}
-use lib.ListN.{length, getD, length-append, List·getD-append}
+use lib.ListN.{length, getD, replicate, length-append, length-replicate, getD-replicate, List·getD-append, List·getD-eq-default}
 use lib.Seq.{getD-append-add}
 use lib.Dec.{eqb}
 use borrow.Author.Tests.{eq-eqb, ne-eqb, eqb-true, eqb-false}
 use Rattle.board_record.specs.Lists.{row, countBelow}
-use Rattle.board_record.proofs.Logic.{true≢false, same?}
+use Rattle.board_record.proofs.Logic.{true≢false, same?, from?}
+
+-- ---- a list of zeros
+pub zeros : (n j : ℕ) → getD {A = ℕ} (replicate n 0) j 0 ≡ 0
+zeros n j = ⊎-elim (λ l. List·getD-eq-default (replicate n 0) 0 (omega (arith, length-replicate {A = ℕ} n 0))) (λ l. getD-replicate n j 0 0 l) (from? n j)
 
 -- ---- rows
 pub length-row : (f : ℕ → ℕ) (n : ℕ) → length (row f n) ≡ n

@@ -13,14 +13,6 @@ use borrow.Author.Tests.{eqb-true, eqb-false, leb-true, leb-false}
 pub true≢false : true ≡ false → ⊥
 true≢false p = let z : _≡_ {A = ℕ} 0 1 = cc in omega arith
 
-pub and-false : (b : Bool) → b && false ≡ false
-and-false true = refl
-and-false false = refl
-
-pub or-true : (b : Bool) → b || true ≡ true
-or-true true = refl
-or-true false = refl
-
 pub same? : (a b : ℕ) → (a ≡ b) ⊎ (a ≡ b → ⊥)
 same? a b = go (eqb a b) refl
   where

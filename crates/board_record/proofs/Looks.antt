@@ -5,10 +5,10 @@ use native.Mathlib.Omega.{arith}
 use mathlib.Core.Path.{_≡_, refl, sym, ap, _∙_}
 use mathlib.Core.Bool.{Bool, true, false, _&&_, _||_}
 use mathlib.Core.Logic.{_⊎_, inl, inr, ⊎-elim}
-use Rattle.octets.proofs.Said.{either-false}
+use Rattle.octets.proofs.Said.{either-false, or-true}
 use Rattle.board_record.specs.Lists.{maxBelow, anyBelow}
 use Rattle.board_record.specs.Proper.{allBelow}
-use Rattle.board_record.proofs.Logic.{true≢false, or-true, same?, from?}
+use Rattle.board_record.proofs.Logic.{true≢false, same?, from?}
 
 -- ---- the largest value
 pub max-most : (f : ℕ → ℕ) (n j : ℕ) → j < n → f j ≤ maxBelow f n

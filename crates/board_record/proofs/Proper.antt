@@ -6,15 +6,16 @@ use mathlib.Core.Path.{_≡_, refl, sym, ap, _∙_}
 use mathlib.Core.Bool.{Bool, true, false, not, cond, _&&_, _||_}
 use mathlib.Core.List.{List}
 use mathlib.Core.Logic.{_⊎_, inl, inr, ⊎-elim}
-use lib.ListN.{getD, replicate, length-replicate, getD-replicate}
+use lib.ListN.{length-replicate}
 use lib.Dec.{eqb, ltb, leb}
 use borrow.Author.Tests.{eqb-true, eqb-false, leb-true, leb-false, ltb-true, ltb-false, eq-eqb, ne-eqb, lt-ltb, le-leb, not-true, not-false}
 use Rattle.objects.specs.Objects.{unit, srv6Setup, mplsSetup}
 use Rattle.board_record.specs.Sizes.{places, room, keyLeast, keyMost, versionMost, bodyLeast}
 use Rattle.board_record.specs.Table.{Table, emptyTable, ListsWhole, Entry, keyAt, versionAt, lengthAt, formAt, entryAt, Empty, Used, RemovalAt, PathAt}
 use Rattle.board_record.specs.Proper.{Proper, IsForm, allBelow, pathOk, placeOk, soundB, distinctB, properB}
-use Rattle.octets.proofs.Said.{both-true}
-use Rattle.board_record.proofs.Logic.{or-true, same?, test-is}
+use Rattle.octets.proofs.Said.{both-true, or-true}
+use Rattle.board_record.proofs.Logic.{same?, test-is}
+use Rattle.board_record.proofs.Lists.{zeros}
 use Rattle.board_record.proofs.All.{all-at, all-of, distinct-one, one-distinct}
 
 -- ---- a form, as a test
@@ -265,30 +266,27 @@ is-proper b p =
     rw (le-leb (b .floor) (b .version) (p .floor-in), le-leb (b .version) versionMost (p .version-in), all, keys, versions)
 
 -- ---- the empty board
-zeros : (i : ℕ) → i < places → getD {A = ℕ} (replicate 128 0) i 0 ≡ 0
-zeros i l = getD-replicate 128 i 0 0 l
-
 pub empty-sized : ListsWhole emptyTable
 empty-sized = record { keys = length-replicate {A = ℕ} 128 0; versions = length-replicate {A = ℕ} 128 0; lengths = length-replicate {A = ℕ} 128 0; forms = length-replicate {A = ℕ} 128 0 }
 
 pub empty-proper : Proper emptyTable
 empty-proper =
     record {
-      key-least = λ i l u. absurd (u (zeros i l));
-      key-most = λ i l u. absurd (u (zeros i l));
-      keys-distinct = λ i j l m u y. absurd (u (zeros i l));
-      versions-distinct = λ i j l m u y. absurd (u (zeros i l));
-      version-least = λ i l u. absurd (u (zeros i l));
-      version-most = λ i l u. absurd (u (zeros i l));
-      removal-above = λ i l y. absurd (y .used (zeros i l));
+      key-least = λ i l u. absurd (u (zeros 128 i));
+      key-most = λ i l u. absurd (u (zeros 128 i));
+      keys-distinct = λ i j l m u y. absurd (u (zeros 128 i));
+      versions-distinct = λ i j l m u y. absurd (u (zeros 128 i));
+      version-least = λ i l u. absurd (u (zeros 128 i));
+      version-most = λ i l u. absurd (u (zeros 128 i));
+      removal-above = λ i l y. absurd (y .used (zeros 128 i));
       floor-in = omega arith;
       version-in = omega arith;
-      length-unit = λ i l y. absurd (y .used (zeros i l));
-      length-least = λ i l y. absurd (y .used (zeros i l));
-      length-most = λ i l y. absurd (y .used (zeros i l));
-      empty-version = λ i l y. zeros i l;
-      empty-length = λ i l y. zeros i l;
-      path-form = λ i l y. absurd (y .used (zeros i l));
-      removal-form = λ i l y. absurd (y .used (zeros i l));
-      empty-form = λ i l y. zeros i l;
+      length-unit = λ i l y. absurd (y .used (zeros 128 i));
+      length-least = λ i l y. absurd (y .used (zeros 128 i));
+      length-most = λ i l y. absurd (y .used (zeros 128 i));
+      empty-version = λ i l y. zeros 128 i;
+      empty-length = λ i l y. zeros 128 i;
+      path-form = λ i l y. absurd (y .used (zeros 128 i));
+      removal-form = λ i l y. absurd (y .used (zeros 128 i));
+      empty-form = λ i l y. zeros 128 i;
     }

@@ -6,3 +6,4 @@ pub mod Proper
 pub mod Order
 pub mod Tops
 pub mod Record
+pub mod Alone

@@ -18,6 +18,10 @@ abbrev pub withRows : Table → List ℕ → List ℕ → Board
 withRows t order tops =
     record { keys = t .keys; versions = t .versions; lengths = t .lengths; version = t .version; floor = t .floor; order = order; tops = tops; forms = t .forms }
 
+-- the record, of its parts, in the order in which the calls take them
+abbrev pub boardOf : List ℕ → List ℕ → List ℕ → ℕ → ℕ → List ℕ → List ℕ → List ℕ → Board
+boardOf keys versions lengths version floor order tops forms = withRows (tableOf keys versions lengths version floor forms) order tops
+
 -- the record of a table, with the rows that it gives
 abbrev pub recordOf : Table → Board
 recordOf t = withRows t (orderOf t) (topsOf (t .versions))

@@ -5,6 +5,8 @@
 // or MPLS_SETUP), and 0 at an empty place and a removal. So all zeros is the empty board.
 ghost use mathlib.Core.Path.{_≡_};
 ghost use Rattle.board_record.specs.Record.{emptyBoard};
+use super::size::GROUPS;
+use super::size::PLACES;
 
 pub struct Board {
     pub keys: [u32; 128],
@@ -22,13 +24,13 @@ pub fn empty() -> Board
     ensures empty { λ r. ⌜ r ≡ emptyBoard ⌝ }
 {
     Board {
-        keys: [0; 128],
-        versions: [0; 128],
-        lengths: [0; 128],
+        keys: [0; PLACES],
+        versions: [0; PLACES],
+        lengths: [0; PLACES],
         version: 0,
         floor: 0,
-        order: [0; 128],
-        tops: [0; 16],
-        forms: [0; 128],
+        order: [0; PLACES],
+        tops: [0; GROUPS],
+        forms: [0; PLACES],
     }
 }

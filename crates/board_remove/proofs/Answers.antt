@@ -11,17 +11,19 @@ use borrow.Author.Tests.{ltb-true, not-false}
 use Rattle.answers.specs.declared.verdict.Verdict.{Verdict}
 use Rattle.answers.specs.Numbers.{notABoard}
 use Rattle.answers.specs.Verdicts.{refusedBy}
+use Rattle.answers.proofs.Kept.{kept-old, kept-new}
 use Rattle.board_record.specs.Sizes.{places}
 use Rattle.board_record.specs.Table.{Table, tableOf, Entry, bearing, changed}
 use Rattle.board_record.specs.Search.{placeOf}
 use Rattle.board_record.specs.Order.{orderOf}
 use Rattle.octets.proofs.Said.{both-true}
 use Rattle.board_record.proofs.Search.{key-place-is}
-use Rattle.board_rules.specs.Rules.{isBoard, inRange, lengthIn, outcomeOf}
+use Rattle.board_rules.specs.Rules.{isBoard, inRange, outcomeOf}
+use Rattle.board_rules.specs.Parts.{lengthIn}
 use Rattle.board_rules.specs.Remove.{removeRules, removeVerdict, removed, removeAnswer}
 use Rattle.board_rules.proofs.Shared.{path-test}
 use Rattle.board_rules.proofs.Told.{board-not, board-is}
-use Rattle.board_rules.proofs.Verdicts.{kept-old, kept-new, rule-passed, range-passed}
+use Rattle.board_rules.proofs.Verdicts.{rule-passed, range-passed}
 
 -- ---- remove
 module _ (b : Table) (store : List ℕ) (k : ℕ) where

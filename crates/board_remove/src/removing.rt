@@ -1,18 +1,17 @@
 // Remove (key): 17, 18, 22, 20. The removal stays as a mark: the key keeps its place, with length and form 0 and the version that
 // the removal bears, goes to the end of the order, and that version is the largest of its group.
 ghost use mathlib.Core.Path.{_≡_};
-ghost use Rattle.board_record.specs.Table.{tableOf};
-ghost use Rattle.board_record.specs.Record.{withRows};
+ghost use Rattle.board_record.specs.Record.{boardOf};
 ghost use Rattle.board_rules.specs.OnRecord.{resultOf, removeOn};
 use answers::NOT_A_BOARD;
 use answers::Verdict;
 use answers::refused;
 use board_order_moves::move_last;
 use board_refusals::remove_rules;
-use board_search::place_of;
+use board_search::place_in;
 use board_tops::raise;
 use board_whole::is_board;
-use board_whole::length_at;
+use board_whole::length_in;
 
 pub fn remove(
     keys: &[u32; 128],
@@ -27,9 +26,9 @@ pub fn remove(
     key: u64,
 ) -> Verdict
     ensures answer { λ r.
-        let before = tableOf (now (keys .entry)) (now (versions .entry)) (now (lengths .entry)) (now (version .entry)) floor (now (forms .entry)) in
-        let after = tableOf (now (keys .entry)) (now (versions .exit)) (now (lengths .exit)) (now (version .exit)) floor (now (forms .exit)) in
-        ⌜ resultOf r (withRows after (now (order .exit)) (now (tops .exit))) ≡ removeOn (withRows before (now (order .entry)) (now (tops .entry))) (now (store .entry)) key ⌝ }
+        let before = boardOf (now (keys .entry)) (now (versions .entry)) (now (lengths .entry)) (now (version .entry)) floor (now (order .entry)) (now (tops .entry)) (now (forms .entry)) in
+        let after = boardOf (now (keys .entry)) (now (versions .exit)) (now (lengths .exit)) (now (version .exit)) floor (now (order .exit)) (now (tops .exit)) (now (forms .exit)) in
+        ⌜ resultOf r after ≡ removeOn before (now (store .entry)) key ⌝ }
 {
     if !is_board(
         store.len(),
@@ -44,8 +43,8 @@ pub fn remove(
     ) {
         return refused(NOT_A_BOARD, 0);
     }
-    let at = place_of(keys, key);
-    let verdict = remove_rules(key, at, length_at(lengths, at), *version);
+    let at = place_in(keys, key);
+    let verdict = remove_rules(key, at, length_in(lengths, at), *version);
     if verdict.number != 0 {
         return verdict;
     }

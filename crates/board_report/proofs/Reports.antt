@@ -12,6 +12,7 @@ use borrow.Author.Tests.{eqb-true, eqb-false, ltb-false, leb-false}
 use Rattle.answers.specs.declared.verdict.Verdict.{Verdict}
 use Rattle.answers.specs.Numbers.{notABoard}
 use Rattle.answers.specs.Verdicts.{refusedBy, kept}
+use Rattle.answers.proofs.Kept.{kept-old, kept-new}
 use Rattle.octets.specs.Octets.{placed}
 use Rattle.octets.proofs.Laws.{rest-lent}
 use Rattle.session.specs.declared.Session.{Session}
@@ -24,7 +25,7 @@ use Rattle.board_record.specs.Proper.{properB}
 use Rattle.board_rules.specs.Rules.{isBoard, inRange, outcomeOf}
 use Rattle.board_rules.specs.Report.{bodyIn, reportRules, reportVerdict, reported, reportWith, storeWith, reportAnswer, reportStore}
 use Rattle.board_rules.proofs.Keeps.{BodyFits, body-fits, least-some}
-use Rattle.board_rules.proofs.Verdicts.{kept-old, kept-new, rule-passed, route-passed, range-passed}
+use Rattle.board_rules.proofs.Verdicts.{rule-passed, route-passed, range-passed}
 use Rattle.board_rules.proofs.Told.{board-not, board-is, board-room}
 
 -- what the passed rules say

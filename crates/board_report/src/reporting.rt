@@ -6,8 +6,7 @@
 ghost use mathlib.Core.Path.{_≡_};
 ghost use Prim.Native.Nat.{_-_};
 ghost use Rattle.objects.specs.Objects.{header};
-ghost use Rattle.board_record.specs.Table.{tableOf};
-ghost use Rattle.board_record.specs.Record.{withRows};
+ghost use Rattle.board_record.specs.Record.{boardOf};
 ghost use Rattle.board_rules.specs.OnRecord.{resultOf, reportOn, reportStoreOn};
 use answers::NOT_A_BOARD;
 use answers::Verdict;
@@ -46,12 +45,14 @@ pub fn report(
     pst: u64,
 ) -> Verdict
     ensures answer { λ r.
-        let before = tableOf (now (keys .entry)) (now (versions .entry)) (now (lengths .entry)) (now (version .entry)) (now (floor .entry)) (now (forms .entry)) in
-        let after = tableOf (now (keys .exit)) (now (versions .exit)) (now (lengths .exit)) (now (version .exit)) (now (floor .exit)) (now (forms .exit)) in
-        ⌜ resultOf r (withRows after (now (order .exit)) (now (tops .exit))) ≡ reportOn (withRows before (now (order .entry)) (now (tops .entry))) (now (store .entry)) key (now (ero .entry)) session pst ⌝ }
+        let before =
+        boardOf (now (keys .entry)) (now (versions .entry)) (now (lengths .entry)) (now (version .entry)) (now (floor .entry)) (now (order .entry)) (now (tops .entry)) (now (forms .entry)) in
+        let after = boardOf (now (keys .exit)) (now (versions .exit)) (now (lengths .exit)) (now (version .exit)) (now (floor .exit)) (now (order .exit)) (now (tops .exit)) (now (forms .exit)) in
+        ⌜ resultOf r after ≡ reportOn before (now (store .entry)) key (now (ero .entry)) session pst ⌝ }
     ensures octets { λ r.
-        let before = tableOf (now (keys .entry)) (now (versions .entry)) (now (lengths .entry)) (now (version .entry)) (now (floor .entry)) (now (forms .entry)) in
-        ⌜ now (store .exit) ≡ reportStoreOn (withRows before (now (order .entry)) (now (tops .entry))) (now (store .entry)) key (now (ero .entry)) session pst ⌝ }
+        let before =
+        boardOf (now (keys .entry)) (now (versions .entry)) (now (lengths .entry)) (now (version .entry)) (now (floor .entry)) (now (order .entry)) (now (tops .entry)) (now (forms .entry)) in
+        ⌜ now (store .exit) ≡ reportStoreOn before (now (store .entry)) key (now (ero .entry)) session pst ⌝ }
 {
     if !is_board(
         store.len(),

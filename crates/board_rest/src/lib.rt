@@ -24,7 +24,7 @@ fn empty_one(k: u32, l: u16, form: u8) -> u8
     }
 }
 
-// How many places have no key, no length and no form; from place m on none has.
+// How many places have no key, no length and no form. All from place m on are such.
 fn empties<'a>(
     keys: &'a [u32; 128],
     lengths: &'a [u16; 128],
@@ -50,7 +50,7 @@ fn unborn_one(v: u64) -> usize
     if v == 0 { 1 } else { 0 }
 }
 
-// How many versions are 0. They are counted by themselves: beside the narrow numbers the compiler would take two places at a time.
+// How many versions are 0. All from place m on are. They are counted by themselves: beside the narrow numbers the compiler would take two places at a time.
 fn unborn(versions: &[u64; 128], m: usize) -> usize
     requires { ⌜ (m ≤ places) × EmptyFrom (now versions) m ⌝ }
     ensures count { λ r. ⌜ r ≡ countBelow (λ j. eqb (getD (now (versions .entry)) j 0) 0) places ⌝ }

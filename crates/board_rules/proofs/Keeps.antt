@@ -13,6 +13,7 @@ use lib.Dec.{eqb, ltb, leb}
 use borrow.Author.Tests.{eq-eqb, ne-eqb, eqb-true, eqb-false, le-leb, leb-true, leb-false}
 use Rattle.answers.specs.declared.verdict.Verdict.{Verdict}
 use Rattle.answers.specs.Verdicts.{kept}
+use Rattle.answers.proofs.Kept.{kept-old, kept-new}
 use Rattle.session.specs.declared.Session.{Session}
 use Rattle.route.specs.Routes.{judgeOf}
 use Rattle.route.proofs.Setups.{accepted-one, body-mpls, body-srv6}
@@ -30,7 +31,7 @@ use Rattle.board_record.proofs.Changed.{Storable, Fitting, changed-sized, chang
 use Rattle.board_rules.specs.Report.{bodyIn, reportVerdict, reported, reportWith, reportAnswer}
 use Rattle.board_rules.specs.Remove.{removeVerdict, removed, removeAnswer}
 use Rattle.board_rules.specs.Compact.{compactVerdict, dropped, compacted, compactAnswer}
-use Rattle.board_rules.proofs.Verdicts.{kept-old, kept-new, ReportPassed, report-passed, RemovePassed, remove-passed, CompactPassed, compact-passed}
+use Rattle.board_rules.proofs.Verdicts.{ReportPassed, report-passed, RemovePassed, remove-passed, CompactPassed, compact-passed}
 
 -- ---- report
 pub least-some : (form : ℕ) → 8 ≤ bodyLeast form

@@ -8,3 +8,4 @@ pub mod Inside
 pub mod Told
 pub mod Moves
 pub mod OnRecord
+pub mod Checks

@@ -1,4 +1,5 @@
--- Moved: 17, 24 and 23 exactly where document 02 has them; then yes exactly if there is such a place, and no where a is above b. Assumes nothing.
+-- Moved: 17, 24 and 23 exactly where document 02 has them; then yes exactly if there is such a place, and no where a is above b. On a board the answer is that of two tests and
+-- a look at all places (`rest`): each law says how the tests come out, and the last ones what the look finds. Assumes nothing.
 use Prim.Native.Nat.{ℕ, _<_, _≤_}
 use native.Mathlib.Omega.{arith}
 use mathlib.Core.Path.{_≡_, refl, sym, ap, _∙_}
@@ -11,13 +12,14 @@ use borrow.Author.Tests.{lt-ltb, le-ltb}
 use Rattle.answers.specs.declared.verdict.Verdict.{Verdict}
 use Rattle.answers.specs.Numbers.{notABoard, markTooOld, markAhead}
 use Rattle.answers.specs.Verdicts.{refusedBy, acceptedWith, kept}
+use Rattle.answers.proofs.Kept.{kept-old}
 use Rattle.board_record.specs.Table.{Table}
 use Rattle.board_record.specs.Search.{MovedAt, movedIn}
 use Rattle.board_record.proofs.Logic.{from?}
 use Rattle.board_record.proofs.Ranges.{moved-where, where-moved, none-between}
 use Rattle.board_rules.specs.Rules.{isBoard}
 use Rattle.board_rules.specs.Moved.{movedRules, movedVerdict, movedAnswer}
-use Rattle.board_rules.proofs.Verdicts.{IsBoard, whole-board, kept-old}
+use Rattle.board_rules.proofs.Verdicts.{IsBoard, whole-board}
 use Rattle.board_rules.proofs.Exact.{NoBoard, no-board}
 
 -- yes and no, as verdicts

@@ -1,5 +1,6 @@
 -- The calls on the record, from those on its table. 17 is answered exactly if the store is short, the table not proper, the row not its chain or a number of a group not its
--- largest version; else a refusal leaves the record as it was, and what an accepted call leaves is the table's record. Assumes nothing.
+-- largest version; else a refusal leaves the record as it was, and what an accepted call leaves is the table's record. All by cases on whether the rows are the table's (`no-record`).
+-- Assumes nothing.
 use Prim.Native.Nat.{ℕ, zero, suc, _<_}
 use mathlib.Core.Path.{_≡_, refl, sym, ap, _∙_}
 use mathlib.Core.Bool.{Bool, true, false, not, cond, _&&_}
@@ -10,6 +11,7 @@ use native.Mathlib.Omega.{arith}
 use Rattle.answers.specs.declared.verdict.Verdict.{Verdict}
 use Rattle.answers.specs.Numbers.{notABoard}
 use Rattle.answers.specs.Verdicts.{refusedBy, kept}
+use Rattle.answers.proofs.Kept.{kept-old, kept-new}
 use Rattle.session.specs.declared.Session.{Session}
 use Rattle.board_record.specs.declared.record.Board.{Board}
 use Rattle.board_record.specs.Table.{Table}
@@ -32,7 +34,7 @@ use Rattle.board_rules.specs.Body.{bodyNumber, bodyOf, bodyForm}
 use Rattle.board_rules.specs.Next.{nextVerdict, nextAnswer, numberIn}
 use Rattle.board_rules.specs.Moved.{movedAnswer}
 use Rattle.board_rules.specs.OnRecord.{isRecord, verdictOn, Result, resultOf, resultOn, reportOn, reportStoreOn, removeOn, compactOn, bodyNumberOn, bodyOn, bodyFormOn, nextOn, movedOn}
-use Rattle.board_rules.proofs.Verdicts.{IsBoard, board-whole, whole-board, kept-old, kept-new}
+use Rattle.board_rules.proofs.Verdicts.{IsBoard, board-whole, whole-board}
 use Rattle.board_rules.proofs.Inside.{next-number}
 use Rattle.board_rules.proofs.Exact.{NoBoard, report-17-then, report-17-only, remove-17-then, remove-17-only, body-17-then, body-17-only}
 use Rattle.board_rules.proofs.Moves.{moved-17-then, moved-17-only}

@@ -8,13 +8,14 @@ use lib.Dec.{eqb, ltb}
 use borrow.Author.Tests.{lt-ltb, le-ltb, le-leb}
 use native.Mathlib.Omega.{arith}
 use Rattle.board_record.specs.Sizes.{places, storeSize}
-use Rattle.board_record.specs.Table.{Table, lengthAt}
+use Rattle.board_record.specs.Table.{Table, lengthAt, formAt}
 use Rattle.board_record.specs.Search.{placeOf}
 use Rattle.board_record.specs.Proper.{properB}
 use Rattle.board_record.specs.Order.{inOrder}
 use Rattle.board_record.specs.Tops.{inTops}
 use Rattle.board_record.specs.Record.{withRows}
-use Rattle.board_rules.specs.Rules.{isBoard, lengthIn, hasPath}
+use Rattle.board_rules.specs.Rules.{isBoard, hasPath}
+use Rattle.board_rules.specs.Parts.{lengthIn, formIn}
 use Rattle.board_rules.specs.OnRecord.{isRecord}
 
 pub board-long : (b : Table) (order tops : List ℕ) (n : ℕ) (r : Bool) → storeSize ≤ n → r ≡ (properB b && inOrder b order && inTops (b .versions) tops)
@@ -25,6 +26,15 @@ board-long b order tops n r l e = rw (le-leb 49152 n l) (e ∙ apart (properB b)
     apart : (p q t : Bool) → (p && q && t) ≡ (p && (q && t))
     apart true q t = refl
     apart false q t = refl
+
+-- at a place, the length and the form that the code reads are the table's
+pub length-here : (b : Table) (at n : ℕ) → at < places → n ≡ lengthIn (b .lengths) at → n ≡ lengthAt b at
+unfolding lengthIn
+length-here b at n l f = f ∙ rw (lt-ltb at 128 l)
+
+pub form-here : (b : Table) (at n : ℕ) → at < places → n ≡ formIn (b .forms) at → n ≡ formAt b at
+unfolding formIn
+form-here b at n l f = f ∙ rw (lt-ltb at 128 l)
 
 -- the test for a path, on the numbers that the code has
 pub path-test : (b : Table) (k at n : ℕ) → at ≡ placeOf b k → n ≡ lengthIn (b .lengths) at → (ltb at places && not (eqb n 0)) ≡ hasPath b k

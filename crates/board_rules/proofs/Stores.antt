@@ -7,6 +7,7 @@ use mathlib.Core.List.{List}
 use mathlib.Core.Logic.{_⊎_, inl, inr, ⊎-elim}
 use lib.ListN.{length, getD}
 use Rattle.answers.specs.declared.verdict.Verdict.{Verdict}
+use Rattle.answers.proofs.Kept.{kept-old, kept-new}
 use Rattle.octets.specs.Octets.{part, placed}
 use Rattle.octets.proofs.Laws.{length-placed, getD-before, getD-behind, part-placed-same}
 use Rattle.session.specs.declared.Session.{Session}
@@ -20,7 +21,7 @@ use Rattle.board_record.proofs.Lists.{length-row}
 use Rattle.board_rules.specs.Report.{bodyIn, reportVerdict, reported, reportWith, storeWith, reportAnswer, reportStore}
 use Rattle.board_rules.specs.Remove.{removeVerdict, removed, removeAnswer}
 use Rattle.board_rules.specs.Compact.{compactVerdict, compacted, compactAnswer}
-use Rattle.board_rules.proofs.Verdicts.{kept-old, kept-new, report-passed}
+use Rattle.board_rules.proofs.Verdicts.{report-passed}
 
 module _ (b : Table) (store : List ℕ) (k : ℕ) (ero : List ℕ) (session : Session) (pst : ℕ) where
   pub report-refused-writes-nothing : (reportAnswer b store k ero session pst .verdict .number ≡ 0 → ⊥) → reportStore b store k ero session pst ≡ store

@@ -18,7 +18,7 @@ use Rattle.board_record.specs.Table.{Table, lengthAt, PathAt}
 use Rattle.board_record.specs.Search.{placeOf, KeyPlace, targetOf}
 use Rattle.board_record.specs.Proper.{Proper, properB}
 use Rattle.octets.proofs.Said.{both-true}
-use Rattle.board_record.proofs.Logic.{true≢false, and-false, from?}
+use Rattle.board_record.proofs.Logic.{true≢false, from?}
 use Rattle.board_record.proofs.Search.{key-place-is, Full, full-is, is-full}
 use Rattle.board_record.proofs.Proper.{proper-is, is-proper}
 use Rattle.board_rules.specs.Rules.{isBoard, inRange, hasPath}
@@ -27,15 +27,6 @@ use Rattle.board_rules.specs.Remove.{removeRules, removeVerdict}
 use Rattle.board_rules.specs.Compact.{compactRules, compactVerdict}
 use Rattle.board_rules.specs.Body.{bodyRules, bodyNumber}
 use Rattle.board_rules.specs.Next.{nextRules, nextVerdict}
-
--- ---- what stays after a verdict
-pub kept-old : {A : Type 0} (n : ℕ) (x y : A) → (n ≡ 0 → ⊥) → kept n x y ≡ x
-kept-old zero x y d = absurd (d refl)
-kept-old (suc n) x y d = refl
-
-pub kept-new : {A : Type 0} (n : ℕ) (x y : A) → n ≡ 0 → kept n x y ≡ y
-kept-new zero x y e = refl
-kept-new (suc n) x y e = absurd (omega arith)
 
 -- ---- a rule that was passed
 pub rule-passed : (t : Bool) (n p : ℕ) (x : Verdict) → cond t (refusedBy (suc n) p) x .number ≡ 0 → (t ≡ false) × (x .number ≡ 0)

@@ -6,3 +6,5 @@ pub mod Body
 pub mod Next
 pub mod Moved
 pub mod OnRecord
+pub mod Parts
+pub mod Checks

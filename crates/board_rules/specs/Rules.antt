@@ -1,8 +1,6 @@
 -- The rules that several calls of the board share (document 01, "The board").
 use Prim.Native.Nat.{ℕ}
-use mathlib.Core.Bool.{Bool, not, cond, _&&_}
-use mathlib.Core.List.{List}
-use lib.ListN.{getD}
+use mathlib.Core.Bool.{Bool, not, _&&_}
 use lib.Dec.{eqb, ltb, leb}
 use Rattle.answers.specs.declared.verdict.Verdict.{Verdict}
 use Rattle.board_record.specs.Sizes.{places, storeSize, keyLeast, keyMost}
@@ -17,14 +15,6 @@ isBoard b n = leb storeSize n && properB b
 -- 18 "key out of range"; "Keys are 1 to 1,048,574."
 unfoldable pub inRange : ℕ → Bool
 inRange k = leb keyLeast k && leb k keyMost
-
--- the length at a place; 0 for no place
-unfoldable pub lengthIn : List ℕ → ℕ → ℕ
-lengthIn lengths at = cond (ltb at places) (getD lengths at 0) 0
-
--- the form at a place; 0 for no place
-unfoldable pub formIn : List ℕ → ℕ → ℕ
-formIn forms at = cond (ltb at places) (getD forms at 0) 0
 
 -- 22 "key has no path": that it has one
 unfoldable pub hasPath : Table → ℕ → Bool

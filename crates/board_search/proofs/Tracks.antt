@@ -9,11 +9,11 @@ use mathlib.Core.List.{List}
 use lib.ListN.{getD}
 use lib.Dec.{eqb, ltb, leb}
 use borrow.Author.Tests.{eq-eqb, ne-eqb, eqb-true, eqb-false, lt-ltb, le-ltb, ltb-true, ltb-false, lt-leb, leb-true, leb-false}
+use Rattle.octets.proofs.Said.{and-false, and-holding}
 use Rattle.board_record.specs.Sizes.{places}
 use Rattle.board_record.specs.Table.{Table, tableOf, keyAt, versionAt, lengthAt, removalB, entryAt}
 use Rattle.board_record.specs.Search.{leastWhere, oldestOf}
 use Rattle.board_record.specs.Proper.{properB}
-use Rattle.board_record.proofs.Logic.{and-false}
 use Rattle.board_record.proofs.Proper.{Sound, properB-sound, proper-is}
 use Rattle.board_search.specs.declared.best.Best.{Best}
 use Rattle.board_search.specs.Best.{noBest, betterOf, bare}
@@ -80,13 +80,9 @@ module _ (ks vs ls : List ℕ) (top floor : ℕ) (fs : List ℕ) (p : properB (t
       o : Sound (entryAt table i) top floor
       o = properB-sound table p i l
 
-      swap : (x : Bool) → x && true ≡ x
-      swap true = refl
-      swap false = refl
-
       go : (x : Bool) → eqb (getD ks i 0) 0 ≡ x → (y : Bool) → y && not (eqb (getD vs i 0) 0) ≡ not x && y
       go true e y = rw (eq-eqb (getD vs i 0) 0 (o .none (eqb-true (getD ks i 0) 0 e) .0)) (and-false y)
-      go false e y = rw (ne-eqb (getD vs i 0) 0 (λ z. omega (arith, o .low (eqb-false (getD ks i 0) 0 e)))) (swap y)
+      go false e y = rw (ne-eqb (getD vs i 0) 0 (λ z. omega (arith, o .low (eqb-false (getD ks i 0) 0 e)))) (and-holding y)
 
   -- the search ends
   pub oldest-done : (i : ℕ) (b : Best) → Tracks (λ j. bare (getD vs j 0) (getD ls j 0)) (λ j. getD vs j 0) i b → i ≤ places → places ≤ i → b .at ≡ oldestOf table

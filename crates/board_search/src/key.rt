@@ -5,7 +5,7 @@ use board_record::PLACES;
 use board_record::wide32;
 
 // The first place that has the key; 128 where none has.
-pub fn place_of(keys: &[u32; 128], key: u64) -> usize
+pub fn place_in(keys: &[u32; 128], key: u64) -> usize
     ensures place { λ r. ⌜ r ≡ placeIn (now (keys .entry)) key ⌝ }
 {
     let mut i: usize = 0;

@@ -4,6 +4,6 @@ mod best;
 mod key;
 mod report;
 
-pub use key::place_of;
+pub use key::place_in;
 pub use report::floor_after;
 pub use report::target;

@@ -10,7 +10,7 @@ ghost use Rattle.board_record.specs.Search.{oldestOf, targetOf, floorAfter};
 ghost use Rattle.board_record.specs.Proper.{properB};
 use super::best::no_best;
 use super::best::older;
-use super::key::place_of;
+use super::key::place_in;
 use board_record::PLACES;
 use board_record::wide32;
 
@@ -48,11 +48,11 @@ pub fn target<'a>(
     requires { ⌜ properB (tableOf (now keys) (now versions) (now lengths) top floor (now forms)) ≡ true ⌝ }
     ensures target { λ r. ⌜ r ≡ targetOf (tableOf (now (keys .entry)) (now (versions .entry)) (now (lengths .entry)) top floor (now (forms .entry))) key ⌝ }
 {
-    let known = place_of(keys, key);
+    let known = place_in(keys, key);
     if known < PLACES {
         return known;
     }
-    let free = place_of(keys, 0);
+    let free = place_in(keys, 0);
     if free < PLACES {
         return free;
     }

@@ -3,9 +3,8 @@
 ghost use mathlib.Core.Path.{_≡_};
 ghost use Prim.Native.Nat.{_*_, _<_};
 ghost use Rattle.board_record.specs.Sizes.{places, room};
-ghost use Rattle.board_record.specs.Table.{tableOf};
-ghost use Rattle.board_record.specs.Record.{withRows};
-ghost use Rattle.board_rules.specs.Rules.{lengthIn, formIn};
+ghost use Rattle.board_record.specs.Record.{boardOf};
+ghost use Rattle.board_rules.specs.Parts.{lengthIn, formIn};
 ghost use Rattle.board_rules.specs.OnRecord.{isRecord};
 use board_record::PLACES;
 use board_record::ROOM;
@@ -26,8 +25,8 @@ pub fn is_board<'a>(
     forms: &'a [u8; 128],
 ) -> bool
     ensures board { λ r.
-        let b = tableOf (now (keys .entry)) (now (versions .entry)) (now (lengths .entry)) top floor (now (forms .entry)) in
-        ⌜ r ≡ isRecord (withRows b (now (order .entry)) (now (tops .entry))) n ⌝ }
+        let b = boardOf (now (keys .entry)) (now (versions .entry)) (now (lengths .entry)) top floor (now (order .entry)) (now (tops .entry)) (now (forms .entry)) in
+        ⌜ r ≡ isRecord b n ⌝ }
 {
     if n < STORE_SIZE {
         return false;
@@ -44,14 +43,14 @@ pub fn start_of(i: usize) -> usize
 }
 
 // The length at a place; 0 for no place.
-pub fn length_at(lengths: &[u16; 128], at: usize) -> usize
+pub fn length_in(lengths: &[u16; 128], at: usize) -> usize
     ensures length { λ r. ⌜ r ≡ lengthIn (now (lengths .entry)) at ⌝ }
 {
     if at < PLACES { wide16(lengths[at]) } else { 0 }
 }
 
 // The form at a place; 0 for no place.
-pub fn form_at(forms: &[u8; 128], at: usize) -> usize
+pub fn form_in(forms: &[u8; 128], at: usize) -> usize
     ensures form { λ r. ⌜ r ≡ formIn (now (forms .entry)) at ⌝ }
 {
     if at < PLACES { wide(forms[at]) } else { 0 }

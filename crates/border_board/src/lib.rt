@@ -1,12 +1,13 @@
 // What changes the board, on a record whose parts are lent one by one, over the records of the border (include/strundevi.h).
 // A refusal writes nothing.
 ghost use mathlib.Core.Path.{_≡_};
-ghost use Rattle.board_record.specs.Table.{tableOf};
-ghost use Rattle.board_record.specs.Record.{withRows, emptyBoard};
+ghost use Rattle.board_record.specs.Record.{boardOf, emptyBoard};
 ghost use Rattle.board_rules.specs.OnRecord.{removeOn, compactOn};
 ghost use Rattle.report_call.specs.Reported.{reportForOn, reportStoreForOn};
 ghost use Rattle.border_records.specs.Records.{verdictOut};
 ghost use Rattle.border_session.specs.Agreed.{sessionsIn};
+use board_record::GROUPS;
+use board_record::PLACES;
 use border_records::VerdictRecord;
 use border_session::SessionRecord;
 
@@ -22,17 +23,17 @@ pub fn empty(
     forms: &mut [u8; 128],
 )
     ensures empty { λ _.
-        let after = tableOf (now (keys .exit)) (now (versions .exit)) (now (lengths .exit)) (now (version .exit)) (now (floor .exit)) (now (forms .exit)) in
-        ⌜ withRows after (now (order .exit)) (now (tops .exit)) ≡ emptyBoard ⌝ }
+        let after = boardOf (now (keys .exit)) (now (versions .exit)) (now (lengths .exit)) (now (version .exit)) (now (floor .exit)) (now (order .exit)) (now (tops .exit)) (now (forms .exit)) in
+        ⌜ after ≡ emptyBoard ⌝ }
 {
-    *keys = [0; 128];
-    *versions = [0; 128];
-    *lengths = [0; 128];
+    *keys = [0; PLACES];
+    *versions = [0; PLACES];
+    *lengths = [0; PLACES];
     *version = 0;
     *floor = 0;
-    *order = [0; 128];
-    *tops = [0; 16];
-    *forms = [0; 128];
+    *order = [0; PLACES];
+    *tops = [0; GROUPS];
+    *forms = [0; PLACES];
 }
 
 // Reports a path.
@@ -53,14 +54,17 @@ pub fn report(
     addresses: &[u8],
 ) -> VerdictRecord
     ensures verdict { λ r.
-        let before = withRows (tableOf (now (keys .entry)) (now (versions .entry)) (now (lengths .entry)) (now (version .entry)) (now (floor .entry)) (now (forms .entry))) (now (order .entry)) (now (tops .entry)) in
+        let before =
+        boardOf (now (keys .entry)) (now (versions .entry)) (now (lengths .entry)) (now (version .entry)) (now (floor .entry)) (now (order .entry)) (now (tops .entry)) (now (forms .entry)) in
         ⌜ r ≡ verdictOut (reportForOn before (now (store .entry)) key (now (ero .entry)) (sessionsIn session) pst (now (addresses .entry)) .verdict) ⌝ }
     ensures board { λ _.
-        let before = withRows (tableOf (now (keys .entry)) (now (versions .entry)) (now (lengths .entry)) (now (version .entry)) (now (floor .entry)) (now (forms .entry))) (now (order .entry)) (now (tops .entry)) in
-        let after = withRows (tableOf (now (keys .exit)) (now (versions .exit)) (now (lengths .exit)) (now (version .exit)) (now (floor .exit)) (now (forms .exit))) (now (order .exit)) (now (tops .exit)) in
+        let before =
+        boardOf (now (keys .entry)) (now (versions .entry)) (now (lengths .entry)) (now (version .entry)) (now (floor .entry)) (now (order .entry)) (now (tops .entry)) (now (forms .entry)) in
+        let after = boardOf (now (keys .exit)) (now (versions .exit)) (now (lengths .exit)) (now (version .exit)) (now (floor .exit)) (now (order .exit)) (now (tops .exit)) (now (forms .exit)) in
         ⌜ after ≡ reportForOn before (now (store .entry)) key (now (ero .entry)) (sessionsIn session) pst (now (addresses .entry)) .board ⌝ }
     ensures octets { λ _.
-        let before = withRows (tableOf (now (keys .entry)) (now (versions .entry)) (now (lengths .entry)) (now (version .entry)) (now (floor .entry)) (now (forms .entry))) (now (order .entry)) (now (tops .entry)) in
+        let before =
+        boardOf (now (keys .entry)) (now (versions .entry)) (now (lengths .entry)) (now (version .entry)) (now (floor .entry)) (now (order .entry)) (now (tops .entry)) (now (forms .entry)) in
         ⌜ now (store .exit) ≡ reportStoreForOn before (now (store .entry)) key (now (ero .entry)) (sessionsIn session) pst (now (addresses .entry)) ⌝ }
 {
     let both = border_session::sessions_in(session);
@@ -97,11 +101,11 @@ pub fn remove(
     key: u64,
 ) -> VerdictRecord
     ensures verdict { λ r.
-        let before = withRows (tableOf (now (keys .entry)) (now (versions .entry)) (now (lengths .entry)) (now (version .entry)) floor (now (forms .entry))) (now (order .entry)) (now (tops .entry)) in
+        let before = boardOf (now (keys .entry)) (now (versions .entry)) (now (lengths .entry)) (now (version .entry)) floor (now (order .entry)) (now (tops .entry)) (now (forms .entry)) in
         ⌜ r ≡ verdictOut (removeOn before (now (store .entry)) key .verdict) ⌝ }
     ensures board { λ _.
-        let before = withRows (tableOf (now (keys .entry)) (now (versions .entry)) (now (lengths .entry)) (now (version .entry)) floor (now (forms .entry))) (now (order .entry)) (now (tops .entry)) in
-        let after = withRows (tableOf (now (keys .entry)) (now (versions .exit)) (now (lengths .exit)) (now (version .exit)) floor (now (forms .exit))) (now (order .exit)) (now (tops .exit)) in
+        let before = boardOf (now (keys .entry)) (now (versions .entry)) (now (lengths .entry)) (now (version .entry)) floor (now (order .entry)) (now (tops .entry)) (now (forms .entry)) in
+        let after = boardOf (now (keys .entry)) (now (versions .exit)) (now (lengths .exit)) (now (version .exit)) floor (now (order .exit)) (now (tops .exit)) (now (forms .exit)) in
         ⌜ after ≡ removeOn before (now (store .entry)) key .board ⌝ }
 {
     let v = board_remove::remove(
@@ -133,11 +137,11 @@ pub fn compact<'a>(
     c: u64,
 ) -> VerdictRecord
     ensures verdict { λ r.
-        let before = withRows (tableOf (now (keys .entry)) (now (versions .entry)) (now (lengths .entry)) version (now (floor .entry)) (now (forms .entry))) (now (order .entry)) (now (tops .entry)) in
+        let before = boardOf (now (keys .entry)) (now (versions .entry)) (now (lengths .entry)) version (now (floor .entry)) (now (order .entry)) (now (tops .entry)) (now (forms .entry)) in
         ⌜ r ≡ verdictOut (compactOn before (now (store .entry)) c .verdict) ⌝ }
     ensures board { λ _.
-        let before = withRows (tableOf (now (keys .entry)) (now (versions .entry)) (now (lengths .entry)) version (now (floor .entry)) (now (forms .entry))) (now (order .entry)) (now (tops .entry)) in
-        let after = withRows (tableOf (now (keys .exit)) (now (versions .exit)) (now (lengths .entry)) version (now (floor .exit)) (now (forms .entry))) (now (order .exit)) (now (tops .exit)) in
+        let before = boardOf (now (keys .entry)) (now (versions .entry)) (now (lengths .entry)) version (now (floor .entry)) (now (order .entry)) (now (tops .entry)) (now (forms .entry)) in
+        let after = boardOf (now (keys .exit)) (now (versions .exit)) (now (lengths .entry)) version (now (floor .exit)) (now (order .exit)) (now (tops .exit)) (now (forms .entry)) in
         ⌜ after ≡ compactOn before (now (store .entry)) c .board ⌝ }
 {
     let v = board_compact::compact(

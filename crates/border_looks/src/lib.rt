@@ -1,9 +1,8 @@
 // What only looks at the board: a path's octets, what a follower is handed, and the mark it begins with, over the records of
 // the border (include/strundevi.h).
 ghost use mathlib.Core.Path.{_≡_};
-ghost use Rattle.board_record.specs.Table.{tableOf};
 ghost use Rattle.octets.specs.Octets.{part};
-ghost use Rattle.board_record.specs.Record.{withRows};
+ghost use Rattle.board_record.specs.Record.{boardOf};
 ghost use Rattle.board_rules.specs.OnRecord.{bodyOn, bodyFormOn, nextOn, movedOn};
 ghost use Rattle.border_answers.specs.Handing.{changeOut};
 ghost use Rattle.border_records.specs.Records.{verdictOut};
@@ -42,13 +41,13 @@ pub fn body<'a>(
     key: u64,
 ) -> PartRecord
     ensures part { λ r.
-        let b = withRows (tableOf (now (keys .entry)) (now (versions .entry)) (now (lengths .entry)) version floor (now (forms .entry))) (now (order .entry)) (now (tops .entry)) in
+        let b = boardOf (now (keys .entry)) (now (versions .entry)) (now (lengths .entry)) version floor (now (order .entry)) (now (tops .entry)) (now (forms .entry)) in
         ⌜ r ≡ partOut b (now (store .entry)) key ⌝ }
     ensures octets { λ r.
-        let b = withRows (tableOf (now (keys .entry)) (now (versions .entry)) (now (lengths .entry)) version floor (now (forms .entry))) (now (order .entry)) (now (tops .entry)) in
+        let b = boardOf (now (keys .entry)) (now (versions .entry)) (now (lengths .entry)) version floor (now (order .entry)) (now (tops .entry)) (now (forms .entry)) in
         ⌜ part (now (store .entry)) (r .start) (r .length) ≡ bodyOn b (now (store .entry)) key ⌝ }
     ensures form { λ r.
-        let b = withRows (tableOf (now (keys .entry)) (now (versions .entry)) (now (lengths .entry)) version floor (now (forms .entry))) (now (order .entry)) (now (tops .entry)) in
+        let b = boardOf (now (keys .entry)) (now (versions .entry)) (now (lengths .entry)) version floor (now (order .entry)) (now (tops .entry)) (now (forms .entry)) in
         ⌜ r .form ≡ bodyFormOn b (now (store .entry)) key ⌝ }
 {
     let verdict = board_body::body_number(
@@ -71,12 +70,12 @@ pub fn body<'a>(
             form: 0,
         };
     }
-    let at = board_search::place_of(keys, key);
+    let at = board_search::place_in(keys, key);
     PartRecord {
         number: 0,
         start: board_record::ROOM * at,
-        length: board_whole::length_at(lengths, at),
-        form: board_whole::form_at(forms, at),
+        length: board_whole::length_in(lengths, at),
+        form: board_whole::form_in(forms, at),
     }
 }
 
@@ -95,7 +94,7 @@ pub fn next<'a>(
     w: u64,
 ) -> ChangeRecord
     ensures next { λ r.
-        let b = withRows (tableOf (now (keys .entry)) (now (versions .entry)) (now (lengths .entry)) version floor (now (forms .entry))) (now (order .entry)) (now (tops .entry)) in
+        let b = boardOf (now (keys .entry)) (now (versions .entry)) (now (lengths .entry)) version floor (now (order .entry)) (now (tops .entry)) (now (forms .entry)) in
         ⌜ r ≡ changeOut (nextOn b (now (store .entry)) s w) ⌝ }
 {
     let handed = board_look::next(
@@ -130,7 +129,7 @@ pub fn moved<'a>(
     v: u64,
 ) -> VerdictRecord
     ensures moved { λ r.
-        let b = withRows (tableOf (now (keys .entry)) (now (versions .entry)) (now (lengths .entry)) version floor (now (forms .entry))) (now (order .entry)) (now (tops .entry)) in
+        let b = boardOf (now (keys .entry)) (now (versions .entry)) (now (lengths .entry)) version floor (now (order .entry)) (now (tops .entry)) (now (forms .entry)) in
         ⌜ r ≡ verdictOut (movedOn b (now (store .entry)) from to v) ⌝ }
 {
     let told = board_look::moved(

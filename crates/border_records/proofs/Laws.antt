@@ -17,7 +17,7 @@ use Rattle.border_records.specs.Records.{
   limitIn,
   limitedFlag,
   mostOf,
-  largest,
+  limitMost,
   shortOf,
   depthFrom,
   thereOf,
@@ -36,7 +36,7 @@ limit-back (Most n) = refl
 -- In 16 bits, of a limit that they hold.
 abbrev pub Held : Limit → Type 0
 Held Free = Unit {0}
-Held (Most n) = n ≤ largest
+Held (Most n) = n ≤ limitMost
 
 pub short-back : (l : Limit) → Held l → limitIn (limitedFlag l) (shortOf l) ≡ l
 short-back Free h = refl

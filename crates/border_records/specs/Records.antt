@@ -29,12 +29,12 @@ mostOf Free = 0
 mostOf (Most n) = n
 
 -- In a session the number has 16 bits; a larger one is handed out as the largest of these, which no route reaches.
-abbrev pub largest : ℕ
-largest = 65535
+abbrev pub limitMost : ℕ
+limitMost = 65535
 
 abbrev pub shortOf : Limit → ℕ
 shortOf Free = 0
-shortOf (Most n) = min n largest
+shortOf (Most n) = min n limitMost
 
 -- v and m likewise; inside, 256 stands for none.
 abbrev pub depthFrom : ℕ → ℕ → ℕ

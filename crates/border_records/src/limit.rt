@@ -1,7 +1,7 @@
 // A limit is a flag and a number. Without the flag there is none, whatever the number is. In a session the number has 16 bits.
 ghost use Prim.Native.Nat.{min};
 ghost use mathlib.Core.Path.{_≡_};
-ghost use Rattle.border_records.specs.Records.{limitIn, limitedFlag, mostOf, largest, shortOf};
+ghost use Rattle.border_records.specs.Records.{limitIn, limitedFlag, mostOf, limitMost, shortOf};
 use session::Limit;
 
 pub fn limit_in(limited: u8, limit: usize) -> Limit
@@ -33,8 +33,8 @@ pub fn most(limit: Limit) -> usize
     }
 }
 
-// The largest number of 16 bits.
-const LARGEST: usize = 65535;
+// The largest limit that is handed out: the largest number of 16 bits.
+const LIMIT_MOST: usize = 65535;
 
 pub fn short_in(limited: u8, limit: u16) -> Limit
     ensures limit { λ r. ⌜ r ≡ limitIn limited limit ⌝ }
@@ -46,12 +46,12 @@ pub fn short_in(limited: u8, limit: u16) -> Limit
 }
 
 fn cut(n: usize) -> u16
-    ensures cut { λ r. ⌜ r ≡ min n largest ⌝ }
+    ensures cut { λ r. ⌜ r ≡ min n limitMost ⌝ }
 {
-    if n < LARGEST {
+    if n < LIMIT_MOST {
         return n as u16;
     }
-    LARGEST as u16
+    LIMIT_MOST as u16
 }
 
 // The limit in 16 bits, 0 where there is none.

@@ -1,4 +1,6 @@
--- What the calls below answer, and what judging lays out by hand, is what is asked for at the border. Assumes nothing.
+-- What the calls below answer, and what judging lays out by hand, is what is asked for at the border. Each law puts what the code has in the place of what the definitions name: the flag
+-- of an ERO, the session that the setup type names (with neither A nor R it may go without v and m, `plain-judged`), and a verdict that counts something, which is an acceptance
+-- (`counted`). Assumes nothing.
 use Prim.Native.Nat.{ℕ}
 use mathlib.Core.Path.{_≡_, refl, sym, ap, _∙_}
 use mathlib.Core.List.{List, [], _∷_}
@@ -25,7 +27,8 @@ use Rattle.route_call.specs.Called.{rule28, judgedIn, judgedFor, segmentIn, seg
 use Rattle.border_records.specs.declared.verdict.VerdictRecord.{VerdictRecord}
 use Rattle.border_session.specs.declared.SessionRecord.{SessionRecord}
 use Rattle.border_records.specs.Records.{isYes, limitIn, verdictOut}
-use Rattle.border_session.specs.Agreed.{srv6In, mplsIn, sessionsIn, flaggedOf}
+use Rattle.border_session.specs.Agreed.{srv6In, mplsIn, sessionsIn}
+use Rattle.border_session.specs.Parts.{flaggedOf}
 use Rattle.border_segment.specs.declared.picking.PickedRecord.{PickedRecord}
 use Rattle.border_segment.specs.declared.stepping.SteppedRecord.{SteppedRecord}
 use Rattle.border_segment.specs.Segments.{pickedOut, steppedOut}

@@ -1,6 +1,5 @@
 -- The record of the sessions of the two forms: what it stands for when it comes in, and how they are handed out (include/strundevi.h).
-use Prim.Native.Nat.{ℕ}
-use mathlib.Core.Bool.{Bool, false, _||_}
+use mathlib.Core.Bool.{false}
 use Rattle.msd.specs.Msd.{absent}
 use Rattle.session.specs.declared.Session.{Session}
 use Rattle.session.specs.declared.Sessions.{Sessions}
@@ -53,7 +52,3 @@ sessionsOut s =
       limit = shortOf (s .srv6 .limit);
       mplslimit = shortOf (s .mpls .limit);
     }
-
--- Whether A or R is agreed.
-abbrev pub flaggedOf : Session → Bool
-flaggedOf x = x .a || x .r

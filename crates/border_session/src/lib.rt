@@ -2,7 +2,8 @@
 // the PCC's N and limit. The 16 octets are handed on in two registers, so a limit has 16 bits: no route has as many segments.
 ghost use mathlib.Core.Path.{_≡_};
 ghost use Rattle.session.specs.Sessions.{sessionUnder};
-ghost use Rattle.border_session.specs.Agreed.{srv6In, mplsIn, sessionsIn, sessionsOut, flaggedOf};
+ghost use Rattle.border_session.specs.Agreed.{srv6In, mplsIn, sessionsIn, sessionsOut};
+ghost use Rattle.border_session.specs.Parts.{flaggedOf};
 use msd::ABSENT;
 use session::Session;
 use session::Sessions;

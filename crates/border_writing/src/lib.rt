@@ -83,8 +83,12 @@ pub fn add(
     nai: &[u8; 40],
     structure: &[u8; 4],
 ) -> WrittenRecord
-    ensures answer { λ r. ⌜ r ≡ writtenOut (addAnswer (now (buffer .entry)) (writerIn writer) (segmentWith (outlineIn outline) (now (sid .entry)) (now (nai .entry)) (now (structure .entry)))) ⌝ }
-    ensures octets { λ _. ⌜ now (buffer .exit) ≡ addBuffer (now (buffer .entry)) (writerIn writer) (segmentWith (outlineIn outline) (now (sid .entry)) (now (nai .entry)) (now (structure .entry))) ⌝ }
+    ensures answer { λ r.
+        let segment = segmentWith (outlineIn outline) (now (sid .entry)) (now (nai .entry)) (now (structure .entry)) in
+        ⌜ r ≡ writtenOut (addAnswer (now (buffer .entry)) (writerIn writer) segment) ⌝ }
+    ensures octets { λ _.
+        let segment = segmentWith (outlineIn outline) (now (sid .entry)) (now (nai .entry)) (now (structure .entry)) in
+        ⌜ now (buffer .exit) ≡ addBuffer (now (buffer .entry)) (writerIn writer) segment ⌝ }
 {
     let w = added(buffer, writer_in(writer), outline, sid, nai, structure);
     if writer.ero > 1 {

@@ -4,10 +4,10 @@ use mathlib.Core.Path.{_≡_, refl, ap, _∙_}
 use mathlib.Core.Bool.{Bool}
 use lib.Dec.{eqb}
 use borrow.Author.Tests.{eq-eqb, ne-eqb}
+use Rattle.octets.proofs.Said.{cond-yes, cond-no}
 use Rattle.follow.specs.Follower.{Follower, fresh}
 use Rattle.follow.specs.Heard.{Heard, refusal, change, level, does, cutOff}
 use Rattle.follow.specs.Run.{World, begin, ask, askCut, answerTo, following, step}
-use Rattle.follow.proofs.Cases.{cond-yes, cond-no}
 
 -- the world, but for follower n, is as it was
 pub record Untouched (x y : World) (n : ℕ) : Type 0 where

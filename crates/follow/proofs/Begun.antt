@@ -16,7 +16,8 @@ use Rattle.board_record.proofs.Logic.{same?, from?}
 use Rattle.board_record.proofs.Search.{key-place-is, key-place-found}
 use Rattle.board_record.proofs.Proper.{proper-sound}
 use Rattle.board_rules.specs.Rules.{hasPath}
-use Rattle.follow.specs.Story.{HeldPath, pathAt, beginning, Ordered, begun, held, last}
+use Rattle.follow.specs.Story.{HeldPath, pathAt, beginning, begun, held, last}
+use Rattle.follow.specs.Ordered.{Ordered}
 
 -- the path at a place, or none where it is a removal
 abbrev pub pathIn : Table → List ℕ → ℕ → Option HeldPath

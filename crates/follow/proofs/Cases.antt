@@ -31,11 +31,3 @@ not-true-is-false false f = refl
 pub cases : {A : Type 0} (P : A → Type 0) (t : Bool) (a b : A) → (t ≡ true → P a) → (t ≡ false → P b) → P (cond t a b)
 cases P true a b f g = f refl
 cases P false a b f g = g refl
-
-pub cond-yes : {A : Type 0} (t : Bool) (a b : A) → t ≡ true → cond t a b ≡ a
-cond-yes true a b e = refl
-cond-yes false a b e = absurd (true≢false (sym e))
-
-pub cond-no : {A : Type 0} (t : Bool) (a b : A) → t ≡ false → cond t a b ≡ b
-cond-no true a b e = absurd (true≢false e)
-cond-no false a b e = refl

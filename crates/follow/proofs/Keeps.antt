@@ -7,11 +7,13 @@ use mathlib.Core.Option.{Option, none, some}
 use mathlib.Core.Logic.{_⊎_, inl, inr, ⊎-elim}
 use lib.Dec.{eqb}
 use borrow.Author.Tests.{eq-eqb, ne-eqb}
+use Rattle.octets.proofs.Said.{cond-yes, cond-no}
 use Rattle.board_record.specs.Table.{Table}
 use Rattle.board_record.proofs.Logic.{same?, from?}
-use Rattle.follow.specs.Story.{HeldPath, Deed, sets, clears, Story, Ordered, begun, did, compactedTo, beginningOf, version, keyOf, leaves, held, last}
+use Rattle.follow.specs.Story.{HeldPath, Deed, sets, clears, Story, begun, did, compactedTo, version, keyOf, leaves, held, last}
+use Rattle.follow.specs.Ordered.{Ordered, beginningOf}
 use Rattle.follow.specs.Follower.{Follower, fresh, makes, levels, Keeps, Lacks}
-use Rattle.follow.proofs.Cases.{some≢none, cond-yes, cond-no}
+use Rattle.follow.proofs.Cases.{some≢none}
 
 -- ---- the story
 

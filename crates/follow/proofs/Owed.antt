@@ -1,11 +1,13 @@
--- What a follower must hear, by cases: the promise says no less and no more, and so any two answers that fit it are equal. Assumes nothing.
+-- What a follower must hear, by cases (`Owed`): the promise says no less and no more. Of two that are owed both are refusals, changes or level, since each case shuts the others out; and the
+-- oldest change that is lacked is one only. So any two answers that fit are equal. Assumes nothing.
 use Prim.Native.Nat.{ℕ, _≤_, _<_, max}
 use native.Mathlib.Omega.{arith}
 use mathlib.Core.Path.{_≡_, refl, sym, ap, _∙_}
 use mathlib.Core.Logic.{_⊎_, ⊎-elim}
 use Rattle.answers.specs.Numbers.{markTooOld}
 use Rattle.board_record.proofs.Logic.{from?}
-use Rattle.follow.specs.Story.{Deed, sets, clears, Story, Ordered, beginningOf, version, keyOf, leaves, held, last}
+use Rattle.follow.specs.Story.{Deed, sets, clears, Story, version, keyOf, leaves, held, last}
+use Rattle.follow.specs.Ordered.{Ordered, beginningOf}
 use Rattle.follow.specs.Floor.{floorOf}
 use Rattle.follow.specs.Follower.{Follower, Lacks, Oldest}
 use Rattle.follow.specs.Heard.{Heard, refusal, change, level}

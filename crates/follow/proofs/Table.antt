@@ -18,7 +18,8 @@ use Rattle.board_record.specs.Proper.{Proper}
 use Rattle.board_record.proofs.Logic.{same?}
 use Rattle.board_record.proofs.Search.{wanted-used}
 use Rattle.board_record.proofs.Search as searches
-use Rattle.follow.specs.Story.{Story, pathAt, beginning, Ordered, begun, beginningOf, version, held, last}
+use Rattle.follow.specs.Story.{Story, pathAt, beginning, begun, version, held, last}
+use Rattle.follow.specs.Ordered.{Ordered, beginningOf}
 use Rattle.follow.specs.Follower.{Lacks, Oldest}
 use Rattle.follow.proofs.Cases.{some≢none}
 use Rattle.follow.proofs.Begun.{pathIn, path-mark, begun-zero, begun-here, begun-there, begun-ordered}

@@ -35,7 +35,8 @@ use Rattle.route.specs.Routes.{judgeOf}
 use Rattle.route_limit.specs.FirstOff.{sessionFor}
 use Rattle.route_call.specs.Called.{rule28}
 use Rattle.report_call.specs.Reported.{reportFor, reportStoreFor}
-use Rattle.follow.specs.Story.{Deed, pathAt, sets, clears, Story, beginning, Ordered, begun, did, compactedTo, beginningOf, version, keyOf, leaves, held, last}
+use Rattle.follow.specs.Story.{Deed, pathAt, sets, clears, Story, beginning, begun, did, compactedTo, version, keyOf, leaves, held, last}
+use Rattle.follow.specs.Ordered.{Ordered, beginningOf}
 use Rattle.follow.specs.Floor.{floorOf, floorPut}
 use Rattle.follow.specs.Follower.{Follower, fresh, makes, levels, Keeps}
 use Rattle.follow.specs.Heard.{Heard, refusal, change, level, heardIn, does, cutOff}

@@ -1,4 +1,5 @@
 pub mod Story
+pub mod Ordered
 pub mod Floor
 pub mod Follower
 pub mod Heard

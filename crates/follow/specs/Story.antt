@@ -3,8 +3,7 @@
 -- Only accepted calls are in it, each as the caller made it: a key and a path, a key, or the number c of a compaction. What is
 -- defined here is read off these calls and the beginning alone: no later table is looked at, and an empty first table says nothing.
 -- "Each accepted report or removal raises the version by 1 and the change bears that": no versions are written beside the deeds.
-use Prim.Native.Nat.{ℕ, suc, _≤_, _<_}
-use mathlib.Core.Path.{_≡_}
+use Prim.Native.Nat.{ℕ, suc}
 use mathlib.Core.Bool.{cond}
 use mathlib.Core.List.{List}
 use mathlib.Core.Option.{Option, none, some}
@@ -58,12 +57,6 @@ beginning b store = record {
   last = λ k. cond (ltb (placeOf b k) places) (versionAt b (placeOf b k)) 0;
 }
 
--- a beginning in order: no last change is above the version, no two keys share one, and a key without one has no path
-pub record Ordered (o : Beginning) : Type 0 where
-  pub last-most : (k : ℕ) → o .last k ≤ o .version
-  pub last-apart : (j k : ℕ) → o .last j ≡ o .last k → 0 < o .last j → j ≡ k
-  pub none-held : (k : ℕ) → o .last k ≤ 0 → o .held k ≡ none
-
 -- ---- the story
 
 -- begun; then, the last first, accepted reports and removals, and accepted compactions (c)
@@ -71,11 +64,6 @@ pub data Story : Type 0 where
   begun : Beginning → Story
   did : Deed → Story → Story
   compactedTo : ℕ → Story → Story
-
-abbrev pub beginningOf : Story → Beginning
-beginningOf (begun o) = o
-beginningOf (did c h) = beginningOf h
-beginningOf (compactedTo c h) = beginningOf h
 
 -- the board's version: that of the last change; a compaction bears none
 abbrev pub version : Story → ℕ

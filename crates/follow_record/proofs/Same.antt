@@ -20,12 +20,14 @@ use Rattle.board_record.specs.Order.{placeOn, Chained, orderOf}
 use Rattle.board_record.specs.Tops.{topsOf}
 use Rattle.board_record.specs.Record.{tableIn, withRows, recordOf, tidy, emptyBoard}
 use Rattle.board_record.proofs.Logic.{same?}
+use Rattle.board_record.proofs.Lists.{zeros}
 use Rattle.board_record.proofs.Proper.{empty-sized, empty-proper}
 use Rattle.board_record.proofs.Tops.{top-one, tops-are, tops-in}
 use Rattle.board_order.proofs.Names.{named-none}
 use Rattle.board_order.proofs.Chains.{proper-apart, in-order, order-is}
 use Rattle.answers.specs.Numbers.{notUsable}
 use Rattle.answers.specs.Verdicts.{refusedBy}
+use Rattle.answers.proofs.Kept.{kept-old, kept-new}
 use Rattle.route_limit.specs.FirstOff.{sessionFor}
 use Rattle.route_call.specs.Called.{rule28}
 use Rattle.report_call.specs.Reported.{reportFor, reportStoreFor, reportForOn, reportStoreForOn}
@@ -37,33 +39,29 @@ use Rattle.board_rules.specs.Body.{bodyNumber, bodyOf, bodyForm}
 use Rattle.board_rules.specs.Next.{nextAnswer}
 use Rattle.board_rules.specs.Moved.{movedAnswer}
 use Rattle.board_rules.specs.OnRecord.{Result, resultOf, resultOn, reportOn, reportStoreOn, removeOn, compactOn, bodyNumberOn, bodyOn, bodyFormOn, nextOn, movedOn}
-use Rattle.board_rules.proofs.Verdicts.{kept-old, kept-new}
 use Rattle.board_rules.proofs.Keeps.{report-proper, remove-proper, compact-proper, report-refused-keeps, remove-refused-keeps, compact-refused-keeps}
 use Rattle.board_rules.proofs.Stores.{report-sized, remove-sized, compact-sized}
 use Rattle.follow_record.specs.Calls.{Call, report, remove, compact, body, next, moved, fresh, Reply, verdict, octets, handed, mark}
 use Rattle.follow_record.specs.Calls.{OnTable, replyOf, leftOf, repliesOf, OnRecord, replyOn, leftOn, repliesOn, AnswersAsTheTable}
 
 -- ---- the empty record is that of the empty table
-zeros : (i : ℕ) → i < places → getD {A = ℕ} (replicate 128 0) i 0 ≡ 0
-zeros i l = getD-replicate 128 i 0 0 l
-
 no-places : (i : ℕ) → i < places → placeOn (replicate 128 0) i ≡ places
-no-places i l = named-none (getD {A = ℕ} (replicate 128 0) i 0) (zeros i l)
+no-places i l = named-none (getD {A = ℕ} (replicate 128 0) i 0) (zeros 128 i)
 
 empty-chained : Chained emptyTable (replicate 128 0)
 empty-chained =
     record {
       used = λ i l h. absurd (omega (arith, no-places i l));
-      all = λ p l u. absurd (u (zeros p l));
+      all = λ p l u. absurd (u (zeros 128 p));
       rises = λ i j k l h. absurd (omega (arith, no-places j l));
-      rest = λ i l h. zeros i l;
+      rest = λ i l h. zeros 128 i;
     }
 
 empty-tops : replicate {A = ℕ} 16 0 ≡ topsOf (replicate 128 0)
 empty-tops =
     tops-are (replicate 128 0) (replicate 16 0) (length-replicate {A = ℕ} 16 0)
     (λ g l. top-one (replicate 128 0) g (getD {A = ℕ} (replicate 16 0) g 0)
-    (record { most = λ j k. omega (arith, zeros (8 * g + j) (omega arith)); is = inl (getD-replicate 16 g 0 0 l) }))
+    (record { most = λ j k. omega (arith, zeros 128 (8 * g + j)); is = inl (getD-replicate 16 g 0 0 l) }))
 
 pub empty-record : emptyBoard ≡ recordOf emptyTable
 empty-record =
@@ -72,7 +70,7 @@ empty-record =
 
 -- ---- one call
 module _ (t : Table) (p : Proper t) where
-  sound : tidy (recordOf t) ≡ true
+  pub sound : tidy (recordOf t) ≡ true
   sound = rw (in-order t (proper-apart t p), tops-in (t .versions))
 
   result-is : (o : Outcome) → ((o .verdict .number ≡ 0 → ⊥) → o .table ≡ t) → resultOn (recordOf t) o ≡ resultOf (o .verdict) (recordOf (o .table))

@@ -1,24 +1,25 @@
 -- A run on a record that keeps its places in order: as the run of the crate follow, where the calls are made on the record and the followers ask it. No follower of a record
 -- is fooled.
-use Prim.Native.Nat.{ℕ, _≤_}
+use Prim.Native.Nat.{ℕ}
 use mathlib.Core.Path.{_≡_}
-use mathlib.Core.Bool.{cond}
+use mathlib.Core.Bool.{true, cond}
 use mathlib.Core.List.{List, [], _∷_}
 use lib.ListN.{length}
 use lib.Dec.{eqb}
 use Rattle.answers.specs.declared.verdict.Verdict.{Verdict}
 use Rattle.session.specs.declared.Sessions.{Sessions}
 use Rattle.board_record.specs.declared.record.Board.{Board}
-use Rattle.board_record.specs.Sizes.{storeSize}
+use Rattle.board_record.specs.Sizes.{places, groups}
+use Rattle.board_record.specs.Table.{ListsWhole}
 use Rattle.board_record.specs.Record.{tableIn, emptyBoard}
-use Rattle.board_rules.specs.OnRecord.{Result, removeOn, compactOn, bodyNumberOn, bodyOn, bodyFormOn, nextOn}
+use Rattle.board_rules.specs.OnRecord.{isRecord, Result, removeOn, compactOn, bodyNumberOn, bodyOn, bodyFormOn, nextOn}
 use Rattle.report_call.specs.Reported.{reportForOn, reportStoreForOn}
 use Rattle.follow.specs.Story.{sets, clears, Story, beginning, begun, did, compactedTo, version}
 use Rattle.follow.specs.Follower.{Follower, fresh}
 use Rattle.follow.specs.Heard.{Heard, heardIn, does, cutOff}
 use Rattle.follow.specs.Run.{Act, reportedPath, report, remove, compact, begin, ask, askCut}
 use Rattle.follow.specs.Floor.{floorOf}
-use Rattle.follow.specs.Promise.{Answered, BodyGiven}
+use Rattle.follow.specs.Promise.{Answered, KeptBy, BodyGiven}
 use Rattle.follow.specs.Accepts.{reportSaid, removeSaid, compactSaid}
 
 pub record WorldOn : Type 0 where
@@ -61,22 +62,29 @@ unfoldable pub runOn : WorldOn → List Act → WorldOn
 runOn x [] = x
 runOn x (a ∷ acts) = runOn (stepOn x a) acts
 
--- the empty record and every follower fresh
-abbrev pub startOn : List ℕ → WorldOn
-startOn store =
-    record { board = emptyBoard; store = store; story = begun (beginning (tableIn emptyBoard) store); followers = λ n. fresh (tableIn emptyBoard) }
+-- a record and a store to begin with: the lists and rows whole, as the types of the code say, and 17 isn't answered
+pub record ReadyOn (b : Board) (store : List ℕ) : Type 0 where
+  pub sized : ListsWhole (tableIn b)
+  pub order : length (b .order) ≡ places
+  pub tops : length (b .tops) ≡ groups
+  pub board : isRecord b (length store) ≡ true
 
--- After any acts of anyone, from the empty start, each follower that asks the record is answered as the story says.
+-- the start: a record with its store, and the followers that there are
+abbrev pub startOn : Board → List ℕ → (ℕ → Follower) → WorldOn
+startOn b store followers = record { board = b; store = store; story = begun (beginning (tableIn b) store); followers = followers }
+
+-- After any acts of anyone, each follower that asks the record is answered as the story says.
 abbrev pub NoFollowerOfARecordIsFooled : Type 0
-NoFollowerOfARecordIsFooled = (store : List ℕ) → storeSize ≤ length store → (acts : List Act) (n : ℕ) →
-    let x = runOn (startOn store) acts in Answered (x .story) (x .followers n) (answerToOn x n)
+NoFollowerOfARecordIsFooled = (b : Board) (store : List ℕ) (followers : ℕ → Follower) → ReadyOn b store → KeptBy (tableIn b) store followers
+    → (acts : List Act) (n : ℕ) →
+    let x = runOn (startOn b store followers) acts in Answered (x .story) (x .followers n) (answerToOn x n)
 
 -- ---- beside it: whoever asks the record itself
 
 -- the body call answers as the story does
 abbrev pub BodiesOfARecordAreThoseHeld : Type 0
-BodiesOfARecordAreThoseHeld = (store : List ℕ) → storeSize ≤ length store → (acts : List Act) (k : ℕ) →
-    let x = runOn (startOn store) acts in
+BodiesOfARecordAreThoseHeld = (b : Board) (store : List ℕ) (followers : ℕ → Follower) → ReadyOn b store → (acts : List Act) (k : ℕ) →
+    let x = runOn (startOn b store followers) acts in
     BodyGiven (x .story) k (bodyNumberOn (x .board) (x .store) k) (bodyOn (x .board) (x .store) k) (bodyFormOn (x .board) (x .store) k)
 
 -- report, remove and compact are accepted and refused as the story says
@@ -87,10 +95,10 @@ pub record VerdictsOfRecord (h : Story) (b : Board) (store : List ℕ) : Type 0 
   pub compact : (c : ℕ) → compactOn b store c .verdict ≡ compactSaid h c
 
 abbrev pub VerdictsOfARecordAreTheStorys : Type 0
-VerdictsOfARecordAreTheStorys = (store : List ℕ) → storeSize ≤ length store → (acts : List Act) →
-    let x = runOn (startOn store) acts in VerdictsOfRecord (x .story) (x .board) (x .store)
+VerdictsOfARecordAreTheStorys = (b : Board) (store : List ℕ) (followers : ℕ → Follower) → ReadyOn b store → (acts : List Act) →
+    let x = runOn (startOn b store followers) acts in VerdictsOfRecord (x .story) (x .board) (x .store)
 
 -- its own numbers are the story's
 abbrev pub NumbersOfARecordAreTheStorys : Type 0
-NumbersOfARecordAreTheStorys = (store : List ℕ) → storeSize ≤ length store → (acts : List Act) →
-    let x = runOn (startOn store) acts in (tableIn (x .board) .version ≡ version (x .story)) × (tableIn (x .board) .floor ≡ floorOf (x .story))
+NumbersOfARecordAreTheStorys = (b : Board) (store : List ℕ) (followers : ℕ → Follower) → ReadyOn b store → (acts : List Act) →
+    let x = runOn (startOn b store followers) acts in (tableIn (x .board) .version ≡ version (x .story)) × (tableIn (x .board) .floor ≡ floorOf (x .story))

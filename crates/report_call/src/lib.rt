@@ -1,8 +1,7 @@
 // Report on a record whose parts are lent, for a head end whose addresses are lent (document 02, C-15 and C-16): 28, then the
 // report in the session of the form that the PST names, under the limit that holds for this route. A refusal writes nothing.
 ghost use mathlib.Core.Path.{_≡_};
-ghost use Rattle.board_record.specs.Table.{tableOf};
-ghost use Rattle.board_record.specs.Record.{withRows};
+ghost use Rattle.board_record.specs.Record.{boardOf};
 ghost use Rattle.board_rules.specs.OnRecord.{resultOf};
 ghost use Rattle.report_call.specs.Reported.{reportForOn, reportStoreForOn};
 use answers::NOT_USABLE;
@@ -28,12 +27,14 @@ pub fn report(
     addresses: &[u8],
 ) -> Verdict
     ensures answer { λ r.
-        let before = tableOf (now (keys .entry)) (now (versions .entry)) (now (lengths .entry)) (now (version .entry)) (now (floor .entry)) (now (forms .entry)) in
-        let after = tableOf (now (keys .exit)) (now (versions .exit)) (now (lengths .exit)) (now (version .exit)) (now (floor .exit)) (now (forms .exit)) in
-        ⌜ resultOf r (withRows after (now (order .exit)) (now (tops .exit))) ≡ reportForOn (withRows before (now (order .entry)) (now (tops .entry))) (now (store .entry)) key (now (ero .entry)) both pst (now (addresses .entry)) ⌝ }
+        let before =
+        boardOf (now (keys .entry)) (now (versions .entry)) (now (lengths .entry)) (now (version .entry)) (now (floor .entry)) (now (order .entry)) (now (tops .entry)) (now (forms .entry)) in
+        let after = boardOf (now (keys .exit)) (now (versions .exit)) (now (lengths .exit)) (now (version .exit)) (now (floor .exit)) (now (order .exit)) (now (tops .exit)) (now (forms .exit)) in
+        ⌜ resultOf r after ≡ reportForOn before (now (store .entry)) key (now (ero .entry)) both pst (now (addresses .entry)) ⌝ }
     ensures octets { λ r.
-        let before = tableOf (now (keys .entry)) (now (versions .entry)) (now (lengths .entry)) (now (version .entry)) (now (floor .entry)) (now (forms .entry)) in
-        ⌜ now (store .exit) ≡ reportStoreForOn (withRows before (now (order .entry)) (now (tops .entry))) (now (store .entry)) key (now (ero .entry)) both pst (now (addresses .entry)) ⌝ }
+        let before =
+        boardOf (now (keys .entry)) (now (versions .entry)) (now (lengths .entry)) (now (version .entry)) (now (floor .entry)) (now (order .entry)) (now (tops .entry)) (now (forms .entry)) in
+        ⌜ now (store .exit) ≡ reportStoreForOn before (now (store .entry)) key (now (ero .entry)) both pst (now (addresses .entry)) ⌝ }
 {
     if !head_end::usable(addresses) {
         return refused(NOT_USABLE, 0);

@@ -1,7 +1,6 @@
 // The board's calls, on a record whose parts are lent one by one. A refusal writes nothing.
 ghost use mathlib.Core.Path.{_≡_};
-ghost use Rattle.board_record.specs.Table.{tableOf};
-ghost use Rattle.board_record.specs.Record.{withRows, emptyBoard};
+ghost use Rattle.board_record.specs.Record.{boardOf, emptyBoard};
 ghost use Rattle.octets.specs.Octets.{part};
 ghost use Rattle.board_rules.specs.OnRecord.{removeOn, compactOn, bodyOn, bodyFormOn, nextOn, movedOn};
 ghost use Rattle.report_call.specs.Reported.{reportForOn, reportStoreForOn};
@@ -28,8 +27,8 @@ pub extern "C" fn strundevi_raw_empty(
     forms: &mut [u8; 128],
 )
     ensures empty { λ _.
-        let after = tableOf (now (keys .exit)) (now (versions .exit)) (now (lengths .exit)) (now (version .exit)) (now (floor .exit)) (now (forms .exit)) in
-        ⌜ withRows after (now (order .exit)) (now (tops .exit)) ≡ emptyBoard ⌝ }
+        let after = boardOf (now (keys .exit)) (now (versions .exit)) (now (lengths .exit)) (now (version .exit)) (now (floor .exit)) (now (order .exit)) (now (tops .exit)) (now (forms .exit)) in
+        ⌜ after ≡ emptyBoard ⌝ }
 {
     border_board::empty(keys, versions, lengths, version, floor, order, tops, forms);
 }
@@ -53,14 +52,17 @@ pub extern "C" fn strundevi_raw_report(
     addresses: &[u8],
 ) -> VerdictRecord
     ensures verdict { λ r.
-        let before = withRows (tableOf (now (keys .entry)) (now (versions .entry)) (now (lengths .entry)) (now (version .entry)) (now (floor .entry)) (now (forms .entry))) (now (order .entry)) (now (tops .entry)) in
+        let before =
+        boardOf (now (keys .entry)) (now (versions .entry)) (now (lengths .entry)) (now (version .entry)) (now (floor .entry)) (now (order .entry)) (now (tops .entry)) (now (forms .entry)) in
         ⌜ r ≡ verdictOut (reportForOn before (now (store .entry)) key (now (ero .entry)) (sessionsIn session) pst (now (addresses .entry)) .verdict) ⌝ }
     ensures board { λ _.
-        let before = withRows (tableOf (now (keys .entry)) (now (versions .entry)) (now (lengths .entry)) (now (version .entry)) (now (floor .entry)) (now (forms .entry))) (now (order .entry)) (now (tops .entry)) in
-        let after = withRows (tableOf (now (keys .exit)) (now (versions .exit)) (now (lengths .exit)) (now (version .exit)) (now (floor .exit)) (now (forms .exit))) (now (order .exit)) (now (tops .exit)) in
+        let before =
+        boardOf (now (keys .entry)) (now (versions .entry)) (now (lengths .entry)) (now (version .entry)) (now (floor .entry)) (now (order .entry)) (now (tops .entry)) (now (forms .entry)) in
+        let after = boardOf (now (keys .exit)) (now (versions .exit)) (now (lengths .exit)) (now (version .exit)) (now (floor .exit)) (now (order .exit)) (now (tops .exit)) (now (forms .exit)) in
         ⌜ after ≡ reportForOn before (now (store .entry)) key (now (ero .entry)) (sessionsIn session) pst (now (addresses .entry)) .board ⌝ }
     ensures octets { λ _.
-        let before = withRows (tableOf (now (keys .entry)) (now (versions .entry)) (now (lengths .entry)) (now (version .entry)) (now (floor .entry)) (now (forms .entry))) (now (order .entry)) (now (tops .entry)) in
+        let before =
+        boardOf (now (keys .entry)) (now (versions .entry)) (now (lengths .entry)) (now (version .entry)) (now (floor .entry)) (now (order .entry)) (now (tops .entry)) (now (forms .entry)) in
         ⌜ now (store .exit) ≡ reportStoreForOn before (now (store .entry)) key (now (ero .entry)) (sessionsIn session) pst (now (addresses .entry)) ⌝ }
 {
     border_board::report(
@@ -96,11 +98,11 @@ pub extern "C" fn strundevi_raw_remove(
     key: u64,
 ) -> VerdictRecord
     ensures verdict { λ r.
-        let before = withRows (tableOf (now (keys .entry)) (now (versions .entry)) (now (lengths .entry)) (now (version .entry)) floor (now (forms .entry))) (now (order .entry)) (now (tops .entry)) in
+        let before = boardOf (now (keys .entry)) (now (versions .entry)) (now (lengths .entry)) (now (version .entry)) floor (now (order .entry)) (now (tops .entry)) (now (forms .entry)) in
         ⌜ r ≡ verdictOut (removeOn before (now (store .entry)) key .verdict) ⌝ }
     ensures board { λ _.
-        let before = withRows (tableOf (now (keys .entry)) (now (versions .entry)) (now (lengths .entry)) (now (version .entry)) floor (now (forms .entry))) (now (order .entry)) (now (tops .entry)) in
-        let after = withRows (tableOf (now (keys .entry)) (now (versions .exit)) (now (lengths .exit)) (now (version .exit)) floor (now (forms .exit))) (now (order .exit)) (now (tops .exit)) in
+        let before = boardOf (now (keys .entry)) (now (versions .entry)) (now (lengths .entry)) (now (version .entry)) floor (now (order .entry)) (now (tops .entry)) (now (forms .entry)) in
+        let after = boardOf (now (keys .entry)) (now (versions .exit)) (now (lengths .exit)) (now (version .exit)) floor (now (order .exit)) (now (tops .exit)) (now (forms .exit)) in
         ⌜ after ≡ removeOn before (now (store .entry)) key .board ⌝ }
 {
     border_board::remove(
@@ -132,11 +134,11 @@ pub extern "C" fn strundevi_raw_compact<'a>(
     c: u64,
 ) -> VerdictRecord
     ensures verdict { λ r.
-        let before = withRows (tableOf (now (keys .entry)) (now (versions .entry)) (now (lengths .entry)) version (now (floor .entry)) (now (forms .entry))) (now (order .entry)) (now (tops .entry)) in
+        let before = boardOf (now (keys .entry)) (now (versions .entry)) (now (lengths .entry)) version (now (floor .entry)) (now (order .entry)) (now (tops .entry)) (now (forms .entry)) in
         ⌜ r ≡ verdictOut (compactOn before (now (store .entry)) c .verdict) ⌝ }
     ensures board { λ _.
-        let before = withRows (tableOf (now (keys .entry)) (now (versions .entry)) (now (lengths .entry)) version (now (floor .entry)) (now (forms .entry))) (now (order .entry)) (now (tops .entry)) in
-        let after = withRows (tableOf (now (keys .exit)) (now (versions .exit)) (now (lengths .entry)) version (now (floor .exit)) (now (forms .entry))) (now (order .exit)) (now (tops .exit)) in
+        let before = boardOf (now (keys .entry)) (now (versions .entry)) (now (lengths .entry)) version (now (floor .entry)) (now (order .entry)) (now (tops .entry)) (now (forms .entry)) in
+        let after = boardOf (now (keys .exit)) (now (versions .exit)) (now (lengths .entry)) version (now (floor .exit)) (now (order .exit)) (now (tops .exit)) (now (forms .entry)) in
         ⌜ after ≡ compactOn before (now (store .entry)) c .board ⌝ }
 {
     border_board::compact(
@@ -168,13 +170,13 @@ pub extern "C" fn strundevi_raw_body<'a>(
     key: u64,
 ) -> PartRecord
     ensures part { λ r.
-        let b = withRows (tableOf (now (keys .entry)) (now (versions .entry)) (now (lengths .entry)) version floor (now (forms .entry))) (now (order .entry)) (now (tops .entry)) in
+        let b = boardOf (now (keys .entry)) (now (versions .entry)) (now (lengths .entry)) version floor (now (order .entry)) (now (tops .entry)) (now (forms .entry)) in
         ⌜ r ≡ partOut b (now (store .entry)) key ⌝ }
     ensures octets { λ r.
-        let b = withRows (tableOf (now (keys .entry)) (now (versions .entry)) (now (lengths .entry)) version floor (now (forms .entry))) (now (order .entry)) (now (tops .entry)) in
+        let b = boardOf (now (keys .entry)) (now (versions .entry)) (now (lengths .entry)) version floor (now (order .entry)) (now (tops .entry)) (now (forms .entry)) in
         ⌜ part (now (store .entry)) (r .start) (r .length) ≡ bodyOn b (now (store .entry)) key ⌝ }
     ensures form { λ r.
-        let b = withRows (tableOf (now (keys .entry)) (now (versions .entry)) (now (lengths .entry)) version floor (now (forms .entry))) (now (order .entry)) (now (tops .entry)) in
+        let b = boardOf (now (keys .entry)) (now (versions .entry)) (now (lengths .entry)) version floor (now (order .entry)) (now (tops .entry)) (now (forms .entry)) in
         ⌜ r .form ≡ bodyFormOn b (now (store .entry)) key ⌝ }
 {
     border_looks::body(
@@ -207,7 +209,7 @@ pub extern "C" fn strundevi_raw_next<'a>(
     w: u64,
 ) -> ChangeRecord
     ensures next { λ r.
-        let b = withRows (tableOf (now (keys .entry)) (now (versions .entry)) (now (lengths .entry)) version floor (now (forms .entry))) (now (order .entry)) (now (tops .entry)) in
+        let b = boardOf (now (keys .entry)) (now (versions .entry)) (now (lengths .entry)) version floor (now (order .entry)) (now (tops .entry)) (now (forms .entry)) in
         ⌜ r ≡ changeOut (nextOn b (now (store .entry)) s w) ⌝ }
 {
     border_looks::next(
@@ -242,7 +244,7 @@ pub extern "C" fn strundevi_raw_moved<'a>(
     v: u64,
 ) -> VerdictRecord
     ensures moved { λ r.
-        let b = withRows (tableOf (now (keys .entry)) (now (versions .entry)) (now (lengths .entry)) version floor (now (forms .entry))) (now (order .entry)) (now (tops .entry)) in
+        let b = boardOf (now (keys .entry)) (now (versions .entry)) (now (lengths .entry)) version floor (now (order .entry)) (now (tops .entry)) (now (forms .entry)) in
         ⌜ r ≡ verdictOut (movedOn b (now (store .entry)) from to v) ⌝ }
 {
     border_looks::moved(

@@ -34,8 +34,12 @@ pub extern "C" fn strundevi_raw_add(
     nai: &[u8; 40],
     structure: &[u8; 4],
 ) -> WrittenRecord
-    ensures answer { λ r. ⌜ r ≡ writtenOut (addAnswer (now (buffer .entry)) (writerIn writer) (segmentWith (outlineIn outline) (now (sid .entry)) (now (nai .entry)) (now (structure .entry)))) ⌝ }
-    ensures octets { λ _. ⌜ now (buffer .exit) ≡ addBuffer (now (buffer .entry)) (writerIn writer) (segmentWith (outlineIn outline) (now (sid .entry)) (now (nai .entry)) (now (structure .entry))) ⌝ }
+    ensures answer { λ r.
+        let segment = segmentWith (outlineIn outline) (now (sid .entry)) (now (nai .entry)) (now (structure .entry)) in
+        ⌜ r ≡ writtenOut (addAnswer (now (buffer .entry)) (writerIn writer) segment) ⌝ }
+    ensures octets { λ _.
+        let segment = segmentWith (outlineIn outline) (now (sid .entry)) (now (nai .entry)) (now (structure .entry)) in
+        ⌜ now (buffer .exit) ≡ addBuffer (now (buffer .entry)) (writerIn writer) segment ⌝ }
 {
     border_writing::add(buffer, writer, outline, sid, nai, structure)
 }

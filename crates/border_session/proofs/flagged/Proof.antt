@@ -3,7 +3,8 @@ use borrow.Author.Needs.{needs}
 use borrow.Author.Tests.{eq-eqb, ne-eqb}
 use Rattle.session.specs.declared.Session.{Session}
 use Rattle.session.proofs.Laws.{under-mpls, under-srv6}
-use Rattle.border_session.specs.Agreed.{srv6In, sessionsIn, flaggedOf}
+use Rattle.border_session.specs.Agreed.{srv6In, sessionsIn}
+use Rattle.border_session.specs.Parts.{flaggedOf}
 use Rattle.border_session.proofs.flagged.Statement.{statement}
 use Rattle.border_session.proofs.flagged.Tie as tie
 

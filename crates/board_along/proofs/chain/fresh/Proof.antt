@@ -21,17 +21,17 @@ loop-holds c = c .pre .3
 sub-x : tie.Need-sub-x Inv-loop μ-loop
 sub-x c = omega arith
 
-element-copy-out-place-in : tie.Need-element-copy-out-place-in Inv-loop μ-loop
-element-copy-out-place-in c = omega (arith, c .before .before .pre .0, c .before .loop .inv .low, c .loop-test .taken)
+element-copy-out-named : tie.Need-element-copy-out-named Inv-loop μ-loop
+element-copy-out-named c = omega (arith, c .before .before .pre .0, c .before .loop .inv .low, c .loop-test .taken)
 
-place-in-requires : tie.Need-place-in-requires Inv-loop μ-loop
-place-in-requires c κs = search needs
+named-requires : tie.Need-named-requires Inv-loop μ-loop
+named-requires c κs = search needs
 
 mul-if1 : tie.Need-mul-if1 Inv-loop μ-loop
 mul-if1 c =
     omega (
       arith,
-      c .place-in .ensures,
+      c .named .ensures,
       c .before .before .before .before .pre .1 (c .before .before .before .loop .p - 1)
           (omega (arith, c .before .before .before .loop .inv .low, c .before .before .loop-test .taken)),
     )
@@ -40,7 +40,7 @@ element-copy-out-if1 : tie.Need-element-copy-out-if1 Inv-loop μ-loop
 element-copy-out-if1 c =
     omega (
       arith,
-      c .place-in .ensures,
+      c .named .ensures,
       c .before .before .before .before .pre .1 (c .before .before .before .loop .p - 1)
           (omega (arith, c .before .before .before .loop .inv .low, c .before .before .loop-test .taken)),
     )
@@ -52,7 +52,7 @@ returns c =
     (along-at (before4 .before .before .args .keys .now) (before4 .before .before .args .order .now)
     (before4 .before .loop .p - 1)
     (omega (arith, before4 .before .before .pre .0, before4 .before .loop .inv .low, before4 .loop-test .taken))
-    ∙ sym (ap (λ (y : ℕ). getD (before4 .before .before .args .keys .now) y 0) (c .before .before .place-in .ensures))
+    ∙ sym (ap (λ (y : ℕ). getD (before4 .before .before .args .keys .now) y 0) (c .before .before .named .ensures))
     ∙ c .if1 .taken)
 
 element-copy-out-wide : tie.Need-element-copy-out-wide Inv-loop μ-loop
@@ -85,7 +85,7 @@ loop-again c =
     (λ e.
     c .before .before .if1 .left
     (ap (λ (y : ℕ). getD (before6 .before .before .args .keys .now) y 0)
-    (c .before .before .before .before .place-in .ensures)
+    (c .before .before .before .before .named .ensures)
     ∙ sym
     (along-at (before6 .before .before .args .keys .now) (before6 .before .before .args .order .now)
     (before6 .before .loop .p - 1)
@@ -103,8 +103,8 @@ fresh-spec =
     μ-loop
     loop-holds
     sub-x
-    element-copy-out-place-in
-    place-in-requires
+    element-copy-out-named
+    named-requires
     mul-if1
     element-copy-out-if1
     returns

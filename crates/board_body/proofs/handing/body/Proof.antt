@@ -24,8 +24,8 @@ returns c =
     let t = tableOf (args .keys .now) (args .versions .now) (args .lengths .now) (args .version) (args .floor) (args .forms .now) in
     body-none-on (withRows t (args .order .now) (args .tops .now)) (args .store .now) (args .key) _ (c .before .before .before .body-number .ensures) (c .before .if1 .taken)
 
-place-of-requires : tie.Need-place-of-requires
-place-of-requires c κs = search needs
+place-in-requires : tie.Need-place-in-requires
+place-in-requires c κs = search needs
 
 start-of-requires : tie.Need-start-of-requires
 start-of-requires c κs =
@@ -33,10 +33,10 @@ start-of-requires c κs =
     let t = tableOf (args .keys .now) (args .versions .now) (args .lengths .now) (args .version) (args .floor) (args .forms .now) in
     let taken = body-taken (withRows t (args .order .now) (args .tops .now)) (args .store .now) (args .key) _ (c .before .before .before .body-number .ensures) (c .before .if1 .left) in
     let h = body-here t (args .store .now) (args .key) _ (taken .1) (c .before .if1 .left) in
-    omega (arith, c .place-of .ensures)
+    omega (arith, c .place-in .ensures)
 
-length-at-requires : tie.Need-length-at-requires
-length-at-requires c κs = search needs
+length-in-requires : tie.Need-length-in-requires
+length-in-requires c κs = search needs
 
 add-to : tie.Need-add-to
 add-to c =
@@ -45,7 +45,7 @@ add-to c =
     let taken = body-taken (withRows t (args .order .now) (args .tops .now)) (args .store .now) (args .key) _
     (c .before .before .before .before .before .body-number .ensures) (c .before .before .before .if1 .left) in
     let h = body-room t (args .store .now) (args .key) _ _ _ (taken .1) (c .before .before .before .if1 .left)
-    (c .before .before .place-of .ensures) (c .length-at .ensures) in
+    (c .before .before .place-in .ensures) (c .length-in .ensures) in
     omega (arith, c .before .start-of .ensures)
 
 sub-result-2 : tie.Need-sub-result-2
@@ -61,7 +61,7 @@ part-result-end-2 c =
     let taken = body-taken (withRows t (args .order .now) (args .tops .now)) (args .store .now) (args .key) _
     (c .before .before .before .before .before .body-number .ensures) (c .before .before .before .if1 .left) in
     let h = body-room t (args .store .now) (args .key) _ _ _ (taken .1) (c .before .before .before .if1 .left)
-    (c .before .before .place-of .ensures) (c .length-at .ensures) in
+    (c .before .before .place-in .ensures) (c .length-in .ensures) in
     omega (arith, c .before .start-of .ensures)
 
 returns-2 : tie.Need-returns-2
@@ -73,7 +73,7 @@ returns-2 c =
     (before4 .before .before .body-number .ensures) (before4 .if1 .left) in
     body-on (withRows t (args .order .now) (args .tops .now)) (args .store .now) (args .key) _ (taken .0)
     (body-is t (args .store .now) (args .key) _ _ _ _ (taken .1) (before4 .if1 .left)
-    (c .before .before .before .place-of .ensures) (c .before .length-at .ensures)
+    (c .before .before .before .place-in .ensures) (c .before .length-in .ensures)
     (c .before .before .start-of .ensures))
 
 pub body-spec : {M : Type 1} → statement M
@@ -85,9 +85,9 @@ body-spec =
     part-result-start
     part-result-end
     returns
-    place-of-requires
+    place-in-requires
     start-of-requires
-    length-at-requires
+    length-in-requires
     add-to
     sub-result-2
     part-result-start-2

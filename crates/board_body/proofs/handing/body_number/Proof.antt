@@ -21,11 +21,11 @@ returns c =
     number-not (withRows t (args .order .now) (args .tops .now)) (args .store .now) (args .key) _ _ _ (c .before .before .is-board .ensures) (c .before .if1 .taken)
     (c .refused .ensures) (λ h. number-not-board t (args .store .now) (args .key) false _ (sym h) refl (c .refused .ensures))
 
-place-of-requires : tie.Need-place-of-requires
-place-of-requires c κs = search needs
+place-in-requires : tie.Need-place-in-requires
+place-in-requires c κs = search needs
 
-length-at-requires : tie.Need-length-at-requires
-length-at-requires c κs = search needs
+length-in-requires : tie.Need-length-in-requires
+length-in-requires c κs = search needs
 
 body-rules-requires : tie.Need-body-rules-requires
 body-rules-requires c κs = search needs
@@ -37,7 +37,7 @@ returns-2 c =
     let b = withRows t (args .order .now) (args .tops .now) in
     let h = record-is b _ _ (c .before .before .before .before .is-board .ensures) (c .before .before .before .if1 .left) in
     number-on b (args .store .now) (args .key) _ (h .1)
-    (number-is t (args .store .now) (args .key) true _ _ _ (sym (h .0)) refl (c .before .before .place-of .ensures) (c .before .length-at .ensures)
+    (number-is t (args .store .now) (args .key) true _ _ _ (sym (h .0)) refl (c .before .before .place-in .ensures) (c .before .length-in .ensures)
     (c .body-rules .ensures))
 
 pub body-number-spec : {M : Type 1} → statement M
@@ -47,7 +47,7 @@ body-number-spec =
     is-board-requires
     refused-requires
     returns
-    place-of-requires
-    length-at-requires
+    place-in-requires
+    length-in-requires
     body-rules-requires
     returns-2)

@@ -35,11 +35,11 @@ loop-holds c =
     (args .order .now) (c .before .before .before .pre .0) (c .before .before .before .pre .1) (args .s) (args .w) _
     (c .first-above .ensures)
 
-element-copy-out-place-in : tie.Need-element-copy-out-place-in Inv-loop μ-loop
-element-copy-out-place-in c = omega arith
+element-copy-out-named : tie.Need-element-copy-out-named Inv-loop μ-loop
+element-copy-out-named c = omega arith
 
-place-in-requires : tie.Need-place-in-requires Inv-loop μ-loop
-place-in-requires c κs = search needs
+named-requires : tie.Need-named-requires Inv-loop μ-loop
+named-requires c κs = search needs
 
 returns : tie.Need-returns Inv-loop μ-loop
 returns c =
@@ -48,7 +48,7 @@ returns c =
     (tableOf (before8 .args .keys .now) (before8 .args .versions .now) (before8 .args .lengths .now)
     (before8 .args .top) (before8 .args .floor) (before8 .args .forms .now)) (before8 .args .order .now) (before8 .pre .0) (before8 .pre .1)
     (before8 .args .s) (before8 .args .w) _ _ (c .before .before .before .before .loop .inv)
-    (c .before .before .before .loop-test .taken) (c .before .place-in .ensures) (c .if1 .taken)
+    (c .before .before .before .loop-test .taken) (c .before .named .ensures) (c .if1 .taken)
 
 mul-if2 : tie.Need-mul-if2 Inv-loop μ-loop
 mul-if2 c = omega (arith, c .if1 .left)
@@ -63,7 +63,7 @@ returns-2 c =
     (tableOf (before10 .args .keys .now) (before10 .args .versions .now) (before10 .args .lengths .now)
     (before10 .args .top) (before10 .args .floor) (before10 .args .forms .now)) (before10 .args .order .now) (before10 .pre .0) (before10 .pre .1)
     (before10 .args .s) (before10 .args .w) _ _ (c .before .before .before .before .before .before .loop .inv)
-    (c .before .before .before .before .before .loop-test .taken) (c .before .before .before .place-in .ensures)
+    (c .before .before .before .before .before .loop-test .taken) (c .before .before .before .named .ensures)
     (c .before .before .if1 .left) (c .if2 .taken)
 
 mul-if3 : tie.Need-mul-if3 Inv-loop μ-loop
@@ -80,7 +80,7 @@ returns-3 c =
     (tableOf (before12 .args .keys .now) (before12 .args .versions .now) (before12 .args .lengths .now)
     (before12 .args .top) (before12 .args .floor) (before12 .args .forms .now)) (before12 .args .order .now) (before12 .pre .0) (before12 .pre .1)
     (before12 .args .s) (before12 .args .w) _ _ (before4 .before .before .before .before .loop .inv)
-    (before4 .before .before .before .loop-test .taken) (before4 .before .place-in .ensures) (before4 .if1 .left)
+    (before4 .before .before .before .loop-test .taken) (before4 .before .named .ensures) (before4 .if1 .left)
     (c .if3 .taken)
 
 add-i : tie.Need-add-i Inv-loop μ-loop
@@ -97,7 +97,7 @@ loop-again c =
     (tableOf (before12 .args .keys .now) (before12 .args .versions .now) (before12 .args .lengths .now)
     (before12 .args .top) (before12 .args .floor) (before12 .args .forms .now)) (before12 .args .order .now) (before12 .pre .0) (before12 .pre .1)
     (before12 .args .s) (before12 .args .w) _ _ (before5 .before .before .before .loop .inv)
-    (before5 .before .before .loop-test .taken) (before5 .place-in .ensures) (c .before .before .if2 .left)
+    (before5 .before .before .loop-test .taken) (before5 .named .ensures) (c .before .before .if2 .left)
     (c .if3 .left)
 
 returns-4 : tie.Need-returns-4 Inv-loop μ-loop
@@ -116,8 +116,8 @@ next-place-spec =
     μ-loop
     first-above-requires
     loop-holds
-    element-copy-out-place-in
-    place-in-requires
+    element-copy-out-named
+    named-requires
     returns
     mul-if2
     element-copy-out-if2

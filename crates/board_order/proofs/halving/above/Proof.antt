@@ -3,11 +3,11 @@ use Rattle.board_order.proofs.Halves.{above-none, above-place}
 use Rattle.board_order.proofs.halving.above.Statement.{statement}
 use Rattle.board_order.proofs.halving.above.Tie as tie
 
-shared-slice-read-place-in : tie.Need-shared-slice-read-place-in
-shared-slice-read-place-in c = search needs
+shared-slice-read-named : tie.Need-shared-slice-read-named
+shared-slice-read-named c = search needs
 
-place-in-requires : tie.Need-place-in-requires
-place-in-requires c κs = search needs
+named-requires : tie.Need-named-requires
+named-requires c κs = search needs
 
 returns : tie.Need-returns
 returns c = search above-none
@@ -25,8 +25,8 @@ pub above-spec : {M : Type 1} → statement M
 above-spec =
     tie.close
     (tie.spec
-    shared-slice-read-place-in
-    place-in-requires
+    shared-slice-read-named
+    named-requires
     returns
     mul-result
     shared-slice-read-result

@@ -37,8 +37,8 @@ slice-read-number c = omega (arith, c .before .before .loop .inv .long, c .befor
 add-i : tie.Need-add-i Inv-loop μ-loop Inv-loop2 μ-loop2
 add-i c = omega (arith, c .before .loop-test .taken)
 
-place-in-requires : tie.Need-place-in-requires Inv-loop μ-loop Inv-loop2 μ-loop2
-place-in-requires c κs = search needs
+named-requires : tie.Need-named-requires Inv-loop μ-loop Inv-loop2 μ-loop2
+named-requires c κs = search needs
 
 loop-less : tie.Need-loop-less Inv-loop μ-loop Inv-loop2 μ-loop2
 loop-less c = omega (arith, c .before .before .before .loop-test .taken)
@@ -53,7 +53,7 @@ loop-again c =
           (sym
           (c .before .before .before .before .loop .inv .behind (c .before .before .before .before .loop .i)
           (omega arith)))
-          ∙ sym (c .before .place-in .ensures),
+          ∙ sym (c .before .named .ensures),
       c .if2 .taken,
     ))
 
@@ -74,7 +74,7 @@ loop-again-2 c =
     u
     (ap (λ (y : ℕ). getD (before5 .before .before .before .before .args .keys .now) y 0)
     (ap named (sym (before5 .before .loop .inv .behind (before5 .before .loop .i) (omega arith)))
-    ∙ sym (c .before .before .before .place-in .ensures))
+    ∙ sym (c .before .before .before .named .ensures))
     ∙ c .if3 .taken))
 
 slice-write-order : tie.Need-slice-write-order Inv-loop μ-loop Inv-loop2 μ-loop2
@@ -97,7 +97,7 @@ loop-again-3 c =
     sifting-keep _ _ _ _ _ (c .before .before .before .before .before .before .loop .inv)
     (c .before .before .before .before .before .loop-test .taken)
     (c .before .before .before .before .before .before .before .before .before .pre .1) _ _ refl
-    (c .before .before .before .place-in .ensures) (c .before .before .if2 .left) (c .if3 .left)
+    (c .before .before .before .named .ensures) (c .before .before .if2 .left) (c .if3 .left)
 
 loop2-holds : tie.Need-loop2-holds Inv-loop μ-loop Inv-loop2 μ-loop2
 loop2-holds c = filling-none _ _ _ _ _ (c .before .before .before .before .pre .1) (c .before .loop .inv) (c .loop-test .left)
@@ -132,7 +132,7 @@ drop-empty-spec =
     loop-holds
     slice-read-number
     add-i
-    place-in-requires
+    named-requires
     loop-less
     loop-again
     mul-if3

@@ -28,11 +28,11 @@ returns c =
     result-not b _ _ _ _ (c .before .before .is-board .ensures) (c .before .if1 .taken) (c .refused .ensures)
     (λ e. remove-not-board t (args .store .now) (args .key) false _ (sym e) refl (c .refused .ensures))
 
-place-of-requires : tie.Need-place-of-requires
-place-of-requires c κs = search needs
+place-in-requires : tie.Need-place-in-requires
+place-in-requires c κs = search needs
 
-length-at-requires : tie.Need-length-at-requires
-length-at-requires c κs = search needs
+length-in-requires : tie.Need-length-in-requires
+length-in-requires c κs = search needs
 
 remove-rules-requires : tie.Need-remove-rules-requires
 remove-rules-requires c κs = search needs
@@ -45,8 +45,8 @@ returns-2 c =
     let h = record-is b _ _ (c .before .before .before .before .before .before .before .is-board .ensures) (c .before .before .before .before .before .before .if1 .left) in
     result-refused b _ _ (h .1)
     (remove-refused t (args .store .now) (args .key) _
-    (remove-verdict t (args .store .now) (args .key) true _ _ _ (sym (h .0)) refl (c .before .before .before .before .before .place-of .ensures)
-    (c .before .before .before .length-at .ensures) (c .before .before .remove-rules .ensures)) (c .if2 .taken)) (c .if2 .taken)
+    (remove-verdict t (args .store .now) (args .key) true _ _ _ (sym (h .0)) refl (c .before .before .before .before .before .place-in .ensures)
+    (c .before .before .before .length-in .ensures) (c .before .before .remove-rules .ensures)) (c .if2 .taken)) (c .if2 .taken)
 
 add-next : tie.Need-add-next
 add-next c =
@@ -65,8 +65,8 @@ move-last-requires c κs =
     let b = withRows t (args .order .now) (args .tops .now) in
     let h = record-is b _ _ (before8 .before .before .before .before .before .is-board .ensures)
     (before8 .before .before .before .before .if1 .left) in
-    let l = remove-place (args .key) (before8 .before .before .before .place-of .result)
-    (before8 .before .length-at .result) (args .version .now) _ (before8 .remove-rules .ensures)
+    let l = remove-place (args .key) (before8 .before .before .before .place-in .result)
+    (before8 .before .length-in .result) (args .version .now) _ (before8 .remove-rules .ensures)
     (c .before .before .before .before .before .before .if2 .left) in
     (search needs, search needs, search needs, board-proper t _ (h .0), tidy-order b (h .1), l)
 
@@ -78,7 +78,7 @@ raise-requires c κs =
     let t = tableOf (args .keys .now) (args .versions .now) (args .lengths .now) (args .version .now) (args .floor) (args .forms .now) in
     let b = withRows t (args .order .now) (args .tops .now) in
     let h = record-is b _ _ (before15 .before .before .is-board .ensures) (before15 .before .if1 .left) in
-    let l = remove-place (args .key) (before15 .place-of .result) (before12 .before .length-at .result)
+    let l = remove-place (args .key) (before15 .place-in .result) (before12 .before .length-in .result)
     (args .version .now) _ (before12 .remove-rules .ensures)
     (c .before .before .before .before .before .before .before .before .before .before .if2 .left) in (
       search needs,
@@ -93,8 +93,8 @@ mul-versions c =
     let before11 = c .before .before .before .before .before .before .before .before .before .before .before in
     let before18 = before11 .before .before .before .before .before .before .before in
     let args = before18 .before .before .before .before .before .before .before .before .args in
-    let l = remove-place (args .key) (before11 .before .before .before .before .before .place-of .result)
-    (before11 .before .before .before .length-at .result) (args .version .now) _
+    let l = remove-place (args .key) (before11 .before .before .before .before .before .place-in .result)
+    (before11 .before .before .before .length-in .result) (args .version .now) _
     (before11 .before .before .remove-rules .ensures) (before11 .if2 .left) in
     omega (arith, l)
 
@@ -103,8 +103,8 @@ element-write-versions c =
     let before11 = c .before .before .before .before .before .before .before .before .before .before .before in
     let before18 = before11 .before .before .before .before .before .before .before in
     let args = before18 .before .before .before .before .before .before .before .before .args in
-    let l = remove-place (args .key) (before11 .before .before .before .before .before .place-of .result)
-    (before11 .before .before .before .length-at .result) (args .version .now) _
+    let l = remove-place (args .key) (before11 .before .before .before .before .before .place-in .result)
+    (before11 .before .before .before .length-in .result) (args .version .now) _
     (before11 .before .before .remove-rules .ensures) (before11 .if2 .left) in
     omega (arith, l)
 
@@ -113,8 +113,8 @@ mul-lengths c =
     let before11 = c .before .before .before .before .before .before .before .before .before .before .before in
     let before18 = before11 .before .before .before .before .before .before .before in
     let args = before18 .before .before .before .before .before .before .before .before .args in
-    let l = remove-place (args .key) (before11 .before .before .before .before .before .place-of .result)
-    (before11 .before .before .before .length-at .result) (args .version .now) _
+    let l = remove-place (args .key) (before11 .before .before .before .before .before .place-in .result)
+    (before11 .before .before .before .length-in .result) (args .version .now) _
     (before11 .before .before .remove-rules .ensures) (before11 .if2 .left) in
     omega (arith, l)
 
@@ -123,8 +123,8 @@ element-write-lengths c =
     let before11 = c .before .before .before .before .before .before .before .before .before .before .before in
     let before18 = before11 .before .before .before .before .before .before .before in
     let args = before18 .before .before .before .before .before .before .before .before .args in
-    let l = remove-place (args .key) (before11 .before .before .before .before .before .place-of .result)
-    (before11 .before .before .before .length-at .result) (args .version .now) _
+    let l = remove-place (args .key) (before11 .before .before .before .before .before .place-in .result)
+    (before11 .before .before .before .length-in .result) (args .version .now) _
     (before11 .before .before .remove-rules .ensures) (before11 .if2 .left) in
     omega (arith, l)
 
@@ -133,8 +133,8 @@ element-write-forms c =
     let before11 = c .before .before .before .before .before .before .before .before .before .before .before in
     let before18 = before11 .before .before .before .before .before .before .before in
     let args = before18 .before .before .before .before .before .before .before .before .args in
-    let l = remove-place (args .key) (before11 .before .before .before .before .before .place-of .result)
-    (before11 .before .before .before .length-at .result) (args .version .now) _
+    let l = remove-place (args .key) (before11 .before .before .before .before .before .place-in .result)
+    (before11 .before .before .before .length-in .result) (args .version .now) _
     (before11 .before .before .remove-rules .ensures) (before11 .if2 .left) in
     omega (arith, l)
 
@@ -146,16 +146,16 @@ returns-3 c =
     let t = tableOf (args .keys .now) (args .versions .now) (args .lengths .now) (args .version .now) (args .floor) (args .forms .now) in
     let b = withRows t (args .order .now) (args .tops .now) in
     let h = record-is b _ _ (before16 .before .before .is-board .ensures) (before16 .before .if1 .left) in
-    let l = remove-place (args .key) (before16 .place-of .result) (before11 .before .before .before .length-at .result)
+    let l = remove-place (args .key) (before16 .place-in .result) (before11 .before .before .before .length-in .result)
     (args .version .now) _ (before11 .before .before .remove-rules .ensures) (before11 .if2 .left) in
     let if2-left = before11 .if2 .left in
-    let place-of = before16 .place-of in
+    let place-in = before16 .place-in in
     let rules = before11 .before .before .remove-rules in
     result-accepted b _ _ _ _ _ (h .1)
     (remove-accepted t (args .store .now) (args .key) _ _
-    (remove-verdict t (args .store .now) (args .key) true _ _ _ (sym (h .0)) refl (place-of .ensures)
-    (before11 .before .before .before .length-at .ensures) (rules .ensures)) if2-left (place-of .ensures) l) if2-left
-    (remove-order t (args .key) _ _ (place-of .ensures) l
+    (remove-verdict t (args .store .now) (args .key) true _ _ _ (sym (h .0)) refl (place-in .ensures)
+    (before11 .before .before .before .length-in .ensures) (rules .ensures)) if2-left (place-in .ensures) l) if2-left
+    (remove-order t (args .key) _ _ (place-in .ensures) l
     (remove-key (args .key) _ (args .version .now) _ (rules .ensures) if2-left)
     (c .before .before .before .before .move-last .ensures)) (c .raise .ensures)
 
@@ -166,8 +166,8 @@ remove-spec =
     is-board-requires
     refused-requires
     returns
-    place-of-requires
-    length-at-requires
+    place-in-requires
+    length-in-requires
     remove-rules-requires
     returns-2
     add-next

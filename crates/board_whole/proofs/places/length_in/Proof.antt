@@ -1,9 +1,9 @@
 use Rattle.octets.proofs.Tests.{tests}
 use mathlib.Core.Path.{_∙_}
-use Rattle.board_rules.specs.Rules.{lengthIn}
+use Rattle.board_rules.specs.Parts.{lengthIn}
 use borrow.Author.Needs.{needs}
-use Rattle.board_whole.proofs.places.length_at.Statement.{statement}
-use Rattle.board_whole.proofs.places.length_at.Tie as tie
+use Rattle.board_whole.proofs.places.length_in.Statement.{statement}
+use Rattle.board_whole.proofs.places.length_in.Tie as tie
 
 mul-wide16 : tie.Need-mul-wide16
 mul-wide16 c = search needs
@@ -22,6 +22,6 @@ returns-2 : tie.Need-returns-2
 unfolding lengthIn
 returns-2 c = search tests
 
-pub length-at-spec : {M : Type 1} → statement M
-length-at-spec =
+pub length-in-spec : {M : Type 1} → statement M
+length-in-spec =
     tie.close (tie.spec mul-wide16 element-copy-out-wide16 wide16-requires returns returns-2)

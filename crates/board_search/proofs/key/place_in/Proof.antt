@@ -2,8 +2,8 @@ use borrow.Author.Needs.{needs}
 use native.Mathlib.Omega.{arith}
 use Prim.Native.Nat.{_≤_, _-_}
 use Rattle.board_search.proofs.Keys.{passed, none-passed, key-passed, key-found, all-passed}
-use Rattle.board_search.proofs.key.place_of.Statement.{statement}
-use Rattle.board_search.proofs.key.place_of.Tie as tie
+use Rattle.board_search.proofs.key.place_in.Statement.{statement}
+use Rattle.board_search.proofs.key.place_in.Tie as tie
 
 abbrev Inv-loop : tie.InvT-loop
 Inv-loop keys key i₀ i = (i ≤ 128) × passed keys key i
@@ -38,8 +38,8 @@ loop-again c = (omega arith, search key-passed)
 returns-2 : tie.Need-returns-2 Inv-loop μ-loop
 returns-2 c = search all-passed
 
-pub place-of-spec : {M : Type 1} → statement M
-place-of-spec =
+pub place-in-spec : {M : Type 1} → statement M
+place-in-spec =
     tie.close
     (tie.spec
     Inv-loop

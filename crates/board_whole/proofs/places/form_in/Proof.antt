@@ -1,9 +1,9 @@
 use Rattle.octets.proofs.Tests.{tests}
 use mathlib.Core.Path.{_∙_}
-use Rattle.board_rules.specs.Rules.{formIn}
+use Rattle.board_rules.specs.Parts.{formIn}
 use borrow.Author.Needs.{needs}
-use Rattle.board_whole.proofs.places.form_at.Statement.{statement}
-use Rattle.board_whole.proofs.places.form_at.Tie as tie
+use Rattle.board_whole.proofs.places.form_in.Statement.{statement}
+use Rattle.board_whole.proofs.places.form_in.Tie as tie
 
 element-copy-out-wide : tie.Need-element-copy-out-wide
 element-copy-out-wide c = search needs
@@ -19,5 +19,5 @@ returns-2 : tie.Need-returns-2
 unfolding formIn
 returns-2 c = search tests
 
-pub form-at-spec : {M : Type 1} → statement M
-form-at-spec = tie.close (tie.spec element-copy-out-wide wide-requires returns returns-2)
+pub form-in-spec : {M : Type 1} → statement M
+form-in-spec = tie.close (tie.spec element-copy-out-wide wide-requires returns returns-2)
