@@ -39,7 +39,7 @@ use Rattle.board_rules.specs.Body.{bodyRules, bodyNumber}
 use Rattle.board_rules.specs.Next.{nextRules, nextVerdict, changeAt, handedAt, nextAnswer}
 use Rattle.board_rules.specs.Moved.{movedRules, movedVerdict, movedAnswer}
 use Rattle.board_rules.specs.OnRecord.{isRecord, verdictOn, resultOn, reportOn, removeOn, compactOn, bodyNumberOn, nextOn, movedOn}
-use Rattle.board_rules.specs.Checks.{pathB, fullB, reportChecks, removeChecks, compactChecks, bodyChecks, nextChecks, movedChecks, verdictIn}
+use Rattle.board_rules.specs.Checks.{pathAtB, fullB, reportChecks, removeChecks, compactChecks, bodyChecks, nextChecks, movedChecks, verdictIn}
 
 -- ---- one law over any list
 pub record ByFirst (v : Verdict) (cs : List Check) (after : Verdict) : Type 0 where
@@ -81,20 +81,20 @@ on-record b n cs after v e =
 
 -- ---- 21 in the paper's words
 full-said : (b : Table) (k : ℕ) → Full b k → fullB b k ≡ true
-unfolding fullB freshB pathB
+unfolding fullB freshB pathAtB
 full-said b k f =
     let new : allBelow (λ j. not (eqb (keyAt b j) k)) 128 ≡ true = all-of (λ j. not (eqb (keyAt b j) k)) 128 (λ j l. rw (ne-eqb (keyAt b j) k (f .new j l))) in
-    let paths : allBelow (pathB b) 128 ≡ true =
-    all-of (pathB b) 128 (λ j l. rw (pathB, ne-eqb (keyAt b j) 0 (f .paths j l .used), ne-eqb (lengthAt b j) 0 (f .paths j l .body))) in
+    let paths : allBelow (pathAtB b) 128 ≡ true =
+    all-of (pathAtB b) 128 (λ j l. rw (pathAtB, ne-eqb (keyAt b j) 0 (f .paths j l .used), ne-eqb (lengthAt b j) 0 (f .paths j l .body))) in
     rw (new, paths)
 
 said-full : (b : Table) (k : ℕ) → fullB b k ≡ true → Full b k
-unfolding fullB freshB pathB
+unfolding fullB freshB pathAtB
 said-full b k e =
-    let p = both-true (allBelow (λ j. not (eqb (keyAt b j) k)) 128) (allBelow (pathB b) 128) e in
+    let p = both-true (allBelow (λ j. not (eqb (keyAt b j) k)) 128) (allBelow (pathAtB b) 128) e in
     record {
       new = λ j l. eqb-false (keyAt b j) k (not-true _ (all-at (λ i. not (eqb (keyAt b i) k)) 128 (p .0) j l));
-      paths = λ j l. path j (all-at (pathB b) 128 (p .1) j l);
+      paths = λ j l. path j (all-at (pathAtB b) 128 (p .1) j l);
     }
   where
     path : (j : ℕ) → not (eqb (keyAt b j) 0) && not (eqb (lengthAt b j) 0) ≡ true → PathAt b j

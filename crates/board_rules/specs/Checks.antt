@@ -22,12 +22,12 @@ use Rattle.board_rules.specs.Rules.{inRange, hasPath}
 use Rattle.board_rules.specs.Report.{bodyIn}
 
 -- a place holds a path, as a test
-unfoldable pub pathB : Table → ℕ → Bool
-pathB b i = not (eqb (keyAt b i) 0) && not (eqb (lengthAt b i) 0)
+unfoldable pub pathAtB : Table → ℕ → Bool
+pathAtB b i = not (eqb (keyAt b i) 0) && not (eqb (lengthAt b i) 0)
 
 -- 21 "exactly if the key is new and all 128 hold paths"
 unfoldable pub fullB : Table → ℕ → Bool
-fullB b k = freshB (b .keys) places k && allBelow (pathB b) places
+fullB b k = freshB (b .keys) places k && allBelow (pathAtB b) places
 
 -- "Report (key, ERO, session, PST): 17, 18, the route checks, 19, 20, 21."
 abbrev pub reportChecks : Bool → Table → ℕ → List ℕ → Session → ℕ → List Check

@@ -19,21 +19,21 @@ abbrev pub writtenOut : Written → WrittenRecord
 writtenOut w = record { verdict = verdictOut (w .verdict); writer = writerOut (w .writer) }
 
 -- kinds of what next hands out
-abbrev pub refused : ℕ
-refused = 0
+abbrev pub refusedKind : ℕ
+refusedKind = 0
 
-abbrev pub path : ℕ
-path = 1
+abbrev pub pathKind : ℕ
+pathKind = 1
 
-abbrev pub removed : ℕ
-removed = 2
+abbrev pub removedKind : ℕ
+removedKind = 2
 
-abbrev pub level : ℕ
-level = 3
+abbrev pub levelKind : ℕ
+levelKind = 3
 
 -- Its kind, then what comes with it. A path alone has a form.
 abbrev pub changeOut : Handed → ChangeRecord
-changeOut (Refused v) = record { number = v .number; kind = refused; key = 0; version = 0; place = 0; length = 0; form = 0 }
-changeOut (Path c o) = record { number = 0; kind = path; key = c .key; version = c .version; place = o .place; length = o .length; form = o .form }
-changeOut (Removed c) = record { number = 0; kind = removed; key = c .key; version = c .version; place = 0; length = 0; form = 0 }
-changeOut (Level v) = record { number = 0; kind = level; key = 0; version = v; place = 0; length = 0; form = 0 }
+changeOut (Refused v) = record { number = v .number; kind = refusedKind; key = 0; version = 0; place = 0; length = 0; form = 0 }
+changeOut (Path c o) = record { number = 0; kind = pathKind; key = c .key; version = c .version; place = o .place; length = o .length; form = o .form }
+changeOut (Removed c) = record { number = 0; kind = removedKind; key = c .key; version = c .version; place = 0; length = 0; form = 0 }
+changeOut (Level v) = record { number = 0; kind = levelKind; key = 0; version = v; place = 0; length = 0; form = 0 }

@@ -16,13 +16,13 @@ pub struct ChangeRecord {
 }
 
 // kinds of what next hands out
-const REFUSED: usize = 0;
+const REFUSED_KIND: usize = 0;
 
-const PATH: usize = 1;
+const PATH_KIND: usize = 1;
 
-const REMOVED: usize = 2;
+const REMOVED_KIND: usize = 2;
 
-const LEVEL: usize = 3;
+const LEVEL_KIND: usize = 3;
 
 pub fn change_out(h: Handed) -> ChangeRecord
     ensures change { λ r. ⌜ r ≡ changeOut h ⌝ }
@@ -30,7 +30,7 @@ pub fn change_out(h: Handed) -> ChangeRecord
     match h {
         Handed::Refused(v) => ChangeRecord {
             number: v.number,
-            kind: REFUSED,
+            kind: REFUSED_KIND,
             key: 0,
             version: 0,
             place: 0,
@@ -39,7 +39,7 @@ pub fn change_out(h: Handed) -> ChangeRecord
         },
         Handed::Path(c, o) => ChangeRecord {
             number: 0,
-            kind: PATH,
+            kind: PATH_KIND,
             key: c.key,
             version: c.version,
             place: o.place,
@@ -48,7 +48,7 @@ pub fn change_out(h: Handed) -> ChangeRecord
         },
         Handed::Removed(c) => ChangeRecord {
             number: 0,
-            kind: REMOVED,
+            kind: REMOVED_KIND,
             key: c.key,
             version: c.version,
             place: 0,
@@ -57,7 +57,7 @@ pub fn change_out(h: Handed) -> ChangeRecord
         },
         Handed::Level(version) => ChangeRecord {
             number: 0,
-            kind: LEVEL,
+            kind: LEVEL_KIND,
             key: 0,
             version: version,
             place: 0,
