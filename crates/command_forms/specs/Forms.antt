@@ -5,7 +5,7 @@ use mathlib.Core.List.{List, [], _∷_}
 use lib.Dec.{eqb}
 use lib.ListN.{length}
 use Rattle.words.specs.Words.{space, ascii, wordOf, wordsIn, sameOf}
-use Rattle.decimal.specs.Decimal.{isNumber, isAtMost, isStructure}
+use Rattle.decimal.specs.Decimal.{mostOctet, mostTwoOctets, isNumber, isAtMost, isStructure}
 use Rattle.hexadecimal.specs.Hexadecimal.{isOctets, isSid, isNai}
 use Rattle.command_forms.specs.declared.verb.Verb.{Verb}
 use Rattle.command_forms.specs.declared.verb.Verb.the-variants as v
@@ -87,8 +87,8 @@ pub data Kind : Type 0 where
 abbrev pub fits : Kind → List ℕ → Bool
 fits number w = isNumber w
 fits bit w = isAtMost 1 w
-fits octet w = isAtMost 255 w
-fits twoOctets w = isAtMost 65535 w
+fits octet w = isAtMost mostOctet w
+fits twoOctets w = isAtMost mostTwoOctets w
 fits size w = isAtMost mostSize w
 fits octets w = isOctets w
 fits side w = sameOf w theEro || sameOf w theRro

@@ -5,6 +5,8 @@ ghost use Rattle.command_forms.specs.Rows.{verbAt, fitsLetter};
 use crate::verb::ERO;
 use crate::verb::ROWS;
 use crate::verb::RRO;
+use decimal::MOST_OCTET;
+use decimal::MOST_TWO_OCTETS;
 use decimal::at_most;
 use decimal::is_number;
 use decimal::is_structure;
@@ -28,8 +30,8 @@ fn fits(letter: u8, w: &[u8]) -> bool
     match letter {
         b'n' => is_number(w),
         b'1' => at_most(w, 1),
-        b'8' => at_most(w, 255),
-        b'6' => at_most(w, 65535),
+        b'8' => at_most(w, MOST_OCTET),
+        b'6' => at_most(w, MOST_TWO_OCTETS),
         b'z' => at_most(w, MOST_SIZE as u64),
         b'o' => is_octets(w),
         b'e' => either(same(w, &ERO), same(w, &RRO)),

@@ -2,7 +2,7 @@
 // the start of a lent buffer and hands its end back.
 ghost use Prim.Native.Nat.{_+_, _*_, _≤_};
 ghost use lib.ListN.{length};
-ghost use Rattle.printing.specs.Text.{Behind};
+ghost use Rattle.printing.specs.Text.{Behind, fieldSize};
 ghost use Rattle.console_lines.specs.Lines.{short, doneLine, oneLine, twoLine, octetsLine, formLine, listLine, pathLine, removedLine, levelLine};
 use console_lines::ACCEPTED;
 use console_lines::END;
@@ -64,9 +64,9 @@ pub fn formed(out: &mut [u8], form: u64, s: &[u8]) -> usize
 
 // `0 0 LIST`
 pub fn list(out: &mut [u8], s: &[u8]) -> usize
-    requires { ⌜ 21 * length (now s) + short ≤ length (now out) ⌝ }
+    requires { ⌜ fieldSize * length (now s) + short ≤ length (now out) ⌝ }
     ensures told { λ r. ⌜ Behind (now (out .entry)) (now (out .exit)) 0 r (listLine (now (s .entry))) ⌝ }
-    ensures within { λ r. ⌜ r ≤ 21 * length (now (s .entry)) + short ⌝ }
+    ensures within { λ r. ⌜ r ≤ fieldSize * length (now (s .entry)) + short ⌝ }
 {
     let at = printing::push(out, 0, &ACCEPTED);
     let at = printing::list_field(out, at, s);

@@ -6,19 +6,20 @@ use lib.Dec.{eqb}
 use lib.ListN.{length, replicate}
 use Rattle.octets.specs.Octets.{over}
 use Rattle.subobject.specs.declared.segment.Segment.{Segment}
+use Rattle.subobject.specs.Layout.{sidSize, naiSize}
 use Rattle.words.specs.Words.{space, wordOf}
-use Rattle.decimal.specs.Decimal.{isNone, structureOf}
+use Rattle.decimal.specs.Decimal.{mostOctet, mostTwoOctets, isNone, structureOf}
 use Rattle.command.specs.declared.Command.{Command}
 use Rattle.command.specs.Commands.{numberAt}
 use Rattle.console_state.specs.Spelled.{octetsIn}
 
 -- "SID 1 to 16 octets, kept in 16 with 0 behind, or `-`"
 unfoldable pub sidIn : List ℕ → List ℕ
-sidIn line = over (octetsIn line 5) (replicate 16 0)
+sidIn line = over (octetsIn line 5) (replicate sidSize 0)
 
 -- "NAI 0 to 40 octets, kept in 40 with 0 behind"
 unfoldable pub naiIn : List ℕ → List ℕ
-naiIn line = over (octetsIn line 6) (replicate 40 0)
+naiIn line = over (octetsIn line 6) (replicate naiSize 0)
 
 -- "L, V 0 or 1, NT 0 to 255, BEHAVIOUR 0 to 65,535, SID .., NAI .., STRUCTURE"; "M, C 0 or 1"
 unfoldable pub segmentSaid : Command → List ℕ → Segment
@@ -38,7 +39,7 @@ segmentSaid c line = record {
 
 -- what the form of an `add` says of its words
 pub record AddForm (c : Command) (line : List ℕ) : Type 0 where
-  pub nt : c .three ≤ 255
-  pub behaviour : c .four ≤ 65535
-  pub sid : length (octetsIn line 5) ≤ 16
-  pub nai : length (octetsIn line 6) ≤ 40
+  pub nt : c .three ≤ mostOctet
+  pub behaviour : c .four ≤ mostTwoOctets
+  pub sid : length (octetsIn line 5) ≤ sidSize
+  pub nai : length (octetsIn line 6) ≤ naiSize

@@ -2,6 +2,7 @@
 ghost use Prim.Native.Nat.{_≤_};
 ghost use mathlib.Core.Path.{_≡_};
 ghost use lib.ListN.{length};
+ghost use Rattle.subobject.specs.Layout.{sidSize, naiSize};
 ghost use Rattle.console_state.specs.Spelled.{octetsIn};
 ghost use Rattle.console_state.specs.Rooms.{Spells};
 ghost use Rattle.console_add.specs.Added.{sidIn, naiIn, segmentSaid, AddForm};
@@ -13,7 +14,7 @@ use words::SPACE;
 use words::word;
 
 fn sid_in(line: &[u8], room: &mut [u8]) -> [u8; 16]
-    requires { ⌜ Spells (now line) (now room) × (length (octetsIn (now line) 5) ≤ 16) ⌝ }
+    requires { ⌜ Spells (now line) (now room) × (length (octetsIn (now line) 5) ≤ sidSize) ⌝ }
     ensures sid { λ r. ⌜ r ≡ sidIn (now (line .entry)) ⌝ }
     ensures room { λ _. ⌜ length (now (room .exit)) ≡ length (now (room .entry)) ⌝ }
 {
@@ -22,7 +23,7 @@ fn sid_in(line: &[u8], room: &mut [u8]) -> [u8; 16]
 }
 
 fn nai_in(line: &[u8], room: &mut [u8]) -> [u8; 40]
-    requires { ⌜ Spells (now line) (now room) × (length (octetsIn (now line) 6) ≤ 40) ⌝ }
+    requires { ⌜ Spells (now line) (now room) × (length (octetsIn (now line) 6) ≤ naiSize) ⌝ }
     ensures nai { λ r. ⌜ r ≡ naiIn (now (line .entry)) ⌝ }
     ensures room { λ _. ⌜ length (now (room .exit)) ≡ length (now (room .entry)) ⌝ }
 {

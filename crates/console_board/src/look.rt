@@ -4,10 +4,11 @@ ghost use mathlib.Core.Path.{_≡_};
 ghost use lib.ListN.{length};
 ghost use Rattle.octets.specs.Octets.{part};
 ghost use Rattle.board_record.specs.Sizes.{places, room};
-ghost use Rattle.printing.specs.Text.{Behind};
+ghost use Rattle.printing.specs.Text.{Behind, fieldSize};
 ghost use Rattle.console_lines.specs.Lines.{short};
 ghost use Rattle.console_board.specs.Boarding.{bodyLine, nextLine, movedLine, markLine, boardLine, chainLine};
 use board_record::Board;
+use board_record::PLACES;
 use board_rules::Handed;
 use command::Command;
 
@@ -85,11 +86,11 @@ pub fn numbers(b: Board, out: &mut [u8]) -> usize
 
 // `chain`: the used places from the oldest change to the newest.
 pub fn chain(b: Board, out: &mut [u8]) -> usize
-    requires { ⌜ 21 * places + short ≤ length (now out) ⌝ }
+    requires { ⌜ fieldSize * places + short ≤ length (now out) ⌝ }
     ensures told { λ r. ⌜ Behind (now (out .entry)) (now (out .exit)) 0 r (chainLine b) ⌝ }
 {
     let order = b.order;
-    let mut row = [0u8; 128];
+    let mut row = [0u8; PLACES];
     let n = console_chain::along(&order, &mut row);
     console_accepted::list(out, &row[..n])
 }

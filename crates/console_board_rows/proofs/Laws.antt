@@ -5,7 +5,6 @@ use mathlib.Core.List.{List}
 use Rattle.board_record.specs.declared.record.Board.{Board}
 use Rattle.printing.specs.Text.{Behind}
 use Rattle.command_rows.specs.declared.Changing.{Changing}
-use Rattle.command_rows.specs.declared.Looking.{Looking}
 use Rattle.console_board.specs.Boarding.{Boarding}
 
 pub by-change : (f : Changing → Boarding) {row x : Changing} {board : Board} {store before after : List ℕ} {r : ℕ}
@@ -16,6 +15,3 @@ pub by-change : (f : Changing → Boarding) {row x : Changing} {board : Board} {
     → (board ≡ f row .board) × ((store ≡ f row .store) × Behind before after 0 r (f row .answer))
 by-change f {board = board} {store} {before} {after} {r} p a b t =
     subst (λ (y : Changing). (board ≡ f y .board) × ((store ≡ f y .store) × Behind before after 0 r (f y .answer))) (sym p) (a, (b, t))
-
-pub by-look : (f : Looking → List ℕ) {row x : Looking} {before after : List ℕ} {r : ℕ} → row ≡ x → Behind before after 0 r (f x) → Behind before after 0 r (f row)
-by-look f {before = before} {after} {r} p b = subst (λ (y : Looking). Behind before after 0 r (f y)) (sym p) b

@@ -3,8 +3,9 @@
 ghost use Prim.Native.Nat.{_+_, _*_, _≤_};
 ghost use mathlib.Core.Path.{_≡_};
 ghost use lib.ListN.{length};
-ghost use Rattle.printing.specs.Text.{Behind};
+ghost use Rattle.printing.specs.Text.{Behind, fieldSize};
 ghost use Rattle.board_record.specs.Sizes.{places};
+ghost use Rattle.console_lines.specs.Lines.{short};
 ghost use Rattle.console_state.specs.Standing.{listIn};
 ghost use Rattle.console_board_rows.specs.Boarded.{changedTurn, lookedLine};
 use board_record::Board;
@@ -35,7 +36,7 @@ pub fn changed(
     room: &mut [u8],
     out: &mut [u8],
 ) -> Boarded
-    requires { ⌜ (length (now line) ≤ 2 * length (now room)) × (128 ≤ length (now out)) ⌝ }
+    requires { ⌜ (length (now line) ≤ 2 * length (now room)) × (short ≤ length (now out)) ⌝ }
     ensures board { λ r. ⌜ r .board ≡ changedTurn row b (now (store .entry)) both (listIn given (now (memory .entry))) c (now (line .entry)) .board ⌝ }
     ensures store { λ r. ⌜ now (store .exit) ≡ changedTurn row b (now (store .entry)) both (listIn given (now (memory .entry))) c (now (line .entry)) .store ⌝ }
     ensures told { λ r. ⌜ Behind (now (out .entry)) (now (out .exit)) 0 (r .end) (changedTurn row b (now (store .entry)) both (listIn given (now (memory .entry))) c (now (line .entry)) .answer) ⌝ }
@@ -48,7 +49,7 @@ pub fn changed(
 }
 
 pub fn looked(row: Looking, b: Board, c: Command, store: &[u8], out: &mut [u8]) -> usize
-    requires { ⌜ (2 * length (now store) + 128 ≤ length (now out)) × (21 * places + 128 ≤ length (now out)) ⌝ }
+    requires { ⌜ (2 * length (now store) + short ≤ length (now out)) × (fieldSize * places + short ≤ length (now out)) ⌝ }
     ensures told { λ r. ⌜ Behind (now (out .entry)) (now (out .exit)) 0 r (lookedLine row b (now (store .entry)) c) ⌝ }
 {
     match row {

@@ -3,7 +3,7 @@
 ghost use Prim.Native.Nat.{_+_, _≤_};
 ghost use mathlib.Core.Path.{_≡_};
 ghost use lib.ListN.{length};
-ghost use Rattle.printing.specs.Text.{Behind, spaced};
+ghost use Rattle.printing.specs.Text.{Behind, fieldSize, spaced};
 ghost use Rattle.msd.specs.Msd.{depthIn};
 ghost use Rattle.console_lines.specs.Lines.{furtherWords};
 ghost use Rattle.console_ends.specs.Ends.{bitOf, limitText, depthText, mplsWords, flagWords, strayWords, labelWords};
@@ -16,7 +16,7 @@ use words::DASH;
 use words::SPACE;
 
 // ` -`
-pub const NONE: [u8; 2] = [SPACE, DASH];
+pub const NONE_FIELD: [u8; 2] = [SPACE, DASH];
 
 pub fn bit(b: bool) -> u64
     ensures bit { λ r. ⌜ r ≡ bitOf b ⌝ }
@@ -26,24 +26,24 @@ pub fn bit(b: bool) -> u64
 
 // A space and a number, or `-`.
 pub fn limit_field(out: &mut [u8], at: usize, limit: Limit) -> usize
-    requires { ⌜ at + 21 ≤ length (now out) ⌝ }
+    requires { ⌜ at + fieldSize ≤ length (now out) ⌝ }
     ensures behind { λ r. ⌜ Behind (now (out .entry)) (now (out .exit)) at r (spaced (limitText limit)) ⌝ }
-    ensures short { λ r. ⌜ r ≤ at + 21 ⌝ }
+    ensures short { λ r. ⌜ r ≤ at + fieldSize ⌝ }
 {
     match limit {
-        Limit::Free => printing::push(out, at, &NONE),
+        Limit::Free => printing::push(out, at, &NONE_FIELD),
         Limit::Most(n) => printing::field(out, at, n as u64),
     }
 }
 
 // A space and a number, or `-`.
 fn depth_field(out: &mut [u8], at: usize, d: usize) -> usize
-    requires { ⌜ at + 21 ≤ length (now out) ⌝ }
+    requires { ⌜ at + fieldSize ≤ length (now out) ⌝ }
     ensures behind { λ r. ⌜ Behind (now (out .entry)) (now (out .exit)) at r (spaced (depthText (depthIn d))) ⌝ }
-    ensures short { λ r. ⌜ r ≤ at + 21 ⌝ }
+    ensures short { λ r. ⌜ r ≤ at + fieldSize ⌝ }
 {
     if ABSENT <= d {
-        return printing::push(out, at, &NONE);
+        return printing::push(out, at, &NONE_FIELD);
     }
     printing::field(out, at, d as u64)
 }

@@ -1,14 +1,15 @@
 // What an OPEN carries and what a segment says, as lines (console.md). Each call lays a line over the start of a
 // lent buffer and hands its end back.
-ghost use Prim.Native.Nat.{_+_, _≤_};
+ghost use Prim.Native.Nat.{_+_, _*_, _≤_};
 ghost use mathlib.Core.Path.{_≡_};
 ghost use mathlib.Core.Bool.{cond, true};
 ghost use lib.ListN.{length, take};
+ghost use Rattle.subobject.specs.Layout.{sidSize, naiSize};
 ghost use Rattle.forms.specs.Forms.{naiLength};
 ghost use Rattle.forms.specs.Sized.{Sized};
-ghost use Rattle.printing.specs.Text.{Behind, spaced, octetsText};
+ghost use Rattle.printing.specs.Text.{Behind, fieldSize, spaced, octetsText};
 ghost use Rattle.console_fields.specs.Shown.{long, openLine, openedLine, structureText, segmentLine};
-use console_ends::NONE;
+use console_ends::NONE_FIELD;
 use console_ends::bit;
 use console_ends::flags_end;
 use console_ends::labels_end;
@@ -21,6 +22,9 @@ use subobject_strays::Strays;
 use words::COMMA;
 
 const JOINT: [u8; 1] = [COMMA];
+
+// the octets that the line of an OPEN or of a segment takes at most
+pub const LONG: usize = 512;
 
 // `0 0 SRV6 N LIMIT A R V M MPLS MN MLIMIT`
 fn carried(out: &mut [u8], o: Opened) -> usize
@@ -56,9 +60,9 @@ fn wide(x: u8) -> u64
 
 // A space and four numbers joined by commas.
 fn bits_field(out: &mut [u8], at: usize, bits: [u8; 4]) -> usize
-    requires { ⌜ at + 84 ≤ length (now out) ⌝ }
+    requires { ⌜ at + 4 * fieldSize ≤ length (now out) ⌝ }
     ensures behind { λ r. ⌜ Behind (now (out .entry)) (now (out .exit)) at r (spaced (structureText true bits)) ⌝ }
-    ensures short { λ r. ⌜ r ≤ at + 84 ⌝ }
+    ensures short { λ r. ⌜ r ≤ at + 4 * fieldSize ⌝ }
 {
     let a = wide(bits[0]);
     let b = wide(bits[1]);
@@ -75,21 +79,21 @@ fn bits_field(out: &mut [u8], at: usize, bits: [u8; 4]) -> usize
 
 // The same, or `-` for none.
 fn structure_field(out: &mut [u8], at: usize, there: bool, bits: [u8; 4]) -> usize
-    requires { ⌜ at + 84 ≤ length (now out) ⌝ }
+    requires { ⌜ at + 4 * fieldSize ≤ length (now out) ⌝ }
     ensures behind { λ r. ⌜ Behind (now (out .entry)) (now (out .exit)) at r (spaced (structureText there bits)) ⌝ }
-    ensures short { λ r. ⌜ r ≤ at + 84 ⌝ }
+    ensures short { λ r. ⌜ r ≤ at + 4 * fieldSize ⌝ }
 {
     if there {
         return bits_field(out, at, bits);
     }
-    printing::push(out, at, &NONE)
+    printing::push(out, at, &NONE_FIELD)
 }
 
 // A space and the SID, or `-` for none.
 fn sid_field(out: &mut [u8], at: usize, form: Form, there: bool, sid: [u8; 16]) -> usize
-    requires { ⌜ (at + 34 ≤ length (now out)) × (form .sid ≤ 16) ⌝ }
+    requires { ⌜ (at + (2 * sidSize + 2) ≤ length (now out)) × (form .sid ≤ sidSize) ⌝ }
     ensures behind { λ r. ⌜ Behind (now (out .entry)) (now (out .exit)) at r (spaced (octetsText (take (cond there (form .sid) 0) sid))) ⌝ }
-    ensures short { λ r. ⌜ r ≤ at + 34 ⌝ }
+    ensures short { λ r. ⌜ r ≤ at + (2 * sidSize + 2) ⌝ }
 {
     let k = octets::pick(there, octets::wide(form.sid), 0);
     printing::octets_field(out, at, &sid[..k])
@@ -97,9 +101,9 @@ fn sid_field(out: &mut [u8], at: usize, form: Form, there: bool, sid: [u8; 16]) 
 
 // A space and the NAI, or `-` for none.
 fn nai_field(out: &mut [u8], at: usize, form: Form, nt: usize, nai: [u8; 40]) -> usize
-    requires { ⌜ (at + 82 ≤ length (now out)) × (Sized form) ⌝ }
+    requires { ⌜ (at + (2 * naiSize + 2) ≤ length (now out)) × (Sized form) ⌝ }
     ensures behind { λ r. ⌜ Behind (now (out .entry)) (now (out .exit)) at r (spaced (octetsText (take (naiLength form nt) nai))) ⌝ }
-    ensures short { λ r. ⌜ r ≤ at + 82 ⌝ }
+    ensures short { λ r. ⌜ r ≤ at + (2 * naiSize + 2) ⌝ }
 {
     let n = forms::nai_length(form, nt);
     printing::octets_field(out, at, &nai[..n])

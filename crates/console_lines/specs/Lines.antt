@@ -1,7 +1,7 @@
 -- The lines that the programs answer by (console.md, the table's last column; document 01, the checking program).
 use Prim.Native.Nat.{ℕ}
 use mathlib.Core.List.{List, [], _∷_, _++_}
-use Rattle.words.specs.Words.{newline, ascii}
+use Rattle.words.specs.Words.{newline, digitZero, ascii}
 use Rattle.answers.specs.declared.verdict.Verdict.{Verdict}
 use Rattle.printing.specs.Text.{decimalOf, octetsText, listText, spaced}
 
@@ -22,7 +22,7 @@ lineOf w ws = w ++ furtherWords ws
 
 -- "Every acceptance begins `0 0`"
 abbrev pub acceptance : List (List ℕ) → List ℕ
-acceptance ws = lineOf (48 ∷ []) ((48 ∷ []) ∷ ws)
+acceptance ws = lineOf (digitZero ∷ []) ((digitZero ∷ []) ∷ ws)
 
 -- ## The lines
 

@@ -1,6 +1,6 @@
 -- A call's answer, from the octets that the line spells and the list of addresses; a list laid behind the writer's part of the memory.
 use Prim.Native.Nat.{ℕ, _-_, _≤_}
-use mathlib.Core.Path.{_≡_, _∙_, subst}
+use mathlib.Core.Path.{_≡_, _∙_}
 use mathlib.Core.Bool.{Bool}
 use mathlib.Core.List.{List}
 use lib.ListN.{length, take, drop}
@@ -10,11 +10,6 @@ use Rattle.answers.specs.declared.verdict.Verdict.{Verdict}
 use Rattle.octets.specs.Octets.{over}
 use Rattle.octets.proofs.Laws.{rest-back}
 use Rattle.session.specs.declared.Sessions.{Sessions}
-use Rattle.forms.specs.declared.Form.{Form}
-use Rattle.subobject.specs.declared.segment.Segment.{Segment}
-use Rattle.subobject_strays.specs.declared.Strays.{Strays}
-use Rattle.printing.specs.Text.{Behind}
-use Rattle.console_fields.specs.Shown.{segmentLine}
 use Rattle.route.specs.declared.picking.Picked.{Picked}
 use Rattle.route_call.specs.Called.{judgedFor, segmentFor}
 use Rattle.command_forms.specs.Forms.{mostSize}
@@ -28,11 +23,6 @@ judged-told ero both pst e f g = g ∙ (λ i. judgedFor (e i) ero both pst (f i)
 pub picked-told : (ero : Bool) (both : Sessions) (pst k : ℕ) {x y l m : List ℕ} {p : Picked} → x ≡ y → l ≡ m → p ≡ segmentFor x ero both pst l k
     → p ≡ segmentFor y ero both pst m k
 picked-told ero both pst k e f g = g ∙ (λ i. segmentFor (e i) ero both pst (f i) k)
-
--- A segment shown in a form that is the one meant.
-pub shown-as : {x y : Form} {before after : List ℕ} {end : ℕ} (g : Segment) (s : Strays) → x ≡ y → Behind before after 0 end (segmentLine x g s)
-    → Behind before after 0 end (segmentLine y g s)
-shown-as {before = before} {after = after} {end = end} g s e h = subst (λ (f : Form). Behind before after 0 end (segmentLine f g s)) e h
 
 pub list-laid : (m y w z : List ℕ) {n : ℕ} → mostSize ≤ length m → (n ≡ length w) × (y ≡ over w z)
     → (listIn n (putMid mostSize (length m - mostSize) m y) ≡ w) × (take mostSize (putMid mostSize (length m - mostSize) m y) ≡ take mostSize m)

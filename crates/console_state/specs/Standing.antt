@@ -31,6 +31,10 @@ pub record Console : Type 0 where
 abbrev pub writerAtStart : Writer
 writerAtStart = record { ero = true; at = 0; form = srv6Setup }
 
+-- no form is at fault
+abbrev pub noForm : ℕ
+noForm = 0
+
 -- "its store is 49,152 octets of 0"
 unfoldable pub storeAtStart : List ℕ
 storeAtStart = replicate storeSize 0
@@ -41,8 +45,8 @@ abbrev pub atStart : Console
 atStart = record {
   board = emptyBoard;
   store = storeAtStart;
-  pcc = openRefused openMalformed 0;
-  pce = openRefused openMalformed 0;
+  pcc = openRefused openMalformed noForm;
+  pce = openRefused openMalformed noForm;
   writer = writerAtStart;
   lent = [];
   positions = firstTwo;
@@ -73,7 +77,15 @@ consoleOf s store memory = record {
 -- ## States
 
 abbrev pub stateAtStart : State
-stateAtStart = record { board = emptyBoard; pcc = openRefused openMalformed 0; pce = openRefused openMalformed 0; writer = writerAtStart; size = 0; positions = firstTwo; given = 0 }
+stateAtStart = record {
+  board = emptyBoard;
+  pcc = openRefused openMalformed noForm;
+  pce = openRefused openMalformed noForm;
+  writer = writerAtStart;
+  size = 0;
+  positions = firstTwo;
+  given = 0;
+}
 
 abbrev pub withBoard : State → Board → State
 withBoard s board = record { board = board; pcc = s .pcc; pce = s .pce; writer = s .writer; size = s .size; positions = s .positions; given = s .given }

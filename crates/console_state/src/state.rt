@@ -6,6 +6,9 @@ use positions::Setup;
 use session::Opened;
 use writer_state::Writer;
 
+// no form is at fault
+const NO_FORM: usize = 0;
+
 pub struct State {
     pub board: Board,
     pub pcc: Opened,
@@ -22,8 +25,8 @@ pub fn start() -> State
 {
     State {
         board: board_record::empty(),
-        pcc: session::refused_open(answers::OPEN_MALFORMED, 0),
-        pce: session::refused_open(answers::OPEN_MALFORMED, 0),
+        pcc: session::refused_open(answers::OPEN_MALFORMED, NO_FORM),
+        pce: session::refused_open(answers::OPEN_MALFORMED, NO_FORM),
         writer: Writer {
             ero: true,
             at: 0,

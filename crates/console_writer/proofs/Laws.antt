@@ -8,7 +8,6 @@ use lib.ListN.{length, take, drop, set, replicate, length-replicate, getD-replic
 use lib.Seq.{take-at, take-all}
 use native.Mathlib.Omega.{arith}
 use borrow.Author.Tests.{leb-true, leb-false, lt-ltb, le-ltb, ltb-true, ltb-false}
-use Rattle.answers.specs.Verdicts.{kept}
 use Rattle.octets.proofs.Laws.{copied, copied-more}
 use Rattle.writer_state.specs.declared.Writer.{Writer}
 use Rattle.writer_state.specs.Answers.{answered}
@@ -63,11 +62,3 @@ refused-writer (suc n) old new h = refl
 pub begin-keeps : (b : List ℕ) (w : Writer) (ero : Bool) (pst : ℕ) → (beginAnswer b w ero pst .verdict .number ≡ 0 → ⊥) → w ≡ beginAnswer b w ero pst .writer
 unfolding beginAnswer
 begin-keeps b w ero pst h = refused-writer (beginNumber (length b)) w _ h
-
-pub kept-old : {A : Type 0} (n : ℕ) (old new : A) → (n ≡ 0 → ⊥) → old ≡ kept n old new
-kept-old zero old new h = absurd (h refl)
-kept-old (suc n) old new h = refl
-
-pub kept-new : {A : Type 0} (n : ℕ) (old new : A) → n ≡ 0 → new ≡ kept n old new
-kept-new zero old new h = refl
-kept-new (suc n) old new h = absurd (omega arith)

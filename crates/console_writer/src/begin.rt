@@ -10,6 +10,7 @@ use crate::wrote::Composed;
 use crate::wrote::placed;
 use command::Command;
 use console_state::fit;
+use objects::HEADER;
 use writer_state::Writer;
 use writer_state::Written;
 
@@ -50,7 +51,7 @@ pub fn begun(old: Writer, size: usize, c: Command, memory: &mut [u8], out: &mut 
     ensures told { λ r. ⌜ Behind (now (out .entry)) (now (out .exit)) 0 (r .end) (beginTurn old (take size (now (memory .entry))) c .answer) ⌝ }
 {
     let new = narrow(c.three);
-    let mut trial = [0u8; 4];
+    let mut trial = [0u8; HEADER];
     let k = fit(new, &trial);
     let w = writer_ends::begin(&mut trial[..k], old, c.ero, c.two);
     let v = w.verdict;

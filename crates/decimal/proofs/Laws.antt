@@ -1,4 +1,5 @@
--- The laws of numbers as words, in the order of the definitions.
+-- The laws of numbers as words, in the order of the definitions. `Reading` says that what is left of the word, behind digits worth v, gives the whole answer; one law for each way out of a
+-- turn. Digits never make a value smaller (`worth-least`), so that a value past the largest refuses the word at once.
 use Prim.Native.Nat.{ℕ, zero, suc, _+_, _-_, _*_, _≤_, _<_}
 use mathlib.Core.Path.{_≡_, refl, sym, _∙_, ap}
 use mathlib.Core.List.{List, [], _∷_}
@@ -10,7 +11,9 @@ use native.Mathlib.Omega.{arith}
 use native.Mathlib.Numerals.{add-one}
 use borrow.Author.Tests.{eq-eqb, ne-eqb, lt-ltb, le-ltb, le-leb, lt-leb}
 use Rattle.decimal.specs.declared.Number.{Number}
-use Rattle.decimal.specs.Decimal.{isDigit, allDigits, worth, isEmpty, isNumber, decimalValue, numberOf}
+use Rattle.octets.proofs.Said.{and-false}
+use Rattle.words.specs.Words.{digitZero, digitNine}
+use Rattle.decimal.specs.Decimal.{isDigit, allDigits, worth, numberRange, isEmpty, isNumber, decimalValue, numberOf}
 
 -- A reading under way: the digits before i are worth v.
 pub record Reading (w : List ℕ) (v i : ℕ) : Type 0 where
@@ -18,25 +21,25 @@ pub record Reading (w : List ℕ) (v i : ℕ) : Type 0 where
   pub some : isEmpty w ≡ false
   pub digits : allDigits (drop i w) ≡ allDigits w
   pub same : worth v (drop i w) ≡ worth 0 w
-  pub fits : v < 18446744073709551616
+  pub fits : v < numberRange
 
-pub digit-is : (c : ℕ) → 48 ≤ c → c ≤ 57 → isDigit c ≡ true
+pub digit-is : (c : ℕ) → digitZero ≤ c → c ≤ digitNine → isDigit c ≡ true
 unfolding isDigit
-digit-is c h k = rw (le-leb 48 c h, le-leb c 57 k)
+digit-is c h k = rw (le-leb digitZero c h, le-leb c digitNine k)
 
-pub digit-low : (c : ℕ) → c < 48 → isDigit c ≡ false
+pub digit-low : (c : ℕ) → c < digitZero → isDigit c ≡ false
 unfolding isDigit
-digit-low c h = rw (lt-leb 48 c h)
+digit-low c h = rw (lt-leb digitZero c h)
 
-pub digit-high : (c : ℕ) → 57 < c → isDigit c ≡ false
+pub digit-high : (c : ℕ) → digitNine < c → isDigit c ≡ false
 unfolding isDigit
-digit-high c h = rw (le-leb 48 c (omega arith), lt-leb c 57 h)
+digit-high c h = rw (le-leb digitZero c (omega arith), lt-leb c digitNine h)
 
 -- Digits never make a value smaller.
 pub worth-least : (v : ℕ) (w : List ℕ) → v ≤ worth v w
 unfolding worth
 worth-least v [] = omega arith
-worth-least v (c ∷ cs) = let h = worth-least (v * 10 + (c - 48)) cs in omega arith
+worth-least v (c ∷ cs) = let h = worth-least (v * 10 + (c - digitZero)) cs in omega arith
 
 empty-none : (w : List ℕ) → length w ≡ 0 → isEmpty w ≡ true
 empty-none [] h = refl
@@ -63,18 +66,14 @@ module _ {w : List ℕ} {v i : ℕ} (r : Reading w v i) where
       refuse w (rw (r .some, d))
 
   -- a value past the largest
-  pub overflow-refused : i < length w → isDigit (getD w i 0) ≡ true → 18446744073709551616 ≤ v * 10 + (getD w i 0 - 48) → record { good = false; value = 0 } ≡ numberOf w
+  pub overflow-refused : i < length w → isDigit (getD w i 0) ≡ true → numberRange ≤ v * 10 + (getD w i 0 - digitZero) → record { good = false; value = 0 } ≡ numberOf w
   unfolding isNumber worth
   overflow-refused h e k =
-      let s : worth (v * 10 + (getD w i 0 - 48)) (drop (suc i) w) ≡ worth 0 w = rw (drop-cons w i 0 h) at (r .same) in
-      let g : 18446744073709551616 ≤ worth 0 w = omega (arith, worth-least (v * 10 + (getD w i 0 - 48)) (drop (suc i) w)) in
-      refuse w (rw (r .some, le-ltb (worth 0 w) 18446744073709551616 g) (both-false (allDigits w)))
-    where
-      both-false : (b : Bool) → (not false && (b && false)) ≡ false
-      both-false true = refl
-      both-false false = refl
+      let s : worth (v * 10 + (getD w i 0 - digitZero)) (drop (suc i) w) ≡ worth 0 w = rw (drop-cons w i 0 h) at (r .same) in
+      let g : numberRange ≤ worth 0 w = omega (arith, worth-least (v * 10 + (getD w i 0 - digitZero)) (drop (suc i) w)) in
+      refuse w (rw (r .some, le-ltb (worth 0 w) numberRange g) (and-false (allDigits w)))
 
-  pub one-more : i < length w → isDigit (getD w i 0) ≡ true → v * 10 + (getD w i 0 - 48) < 18446744073709551616 → Reading w (v * 10 + (getD w i 0 - 48)) (i + 1)
+  pub one-more : i < length w → isDigit (getD w i 0) ≡ true → v * 10 + (getD w i 0 - digitZero) < numberRange → Reading w (v * 10 + (getD w i 0 - digitZero)) (i + 1)
   unfolding allDigits worth
   one-more h e k = record {
     within = omega arith;
@@ -89,7 +88,7 @@ module _ {w : List ℕ} {v i : ℕ} (r : Reading w v i) where
   all-read h =
       let d : allDigits w ≡ true = sym (r .digits) ∙ rw (drop-of-length-le w h) in
       let s : worth 0 w ≡ v = sym (r .same) ∙ rw (drop-of-length-le w h) in
-      rw (r .some, d, s, lt-ltb v 18446744073709551616 (r .fits))
+      rw (r .some, d, s, lt-ltb v numberRange (r .fits))
 
 -- ## A chain of tests, test by test
 

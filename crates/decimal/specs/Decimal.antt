@@ -3,14 +3,14 @@ use Prim.Native.Nat.{ℕ, zero, suc, _+_, _-_, _*_, _%_}
 use mathlib.Core.Bool.{Bool, true, false, cond, not, _&&_, _||_}
 use mathlib.Core.List.{List, [], _∷_}
 use lib.Dec.{eqb, ltb, leb}
-use Rattle.words.specs.Words.{comma, dash, wordOf, wordsIn, sameOf}
+use Rattle.words.specs.Words.{comma, dash, digitZero, digitNine, wordOf, wordsIn, sameOf}
 use Rattle.decimal.specs.declared.Number.{Number}
 
 -- ## Numbers: "decimal digits and nothing else, 0 to 2^64-1, leading zeros allowed"
 
 -- `0` to `9`
 unfoldable pub isDigit : ℕ → Bool
-isDigit c = leb 48 c && leb c 57
+isDigit c = leb digitZero c && leb c digitNine
 
 unfoldable pub allDigits : List ℕ → Bool
 allDigits [] = true
@@ -19,14 +19,18 @@ allDigits (c ∷ cs) = isDigit c && allDigits cs
 -- The value of the digits `w` behind digits that are worth `v`.
 unfoldable pub worth : ℕ → List ℕ → ℕ
 worth v [] = v
-worth v (c ∷ cs) = worth (v * 10 + (c - 48)) cs
+worth v (c ∷ cs) = worth (v * 10 + (c - digitZero)) cs
 
 abbrev pub isEmpty : List ℕ → Bool
 isEmpty [] = true
 isEmpty (c ∷ cs) = false
 
+-- "0 to 2^64-1": there are 2^64 of them.
+abbrev pub numberRange : ℕ
+numberRange = 18446744073709551616
+
 unfoldable pub isNumber : List ℕ → Bool
-isNumber w = not (isEmpty w) && (allDigits w && ltb (worth 0 w) 18446744073709551616)
+isNumber w = not (isEmpty w) && (allDigits w && ltb (worth 0 w) numberRange)
 
 unfoldable pub decimalValue : List ℕ → ℕ
 decimalValue w = cond (isNumber w) (worth 0 w) 0
@@ -44,9 +48,16 @@ isNone w = sameOf w (dash ∷ [])
 
 -- ## Structures: "four numbers of 0 to 255 joined by commas, or `-` for none"
 
+-- the largest number of one octet, and of two
+abbrev pub mostOctet : ℕ
+mostOctet = 255
+
+abbrev pub mostTwoOctets : ℕ
+mostTwoOctets = 65535
+
 unfoldable pub isStructure : List ℕ → Bool
 isStructure w = isNone w || (eqb (wordsIn comma w) 4
-    && ((isAtMost 255 (wordOf comma w 0) && isAtMost 255 (wordOf comma w 1)) && (isAtMost 255 (wordOf comma w 2) && isAtMost 255 (wordOf comma w 3))))
+    && ((isAtMost mostOctet (wordOf comma w 0) && isAtMost mostOctet (wordOf comma w 1)) && (isAtMost mostOctet (wordOf comma w 2) && isAtMost mostOctet (wordOf comma w 3))))
 
 -- The four numbers; of a word that is no structure their lowest octets, which nobody asks for.
 unfoldable pub structureOf : List ℕ → List ℕ

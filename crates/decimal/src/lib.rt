@@ -1,26 +1,29 @@
 // What a word says as a number: decimal digits and nothing else, 0 to 2^64-1, leading zeros allowed.
 // A structure is four numbers of 0 to 255 joined by commas, or `-` for none (console.md).
 ghost use mathlib.Core.Path.{_≡_};
+ghost use Rattle.words.specs.Words.{digitZero, digitNine};
 ghost use Rattle.decimal.specs.Decimal.{isNone, numberOf, isNumber, decimalValue, isAtMost, isStructure, structureOf};
 ghost use Prim.Native.Nat.{_%_, _-_, _≤_, _<_};
 use octets::both;
 use octets::either;
 use words::COMMA;
 use words::DASH;
+use words::DIGIT_NINE;
+use words::DIGIT_ZERO;
 use words::word;
-
-const ZERO: u8 = 48;
-
-const NINE: u8 = 57;
 
 const NONE: [u8; 1] = [DASH];
 
 // the largest number that ten times itself and a digit more can be under 2^64
 const TENTH: u64 = 1844674407370955161;
 
-const LARGEST: u64 = 18446744073709551615;
+// 2^64-1
+const MOST_NUMBER: u64 = 18446744073709551615;
 
-const MOST_OCTET: u64 = 255;
+// the largest number of one octet, and of two
+pub const MOST_OCTET: u64 = 255;
+
+pub const MOST_TWO_OCTETS: u64 = 65535;
 
 pub struct Number {
     pub good: bool,
@@ -41,13 +44,13 @@ fn spelled(word: &[u8]) -> Number
     let mut i: usize = 0;
     while i < word.len() {
         let c = word[i];
-        if c < ZERO {
+        if c < DIGIT_ZERO {
             return Number {
                 good: false,
                 value: 0,
             };
         }
-        if c > NINE {
+        if c > DIGIT_NINE {
             return Number {
                 good: false,
                 value: 0,
@@ -60,7 +63,7 @@ fn spelled(word: &[u8]) -> Number
             };
         }
         let d = digit(c);
-        if v * 10 > LARGEST - d {
+        if v * 10 > MOST_NUMBER - d {
             return Number {
                 good: false,
                 value: 0,
@@ -131,12 +134,12 @@ pub fn structure(w: &[u8]) -> [u8; 4]
     [a, b, c, d]
 }
 
-// The digit that an octet of 48 to 57 stands for.
+// What a digit stands for.
 fn digit(c: u8) -> u64
-    requires { ⌜ (48 ≤ c) × (c ≤ 57) ⌝ }
-    ensures digit { λ r. ⌜ (r ≡ c - 48) × (r < 10) ⌝ }
+    requires { ⌜ (digitZero ≤ c) × (c ≤ digitNine) ⌝ }
+    ensures digit { λ r. ⌜ (r ≡ c - digitZero) × (r < 10) ⌝ }
 {
-    (c - ZERO) as u64
+    (c - DIGIT_ZERO) as u64
 }
 
 fn low(n: u64) -> u8

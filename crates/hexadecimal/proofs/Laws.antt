@@ -1,4 +1,5 @@
--- The laws of octets as words, in the order of the definitions.
+-- The laws of octets as words, in the order of the definitions. A digit lies in one of three ranges, and the tests for the others are decided by arithmetic; a word of even length is all
+-- pairs if it is all digits (`pairs-even`), so that the code may look at them one by one.
 use Prim.Native.Nat.{ℕ, zero, suc, _+_, _-_, _*_, _/_, _%_, _≤_, _<_}
 use mathlib.Core.Path.{_≡_, refl, sym, _∙_, ap}
 use mathlib.Core.List.{List, [], _∷_}
@@ -11,38 +12,41 @@ use native.Mathlib.Numerals.{add-one}
 use borrow.Author.Tests.{eq-eqb, ne-eqb, le-leb, lt-leb}
 use Rattle.octets.proofs.Laws.{copied}
 use Rattle.octets.specs.Octets.{over}
+use Rattle.words.specs.Words.{digitZero, digitNine, upperA, upperF, lowerA, lowerF, upperAbove, lowerAbove}
 use Rattle.hexadecimal.specs.Hexadecimal.{hexCode, isHex, allPairs, pairOf, octetsOf}
 
 -- ## A digit
 
 module _ (c : ℕ) where
-  pub hex-figure : 48 ≤ c → c ≤ 57 → c - 48 ≡ hexCode c
+  pub hex-figure : digitZero ≤ c → c ≤ digitNine → c - digitZero ≡ hexCode c
   unfolding hexCode
-  hex-figure h k = rw (le-leb 48 c h, le-leb c 57 k)
+  hex-figure h k = rw (le-leb digitZero c h, le-leb c digitNine k)
 
-  pub hex-upper : 65 ≤ c → c ≤ 70 → c - 55 ≡ hexCode c
+  pub hex-upper : upperA ≤ c → c ≤ upperF → c - upperAbove ≡ hexCode c
   unfolding hexCode
-  hex-upper h k = simp (le-leb 48 c (omega arith), lt-leb c 57 (omega arith), le-leb 65 c h, le-leb c 70 k)
+  hex-upper h k = simp (le-leb digitZero c (omega arith), lt-leb c digitNine (omega arith), le-leb upperA c h, le-leb c upperF k)
 
-  pub hex-lower : 97 ≤ c → c ≤ 102 → c - 87 ≡ hexCode c
+  pub hex-lower : lowerA ≤ c → c ≤ lowerF → c - lowerAbove ≡ hexCode c
   unfolding hexCode
-  hex-lower h k = simp (le-leb 48 c (omega arith), lt-leb c 57 (omega arith), le-leb 65 c (omega arith), lt-leb c 70 (omega arith), le-leb 97 c h, le-leb c 102 k)
+  hex-lower h k = simp (le-leb digitZero c (omega arith), lt-leb c digitNine (omega arith), le-leb upperA c (omega arith), lt-leb c upperF (omega arith), le-leb lowerA c h, le-leb c lowerF k)
 
-  pub hex-before : c < 48 → 16 ≡ hexCode c
+  pub hex-before : c < digitZero → 16 ≡ hexCode c
   unfolding hexCode
-  hex-before h = simp (lt-leb 48 c h, lt-leb 65 c (omega arith), lt-leb 97 c (omega arith))
+  hex-before h = simp (lt-leb digitZero c h, lt-leb upperA c (omega arith), lt-leb lowerA c (omega arith))
 
-  pub hex-between : 57 < c → c < 65 → 16 ≡ hexCode c
+  pub hex-between : digitNine < c → c < upperA → 16 ≡ hexCode c
   unfolding hexCode
-  hex-between h k = simp (le-leb 48 c (omega arith), lt-leb c 57 h, lt-leb 65 c k, lt-leb 97 c (omega arith))
+  hex-between h k = simp (le-leb digitZero c (omega arith), lt-leb c digitNine h, lt-leb upperA c k, lt-leb lowerA c (omega arith))
 
-  pub hex-amid : 70 < c → c < 97 → 16 ≡ hexCode c
+  pub hex-amid : upperF < c → c < lowerA → 16 ≡ hexCode c
   unfolding hexCode
-  hex-amid h k = simp (le-leb 48 c (omega arith), lt-leb c 57 (omega arith), le-leb 65 c (omega arith), lt-leb c 70 h, lt-leb 97 c k)
+  hex-amid h k = simp (le-leb digitZero c (omega arith), lt-leb c digitNine (omega arith), le-leb upperA c (omega arith), lt-leb c upperF h, lt-leb lowerA c k)
 
-  pub hex-behind : 102 < c → 16 ≡ hexCode c
+  pub hex-behind : lowerF < c → 16 ≡ hexCode c
   unfolding hexCode
-  hex-behind h = simp (le-leb 48 c (omega arith), lt-leb c 57 (omega arith), le-leb 65 c (omega arith), lt-leb c 70 (omega arith), le-leb 97 c (omega arith), lt-leb c 102 h)
+  hex-behind h =
+      simp
+      (le-leb digitZero c (omega arith), lt-leb c digitNine (omega arith), le-leb upperA c (omega arith), lt-leb c upperF (omega arith), le-leb lowerA c (omega arith), lt-leb c lowerF h)
 
 -- ## Pairs of digits
 

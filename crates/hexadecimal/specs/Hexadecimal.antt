@@ -5,14 +5,22 @@ use mathlib.Core.List.{List, [], _∷_}
 use lib.Dec.{eqb, ltb, leb}
 use lib.ListN.{length}
 use Rattle.objects.specs.Objects.{sidSize, naiSize}
+use Rattle.words.specs.Words.{digitZero, digitNine, upperA, upperF, lowerA, lowerF, upperAbove, lowerAbove}
 use Rattle.decimal.specs.Decimal.{isNone, isEmpty}
 
--- `0` to `9`, `A` to `F`, `a` to `f`: what the digit is worth; 16 for any other octet
+-- what no digit is worth
+abbrev pub noDigit : ℕ
+noDigit = 16
+
+-- `0` to `9`, `A` to `F`, `a` to `f`: what the digit is worth; `noDigit` for any other octet
 unfoldable pub hexCode : ℕ → ℕ
-hexCode c = cond (leb 48 c && leb c 57) (c - 48) (cond (leb 65 c && leb c 70) (c - 55) (cond (leb 97 c && leb c 102) (c - 87) 16))
+hexCode c =
+    cond (leb digitZero c && leb c digitNine) (c - digitZero)
+    (cond (leb upperA c && leb c upperF) (c - upperAbove)
+    (cond (leb lowerA c && leb c lowerF) (c - lowerAbove) noDigit))
 
 unfoldable pub isHex : ℕ → Bool
-isHex c = not (eqb (hexCode c) 16)
+isHex c = not (eqb (hexCode c) noDigit)
 
 -- "pairs of hexadecimal digits with nothing between them, read in either case"
 unfoldable pub allPairs : List ℕ → Bool

@@ -4,37 +4,45 @@ ghost use mathlib.Core.Path.{_≡_};
 ghost use Prim.Native.Nat.{_+_, _*_, _≤_};
 ghost use lib.ListN.{length};
 ghost use Rattle.octets.specs.Octets.{over};
-ghost use Rattle.hexadecimal.specs.Hexadecimal.{hexCode, pairOf, allPairs, isOctets, octetsOf, isSid, isNai};
+ghost use Rattle.hexadecimal.specs.Hexadecimal.{noDigit, hexCode, pairOf, allPairs, isOctets, octetsOf, isSid, isNai};
 use decimal::is_none;
 use objects::NAI_SIZE;
 use objects::SID_SIZE;
 use octets::both;
 use octets::either;
+use words::DIGIT_NINE;
+use words::DIGIT_ZERO;
+use words::LOWER_A;
+use words::LOWER_ABOVE;
+use words::LOWER_F;
+use words::UPPER_A;
+use words::UPPER_ABOVE;
+use words::UPPER_F;
 
 // what no digit is worth
 const NO_DIGIT: u8 = 16;
 
 // 0 to 15 for a digit, 16 for any other octet.
 fn hex_code(c: u8) -> u8
-    ensures code { λ r. ⌜ (r ≡ hexCode c) × (r ≤ 16) ⌝ }
+    ensures code { λ r. ⌜ (r ≡ hexCode c) × (r ≤ noDigit) ⌝ }
 {
-    if c < 48 {
+    if c < DIGIT_ZERO {
         return NO_DIGIT;
     }
-    if c <= 57 {
-        return c - 48;
+    if c <= DIGIT_NINE {
+        return c - DIGIT_ZERO;
     }
-    if c < 65 {
+    if c < UPPER_A {
         return NO_DIGIT;
     }
-    if c <= 70 {
-        return c - 55;
+    if c <= UPPER_F {
+        return c - UPPER_ABOVE;
     }
-    if c < 97 {
+    if c < LOWER_A {
         return NO_DIGIT;
     }
-    if c <= 102 {
-        return c - 87;
+    if c <= LOWER_F {
+        return c - LOWER_ABOVE;
     }
     NO_DIGIT
 }

@@ -1,6 +1,7 @@
--- The laws of text, in the order of the definitions.
+-- The laws of text, in the order of the definitions. The library's digits are those of `spell` (`digits-spell`, by induction on their number), and 20 are enough (`fewest-20`); texts of octets
+-- and lists grow by one element at a time (`hex-more`, `further-more`), and texts laid one behind the other are joined by `then`.
 use Prim.Native.Nat.{ℕ, zero, suc, _+_, _-_, _*_, _/_, _%_, _^_, _≤_, _<_}
-use mathlib.Core.Path.{_≡_, refl, sym, _∙_, ap}
+use mathlib.Core.Path.{_≡_, refl, sym, _∙_, ap, subst}
 use mathlib.Core.Bool.{Bool, true, false, cond}
 use mathlib.Core.List.{List, [], _∷_, _++_, append-assoc, append-nil}
 use lib.Dec.{ltb, leb}
@@ -123,6 +124,10 @@ then {b = b} {x = x} {y = y} {at = at} p q = record {
   text = q .text ∙ rw (p .text) (append-assoc (take at b) x y);
   room = q .room ∙ p .room;
 }
+
+-- The line of a row, or of whatever else it hangs on.
+pub behind-by : {A : Type 0} (f : A → List ℕ) {row x : A} {before after : List ℕ} {r : ℕ} → row ≡ x → Behind before after 0 r (f x) → Behind before after 0 r (f row)
+behind-by {A} f {before = before} {after} {r} p b = subst (λ (y : A). Behind before after 0 r (f y)) (sym p) b
 
 -- none, or digits
 pub dash-for-none : (s : List ℕ) → length s ≡ 0 → octetsText s ≡ 45 ∷ []

@@ -5,24 +5,31 @@ use mathlib.Core.Bool.{Bool, true, false, cond}
 use mathlib.Core.List.{List, [], _∷_, _++_}
 use lib.Dec.{ltb}
 use lib.ListN.{length, take}
-use Rattle.words.specs.Words.{space, comma, dash}
+use Rattle.words.specs.Words.{space, comma, dash, digitZero, upperAbove}
 
 -- ## Numbers
 
 -- At most f digits of n, without zeros in front.
 unfoldable pub spell : ℕ → ℕ → List ℕ
 spell zero n = []
-spell (suc f) n = cond (ltb n 10) ((48 + n) ∷ []) (spell f (n / 10) ++ ((48 + n % 10) ∷ []))
+spell (suc f) n = cond (ltb n 10) ((digitZero + n) ∷ []) (spell f (n / 10) ++ ((digitZero + n % 10) ∷ []))
 
--- A number below 2^64 has at most 20 digits.
+-- A number below 2^64 has at most 20 digits,
+abbrev pub numberSize : ℕ
+numberSize = 20
+
+-- and with a space or a comma before it takes one octet more.
+abbrev pub fieldSize : ℕ
+fieldSize = 21
+
 unfoldable pub decimalOf : ℕ → List ℕ
-decimalOf n = spell 20 n
+decimalOf n = spell numberSize n
 
 -- ## Octets
 
 -- the digit that is worth d: `0` to `9`, `A` to `F`
 unfoldable pub glyphOf : ℕ → ℕ
-glyphOf d = cond (ltb d 10) (48 + d) (55 + d)
+glyphOf d = cond (ltb d 10) (digitZero + d) (upperAbove + d)
 
 unfoldable pub hexOf : List ℕ → List ℕ
 hexOf [] = []

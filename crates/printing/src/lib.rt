@@ -5,10 +5,15 @@ ghost use Prim.Native.Nat.{_+_, _*_, _≤_};
 ghost use mathlib.Core.Path.{_≡_};
 ghost use mathlib.Core.List.{[], _∷_};
 ghost use lib.ListN.{length};
-ghost use Rattle.printing.specs.Text.{Behind, decimalOf, glyphOf, hexOf, octetsText, furtherText, listText, spaced};
+ghost use Rattle.printing.specs.Text.{Behind, numberSize, fieldSize, decimalOf, glyphOf, hexOf, octetsText, furtherText, listText, spaced};
 use words::COMMA;
 use words::DASH;
+use words::DIGIT_ZERO;
 use words::SPACE;
+use words::UPPER_ABOVE;
+
+// the octets that a number takes at most
+const NUMBER_SIZE: usize = 20;
 
 const GAP: [u8; 1] = [SPACE];
 
@@ -27,11 +32,11 @@ pub fn push(out: &mut [u8], at: usize, src: &[u8]) -> usize
 
 // The digits of a number.
 pub fn number(out: &mut [u8], at: usize, n: u64) -> usize
-    requires { ⌜ at + 20 ≤ length (now out) ⌝ }
+    requires { ⌜ at + numberSize ≤ length (now out) ⌝ }
     ensures behind { λ r. ⌜ Behind (now (out .entry)) (now (out .exit)) at r (decimalOf n) ⌝ }
-    ensures short { λ r. ⌜ r ≤ at + 20 ⌝ }
+    ensures short { λ r. ⌜ r ≤ at + numberSize ⌝ }
 {
-    let mut text = [0u8; 20];
+    let mut text = [0u8; NUMBER_SIZE];
     let k = io::decimal(n, &mut text);
     push(out, at, &text[..k])
 }
@@ -41,7 +46,7 @@ fn glyph(d: u8) -> u8
     requires { ⌜ d ≤ 15 ⌝ }
     ensures glyph { λ r. ⌜ r ≡ glyphOf d ⌝ }
 {
-    if d < 10 { 48 + d } else { 55 + d }
+    if d < 10 { DIGIT_ZERO + d } else { UPPER_ABOVE + d }
 }
 
 // The pairs of digits of octets.
@@ -73,9 +78,9 @@ pub fn octets(out: &mut [u8], at: usize, s: &[u8]) -> usize
 
 // A space and a number.
 pub fn field(out: &mut [u8], at: usize, n: u64) -> usize
-    requires { ⌜ at + 21 ≤ length (now out) ⌝ }
+    requires { ⌜ at + fieldSize ≤ length (now out) ⌝ }
     ensures behind { λ r. ⌜ Behind (now (out .entry)) (now (out .exit)) at r (spaced (decimalOf n)) ⌝ }
-    ensures short { λ r. ⌜ r ≤ at + 21 ⌝ }
+    ensures short { λ r. ⌜ r ≤ at + fieldSize ⌝ }
 {
     let end = push(out, at, &GAP);
     number(out, end, n)
@@ -93,9 +98,9 @@ pub fn octets_field(out: &mut [u8], at: usize, s: &[u8]) -> usize
 
 // Numbers behind the first of a list, each behind a comma.
 fn further(out: &mut [u8], at: usize, s: &[u8]) -> usize
-    requires { ⌜ at + 21 * length (now s) ≤ length (now out) ⌝ }
+    requires { ⌜ at + fieldSize * length (now s) ≤ length (now out) ⌝ }
     ensures behind { λ r. ⌜ Behind (now (out .entry)) (now (out .exit)) at r (furtherText (now (s .entry))) ⌝ }
-    ensures short { λ r. ⌜ r ≤ at + 21 * length (now (s .entry)) ⌝ }
+    ensures short { λ r. ⌜ r ≤ at + fieldSize * length (now (s .entry)) ⌝ }
 {
     let mut end = at;
     let mut i: usize = 0;
@@ -110,9 +115,9 @@ fn further(out: &mut [u8], at: usize, s: &[u8]) -> usize
 
 // Numbers joined by commas, `-` for none.
 pub fn list(out: &mut [u8], at: usize, s: &[u8]) -> usize
-    requires { ⌜ at + 21 * length (now s) + 1 ≤ length (now out) ⌝ }
+    requires { ⌜ at + fieldSize * length (now s) + 1 ≤ length (now out) ⌝ }
     ensures behind { λ r. ⌜ Behind (now (out .entry)) (now (out .exit)) at r (listText (now (s .entry))) ⌝ }
-    ensures short { λ r. ⌜ r ≤ at + 21 * length (now (s .entry)) + 1 ⌝ }
+    ensures short { λ r. ⌜ r ≤ at + fieldSize * length (now (s .entry)) + 1 ⌝ }
 {
     if s.len() == 0 {
         return push(out, at, &NONE);
@@ -123,9 +128,9 @@ pub fn list(out: &mut [u8], at: usize, s: &[u8]) -> usize
 
 // A space and a list.
 pub fn list_field(out: &mut [u8], at: usize, s: &[u8]) -> usize
-    requires { ⌜ at + 21 * length (now s) + 2 ≤ length (now out) ⌝ }
+    requires { ⌜ at + fieldSize * length (now s) + 2 ≤ length (now out) ⌝ }
     ensures behind { λ r. ⌜ Behind (now (out .entry)) (now (out .exit)) at r (spaced (listText (now (s .entry)))) ⌝ }
-    ensures short { λ r. ⌜ r ≤ at + 21 * length (now (s .entry)) + 2 ⌝ }
+    ensures short { λ r. ⌜ r ≤ at + fieldSize * length (now (s .entry)) + 2 ⌝ }
 {
     let end = push(out, at, &GAP);
     list(out, end, s)

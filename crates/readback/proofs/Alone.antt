@@ -7,7 +7,7 @@ use mathlib.Core.List.{List, [], _∷_, _++_}
 use lib.Dec.{eqb, ltb}
 use lib.ListN.{length}
 use native.Mathlib.Omega.{arith}
-use Rattle.octets.proofs.Said.{and-false}
+use Rattle.octets.proofs.Said.{and-false, or-none}
 use Rattle.objects.specs.Objects.{mplsSetup}
 use Rattle.answers.specs.Verdicts.{kept}
 use Rattle.octets.specs.Octets.{placed}
@@ -45,13 +45,7 @@ unfolding tidyOf
 tidy-alone g = rw (nai-alone (g .nt))
 
 or-last : (a b c d : Bool) → d ≡ false → (a || (b || (c || d))) ≡ (a || (b || c))
-or-last a b c d e = rw e (go a b c)
-  where
-    go : (a b c : Bool) → (a || (b || (c || false))) ≡ (a || (b || c))
-    go true b c = refl
-    go false true c = refl
-    go false false true = refl
-    go false false false = refl
+or-last a b c d e = rw (e, or-none c)
 
 module _ (g : Segment) (no-m : g .labelled ≡ false) (no-c : g .complete ≡ false) where
   formed : malformed (headOfSegment srv6Form g) ≡ false

@@ -1,6 +1,7 @@
--- What a run that was accepted leaves: every segment was fit, and the object is the one of the segments.
+-- What a run that was accepted leaves: every segment was fit, and the object is the one of the segments. By induction over the segments still to add, with what has been added so far as a
+-- body behind the header (`Under`, `adds`); an acceptance of each call gives the next step (`add-onward`). The second theorem follows: the object hangs on kind, form and segments alone.
 use Prim.Native.Nat.{ℕ, suc, _+_, _-_, _*_, _%_, _≤_, _<_}
-use mathlib.Core.Path.{_≡_, refl, sym, _∙_, ap}
+use mathlib.Core.Path.{_≡_, refl, sym, _∙_, ap, subst}
 use mathlib.Core.Bool.{Bool, true, false, cond, not, _&&_, _||_}
 use mathlib.Core.List.{List, [], _∷_, _++_, append-assoc, append-nil}
 use lib.ListN.{length, take, drop, length-append}
@@ -12,27 +13,18 @@ use Rattle.octets.specs.Octets.{hi, lo, over, placed}
 use Rattle.forms.specs.declared.Form.{Form}
 use Rattle.forms.specs.Forms.{formOf}
 use Rattle.subobject.specs.declared.segment.Segment.{Segment}
-use Rattle.subobject.specs.Rules.{rule8, rule9, rule11, labelAt, timeAt, rule29, rule30}
-use Rattle.subobject.specs.Segments.{headOfSegment, subobjectOf, bitsOf}
+use Rattle.subobject.specs.Segments.{subobjectOf}
 use Rattle.writer_layout.proofs.Forms.{readable-by}
 use Rattle.writer_state.specs.declared.Writer.{Writer}
 use Rattle.writer_state.specs.declared.Written.{Written}
-use Rattle.writer_rules.specs.Refusals.{unfit, addNumber, finishNumber}
-use Rattle.writer_rules.proofs.Laws.{Proper, Taken, taken, Done, done}
+use Rattle.writer_rules.specs.Refusals.{addNumber, finishNumber}
+use Rattle.writer_rules.proofs.Laws.{Fit, Proper, Taken, taken, Done, done}
 use Rattle.writer_state.specs.Answers.{answered, refusedAs, acceptedAs}
 use Rattle.writer_ends.specs.Ends.{headerOf, beginNumber, beginAnswer, beginBuffer, finishAnswer, finishBuffer}
 use Rattle.writer.specs.Writing.{addAnswerIn, addBufferIn, addAnswer, addBuffer}
 use Rattle.readback.specs.Runs.{Run, onward, beginRun, addRun, finishRun, addsRun, writeRun, Accepted, objectIn, writtenBody, objectOf}
 
--- A segment that adding takes, but for the room.
-pub record Fit (form : Form) (ero : Bool) (g : Segment) : Type 0 where
-  pub r8 : rule8 form (headOfSegment form g) ≡ false
-  pub r9 : rule9 (headOfSegment form g) ≡ false
-  pub fit : unfit form ero g ≡ false
-  pub r11 : rule11 (headOfSegment form g) (bitsOf g) ≡ false
-  pub r29 : rule29 (headOfSegment form g) (labelAt (g .sid) 0) ≡ false
-  pub r30 : rule30 (headOfSegment form g) (timeAt (g .sid) 0) ≡ false
-
+-- Segments that adding takes, but for the room.
 pub data AllFit (form : Form) (ero : Bool) : List Segment → Type 0 where
   none : AllFit form ero []
   also : {g : Segment} {gs : List Segment} → Fit form ero g → AllFit form ero gs → AllFit form ero (g ∷ gs)
@@ -118,7 +110,7 @@ unfolding beginAnswer beginBuffer
 begin-onward b w ero pst next e = rw e
 
 fit-of : (form : Form) (ero : Bool) (room : ℕ) (w : Writer) (g : Segment) → w .ero ≡ ero → Taken form room (w .ero) (w .at) g → Fit form ero g
-fit-of form ero room w g e t = record { r8 = t .r8; r9 = t .r9; fit = rw e at (t .fit); r11 = t .r11; r29 = t .r29; r30 = t .r30 }
+fit-of form ero room w g e t = subst (λ (x : Bool). Fit form x g) e (t .segment)
 
 adds : {ero : Bool} (gs : List Segment) (body rest b : List ℕ) (w : Writer) → w .ero ≡ ero → w .at ≡ 4 + length body → b ≡ headerOf ero 4 ++ (body ++ rest)
     → Accepted (addsRun b w gs) → Under (formOf (w .form)) ero body gs (addsRun b w gs)

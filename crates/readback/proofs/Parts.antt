@@ -11,6 +11,7 @@ use borrow.Author.Tests.{eqb-true, eq-eqb}
 use Rattle.octets.specs.Octets.{octetOf, part, over, partOf}
 use Rattle.octets.proofs.Laws.{length-part, length-over, getD-part}
 use Rattle.writer_spare.specs.Spare.{zeros}
+use Rattle.writer_spare.proofs.Laws.{zeros-both}
 use Rattle.readback.specs.Ignored.{EachOctet}
 use Rattle.octets.proofs.Said.{both-true}
 use Rattle.readback.proofs.Stands.{drop-zeros}
@@ -20,10 +21,6 @@ use Rattle.readback.proofs.Stands.{drop-zeros}
 pub part-add : (s : List ℕ) (at n m : ℕ) → part s at (n + m) ≡ part s at n ++ part s (at + n) m
 unfolding part
 part-add s at n m = take-add n m (drop at s) ∙ rw (drop-drop n at s)
-
-pub part-none : (s : List ℕ) (at : ℕ) → part s at 0 ≡ []
-unfolding part
-part-none s at = refl
 
 pub length-partOf : (s : List ℕ) (at n m : ℕ) → at + n ≤ length s → n ≤ m → length (partOf s at n m) ≡ m
 unfolding partOf
@@ -65,15 +62,10 @@ zeros-replicate ℕ.zero = refl
 zeros-replicate (ℕ.suc n) = zeros-replicate n
 
 pub zeros-append : (x y : List ℕ) → zeros x ≡ true → zeros y ≡ true → zeros (x ++ y) ≡ true
-zeros-append [] y e f = f
-zeros-append (a ∷ x) y e f = let p = both-true (eqb a 0) (zeros x) e in rw (p .0) (zeros-append x y (p .1) f)
+zeros-append x y e f = zeros-both x y ∙ rw (e, f)
 
 pub zeros-split : (x y : List ℕ) → zeros (x ++ y) ≡ true → (zeros x ≡ true) × (zeros y ≡ true)
-zeros-split [] y e = (refl, e)
-zeros-split (a ∷ x) y e =
-    let p = both-true (eqb a 0) (zeros (x ++ y)) e in
-    let q = zeros-split x y (p .1) in
-    (rw (p .0) (q .0), q .1)
+zeros-split x y e = both-true (zeros x) (zeros y) (sym (zeros-both x y) ∙ e)
 
 pub zeros-cons : (a : ℕ) (x : List ℕ) → a ≡ 0 → zeros x ≡ true → zeros (a ∷ x) ≡ true
 zeros-cons a x e f = rw (eq-eqb a 0 e) f

@@ -1,4 +1,5 @@
--- The first theorem: what was written is read back.
+-- The first theorem: what was written is read back. The body splits at the lengths that its second octets say (`apart-body`), each subobject stands at its place and reads as its segment
+-- (`reads`, from Segments), and so no check of the whole object finds anything (`checks-all`); which object that is, Images says.
 use Prim.Native.Nat.{ℕ, zero, suc, _+_, _-_, _*_, _/_, _%_, _≤_, _<_}
 use mathlib.Core.Path.{_≡_, refl, sym, _∙_, ap}
 use mathlib.Core.Bool.{Bool, true, false, false≢true, cond, not, _&&_, _||_}
@@ -11,7 +12,7 @@ use native.Mathlib.Omega.{arith}
 use borrow.Author.Tests.{eq-eqb, ne-eqb, eqb-true, eqb-false, not-false, le-ltb, lt-ltb, le-leb}
 use Rattle.octets.specs.Octets.{octetOf, be16, hi, lo, part, over, partOf}
 use Rattle.octets.proofs.Laws.{length-part, getD-part}
-use Rattle.octets.proofs.Said.{both-true}
+use Rattle.octets.proofs.Said.{both-true, and-false, and-no}
 use Rattle.answers.specs.Verdicts.{acceptedWith, carryingBoth}
 use Rattle.forms.specs.declared.Form.{Form}
 use Rattle.forms.specs.Forms.{srv6Form, mplsForm, formOf, naiLength}
@@ -41,14 +42,14 @@ use Rattle.forms.proofs.Laws.{sized-by}
 use Rattle.writer_layout.proofs.Forms.{readable-by}
 use Rattle.writer_state.specs.declared.Writer.{Writer}
 use Rattle.writer_rules.specs.Refusals.{unfit}
-use Rattle.writer_rules.proofs.Laws.{size-subobject}
+use Rattle.writer_rules.proofs.Laws.{Fit, size-subobject}
 use Rattle.writer_ends.specs.Ends.{headerOf}
 use Rattle.readback.specs.Runs.{Run, writeRun, Accepted, objectIn, writtenBody, objectOf, AllHeld, openSession}
 use Rattle.readback.specs.Runs.AllHeld.{more}
 use Rattle.readback.specs.Ignored.{ignoredAt, ignoredIn, ignoredOf}
 use Rattle.readback.proofs.Parts.{zeros-append, zeros-cons}
 use Rattle.readback.proofs.Images.AllFit.{also}
-use Rattle.readback.proofs.Images.{Fit, AllFit, Image, image, length-object}
+use Rattle.readback.proofs.Images.{AllFit, Image, image, length-object}
 use Rattle.readback.proofs.Stands.{Stands, stands-octet, stands-first}
 use Rattle.readback.proofs.Segments.{Plain, plain, there, stands-four, stands-sid, stands-bits, head-back, segment-back, strays-back, ignored-back}
 
@@ -252,12 +253,7 @@ rule7-off form g e =
 
 rule10-off : (ero : Bool) (h : Head) → rule10 h ero true ≡ false
 unfolding rule10
-rule10-off ero h = go ero (eqb (h .s) 1)
-  where
-    go : (a b : Bool) → (a && (b && false)) ≡ false
-    go true true = refl
-    go true false = refl
-    go false b = refl
+rule10-off ero h = and-no ero _ (and-false (eqb (h .s) 1))
 
 module _ {form : Form} {ero : Bool} {s : List ℕ} where
   kind-read : {p : ℕ} {g : Segment} → Reads form ero s p g → kindAt s ero p ≡ form .kind

@@ -1,4 +1,5 @@
--- The third theorem: rewriting what was read gives the same octets exactly if all ignored bits were 0.
+-- The third theorem: rewriting what was read gives the same octets exactly if all ignored bits were 0. An acceptance says that the subobjects form a chain to the end (`Chain`), all of
+-- the form's type and sound (`all-sound`); then each run of octets, header and subobjects, is compared with the written one by itself (`header-same`, `header-back`; Subobjects).
 use Prim.Native.Nat.{ℕ, zero, suc, _+_, _-_, _*_, _/_, _%_, _≤_, _<_}
 use mathlib.Core.Path.{_≡_, refl, sym, _∙_, ap}
 use mathlib.Core.Bool.{Bool, true, false, cond, not, _&&_, _||_}
@@ -37,7 +38,8 @@ use Rattle.writer_ends.specs.Ends.{headerOf, beginNumber}
 use Rattle.readback.specs.Runs.{Run, onward, beginRun, addRun, finishRun, addsRun, writeRun, Accepted, objectIn, writtenBody, objectOf, AllHeld}
 use Rattle.readback.specs.Runs.AllHeld.{none as held-none, more}
 use Rattle.readback.specs.Ignored.{EachOctet, ignoredAt, ignoredIn, ignoredOf, askedFrom, segmentsRead}
-use Rattle.readback.proofs.Images.{Fit, AllFit, Image, image, length-object, finish-number, add-number, begin-number, add-onward, begin-onward}
+use Rattle.writer_rules.proofs.Laws.{Fit}
+use Rattle.readback.proofs.Images.{AllFit, Image, image, length-object, finish-number, add-number, begin-number, add-onward, begin-onward}
 use Rattle.readback.proofs.Images.AllFit.{none as fit-none, also}
 use Rattle.octets.proofs.Said.{both-true}
 use Rattle.readback.proofs.Reading.{sub-fours}

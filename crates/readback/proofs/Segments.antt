@@ -1,4 +1,5 @@
--- A segment is read back from its octets.
+-- A segment is read back from its octets. A fit segment keeps to what `Plain` lists; where its subobject stands in a string, so does each part, at a place that the lengths before it give
+-- (`stands-fixed` to `stands-last`), and from each part one field of the segment comes back; then the strays, and the ignored bits, are 0.
 use Prim.Native.Nat.{ℕ, _+_, _-_, _*_, _/_, _%_, _≤_, _<_}
 use mathlib.Core.Path.{_≡_, refl, sym, _∙_, ap}
 use mathlib.Core.Bool.{Bool, true, false, cond, not, _&&_, _||_}
@@ -10,6 +11,7 @@ use native.Mathlib.Nat.{add-assoc}
 use native.Mathlib.Omega.{arith}
 use borrow.Author.Tests.{eqb-true, eq-eqb, ne-eqb, not-false}
 use Rattle.octets.specs.Octets.{octetOf, be16, part, over, partOf, hi, lo}
+use Rattle.octets.proofs.Laws.{part-none}
 use Rattle.forms.specs.declared.Form.{Form}
 use Rattle.forms.specs.Forms.{flagIn, naiLength}
 use Rattle.forms.specs.Sized.{Sized}
@@ -28,7 +30,6 @@ use Rattle.octets.proofs.Said.{both-true, either-false, cond-most}
 use Rattle.writer_rules.specs.Refusals.{foreign, unfit}
 use Rattle.readback.specs.Ignored.{unassignedAt, assignedAt, endingAt, ignoredAt}
 use Rattle.readback.proofs.Parts.{zeros-append, zeros-cons}
-use Rattle.readback.proofs.Images.{Fit}
 use Rattle.readback.proofs.Stands.{Stands, stands-octet, stands-first, stands-left, stands-right, stands-part, padded-back}
 
 -- what a fit segment keeps to ----------------------------------------------------------------------------------
@@ -178,10 +179,6 @@ there form g e = go (g .structured) (g .hassid) e
 pub sided : (g : Segment) → g .structured ≡ true → (g .structured && not (g .hassid)) ≡ false → g .hassid ≡ true
 sided g q e = not-false (g .hassid) (rw q at e)
 
-nothing : (s : List ℕ) (at : ℕ) → part s at 0 ≡ []
-unfolding part
-nothing s at = refl
-
 -- A SID that is there, as long as the form has it.
 full-sid : (form : Form) (g : Segment) → g .hassid ≡ true → sidLength form (headOfSegment form g .s) ≡ form .sid
 full-sid form g e = sid-there form g ∙ ap (λ (b : Bool). cond {A = ℕ} b (form .sid) 0) e
@@ -280,7 +277,7 @@ module _ {form : Form} (z : Sized form) (r : Readable form) {s : List ℕ} {at :
   bits-part h n true q =
       let p = stands-part (g .structure) (stands-bits h q n) in
       rw q ((rw (h .structure) at p) ∙ sym (take-all 4 (g .structure) (omega (arith, h .structure))))
-  bits-part h n false q = rw q (nothing s (at + form .fixed + form .sid + naiLength form (g .nt)))
+  bits-part h n false q = rw q (part-none s (at + form .fixed + form .sid + naiLength form (g .nt)))
 
   pub structure-back : Held g → tidyOf form g ≡ true → (g .structured && not (g .hassid)) ≡ false
       → partOf s (at + form .fixed + form .sid + naiLength form (g .nt)) (cond (g .structured) 4 0) 4 ≡ g .structure

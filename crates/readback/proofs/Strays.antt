@@ -1,12 +1,12 @@
--- Which of the ignored bits make a segment stray: the unassigned and the reserved ones, and no others.
+-- Which of the ignored bits make a segment stray: the unassigned and the reserved ones, and no others. Each number that counts a stray is 0 exactly if its octets or bits are (`flags-zero`,
+-- `ending-zero`); so both sides become the same tests, in another order (`any-way`, `sorted`).
 use Prim.Native.Nat.{ℕ, zero, suc, _+_, _*_, _/_, _%_, _<_}
 use mathlib.Core.Path.{_≡_, refl, sym, _∙_, ap}
 use mathlib.Core.Bool.{Bool, true, false, cond, not, _&&_, _||_}
 use mathlib.Core.List.{List, [], _∷_, _++_}
 use lib.Dec.{eqb}
-use lib.ListN.{getD, take, drop}
-use lib.Seq.{getD-drop}
-use native.Mathlib.Nat.{add-assoc, add-zero, zero-add, suc-mul}
+use lib.ListN.{getD}
+use native.Mathlib.Nat.{add-assoc, zero-add, suc-mul}
 use native.Mathlib.Omega.{arith}
 use borrow.Author.Tests.{eqb-true, eq-eqb, ne-eqb}
 use Rattle.octets.specs.Octets.{octetOf, be16, part}
@@ -17,17 +17,10 @@ use Rattle.subobject.specs.Rules.{hasStructure}
 use Rattle.subobject_strays.specs.Strays.{strayFlags, structureReserved, structureFlags, reservedOctets, anySet, straysAt, isStray, strayIn}
 use Rattle.frame.specs.Frames.{placesOf}
 use Rattle.writer_spare.specs.Spare.{zeros}
+use Rattle.writer_spare.proofs.Laws.{zeros-both, part-zero}
 use Rattle.writer_layout.specs.Readable.{Readable}
 use Rattle.readback.specs.Ignored.{EachOctet, unassignedAt, endingAt, assignedAt, ignoredAt, strayBitsAt, ignoredIn, strayBitsIn, assignedIn, ignoredOf}
 use Rattle.readback.proofs.Parts.{octet-small}
-
-zeros-both : (x y : List ℕ) → zeros (x ++ y) ≡ (zeros x && zeros y)
-zeros-both [] y = refl
-zeros-both (a ∷ x) y = rw (zeros-both x y) (go (eqb a 0))
-  where
-    go : (b : Bool) → (b && (zeros x && zeros y)) ≡ ((b && zeros x) && zeros y)
-    go true = refl
-    go false = refl
 
 -- one subobject ------------------------------------------------------------------------------------------------
 
@@ -43,20 +36,6 @@ unfolding strayFlags be16 octetOf
 flags-zero {form} z r s at o =
     let h : getD s (at + 3) 0 < 256 = octet-small s o (at + 3) in
     rw (add-assoc at 2 1, r .strays (getD s (at + 2) 0) (getD s (at + 3) 0) h) (sum-zero (getD s (at + 2) 0 % 16) (getD s (at + 3) 0 / form .free) (form .free) (z .free))
-
-four-zero : (x : List ℕ) → zeros (take 4 x) ≡ (eqb (getD x 0 0) 0 && (eqb (getD x 1 0) 0 && (eqb (getD x 2 0) 0 && (eqb (getD x 3 0) 0 && true))))
-four-zero [] = refl
-four-zero (a ∷ []) = refl
-four-zero (a ∷ b ∷ []) = refl
-four-zero (a ∷ b ∷ c ∷ []) = refl
-four-zero (a ∷ b ∷ c ∷ d ∷ x) = refl
-
-part-zero : (s : List ℕ) (p : ℕ)
-    → zeros (part s p 4) ≡ (eqb (octetOf s p) 0 && (eqb (octetOf s (p + 1)) 0 && (eqb (octetOf s (p + 2)) 0 && (eqb (octetOf s (p + 3)) 0 && true))))
-unfolding part octetOf
-part-zero s p =
-    let e0 : getD (drop p s) 0 0 ≡ getD s p 0 = getD-drop p s 0 0 ∙ ap (λ (i : ℕ). getD s i 0) (add-zero p) in
-    four-zero (drop p s) ∙ rw (e0, getD-drop p s 1 0, getD-drop p s 2 0, getD-drop p s 3 0)
 
 -- Octets of which one is set are not all 0.
 any-zeros : (x : List ℕ) → anySet x ≡ not (zeros x)

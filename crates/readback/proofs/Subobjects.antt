@@ -1,4 +1,5 @@
--- One subobject that was read: the segment that it says is fit to be written, and its octets are the same exactly if the ignored bits are 0.
+-- One subobject that was read: the segment that it says is fit to be written, and its octets are the same exactly if the ignored bits are 0. The head that is written is the one read but
+-- for T without a SID (`again`), so what holds of one holds of the other; then both strings are split into the same parts, and each is the same exactly if its own ignored bits are 0.
 use Prim.Native.Nat.{ℕ, zero, suc, _+_, _-_, _*_, _/_, _%_, _≤_, _<_}
 use mathlib.Core.Path.{_≡_, refl, sym, _∙_, ap}
 use mathlib.Core.Bool.{Bool, true, false, cond, not, _&&_, _||_}
@@ -10,7 +11,7 @@ use native.Mathlib.Omega.{arith}
 use native.Mathlib.Nat.{add-zero, add-assoc, add-mul, suc-mul}
 use borrow.Author.Tests.{eqb-true, eq-eqb, ne-eqb, not-false}
 use Rattle.octets.specs.Octets.{octetOf, be16, part, over, partOf, hi, lo}
-use Rattle.octets.proofs.Laws.{length-part, getD-part}
+use Rattle.octets.proofs.Laws.{length-part, getD-part, part-none}
 use Rattle.forms.specs.declared.Form.{Form}
 use Rattle.forms.specs.Forms.{flagIn, naiLength}
 use Rattle.forms.specs.Sized.{Sized}
@@ -27,12 +28,11 @@ use Rattle.writer_layout.specs.Readable.{together, Readable}
 use Rattle.writer_layout.proofs.Laws.{length-fixed, four}
 use Rattle.octets.proofs.Said.{both-true, either-false, cond-most}
 use Rattle.writer_rules.specs.Refusals.{foreign, unfit}
-use Rattle.writer_rules.proofs.Laws.{size-subobject}
+use Rattle.writer_rules.proofs.Laws.{Fit, size-subobject}
 use Rattle.readback.specs.Ignored.{EachOctet, unassignedAt, assignedAt, endingAt, ignoredAt}
-use Rattle.readback.proofs.Images.{Fit}
 use Rattle.readback.proofs.Stands.{Stands, zeros-are}
 use Rattle.readback.proofs.Reading.{bits-off, sum-back, label-part, time-part, label-off, time-off, label-sid}
-use Rattle.readback.proofs.Parts.{part-add, part-none, length-partOf, take-partOf, drop-partOf, append-same, octet-small, zeros-replicate, zeros-append, zeros-split, zeros-cons, zeros-uncons}
+use Rattle.readback.proofs.Parts.{part-add, length-partOf, take-partOf, drop-partOf, append-same, octet-small, zeros-replicate, zeros-append, zeros-split, zeros-cons, zeros-uncons}
 
 -- What an acceptance says of a subobject.
 pub record Sound (form : Form) (ero : Bool) (s : List ℕ) (at : ℕ) : Type 0 where

@@ -1,4 +1,5 @@
--- The theorems, over the definitions that the contracts of the writer and of the reader cite.
+-- The theorems, over the definitions that the contracts of the writer and of the reader cite. Each is proved in a file of its own, 1 in Reading, 2 in Images, 3 in Rewriting, 4 in Strays,
+-- 5 in Mixed, and stated here; what only joins two of them is proved here.
 use Prim.Native.Nat.{ℕ, _%_, _≤_, _<_}
 use mathlib.Core.Path.{_≡_, refl, sym, _∙_, ap}
 use mathlib.Core.Bool.{Bool, true, not, _&&_}

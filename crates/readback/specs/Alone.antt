@@ -1,5 +1,5 @@
--- Writing SRv6 by itself, in document 01's own numbers ("Writing a route"). No contract cites it: that SRv6 is written as before rests on it, and proofs/Alone
--- shows that adding to a route that was begun under any setup type but 1 computes to it.
+-- Writing SRv6 by itself, in document 01's own numbers ("Writing a route"). No contract cites it: that SRv6 is written as document 01 alone says rests on it, and
+-- proofs/Alone shows that adding to a route that was begun under any setup type but 1 computes to it.
 use Prim.Native.Nat.{ℕ, _+_, _*_}
 use mathlib.Core.Bool.{Bool, cond, not, _&&_, _||_}
 use mathlib.Core.List.{List, [], _∷_, _++_}

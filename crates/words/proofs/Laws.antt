@@ -1,4 +1,5 @@
--- The laws of words, in the order of the definitions.
+-- The laws of words, in the order of the definitions. The code walks by places, the definitions by what is left of the line: each law says what one more octet at a place does to what is
+-- left from there (`drop-cons`), and a word's end is the length of what lies before the next mark.
 use Prim.Native.Nat.{ℕ, zero, suc, _+_, _-_, _≤_, _<_}
 use mathlib.Core.Path.{_≡_, refl, sym, _∙_, ap}
 use mathlib.Core.List.{List, [], _∷_, _++_}

@@ -25,6 +25,33 @@ dash = 45
 abbrev pub newline : ℕ
 newline = 10
 
+-- `0` to `9`
+abbrev pub digitZero : ℕ
+digitZero = 48
+
+abbrev pub digitNine : ℕ
+digitNine = 57
+
+-- `A` to `F` and `a` to `f`, as digits worth 10 to 15
+abbrev pub upperA : ℕ
+upperA = 65
+
+abbrev pub upperF : ℕ
+upperF = 70
+
+abbrev pub lowerA : ℕ
+lowerA = 97
+
+abbrev pub lowerF : ℕ
+lowerF = 102
+
+-- how far such a letter lies above what it is worth
+abbrev pub upperAbove : ℕ
+upperAbove = 55
+
+abbrev pub lowerAbove : ℕ
+lowerAbove = 87
+
 -- The octets of a text.
 abbrev pub ascii : String → List ℕ
 ascii end = []

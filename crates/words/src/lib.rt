@@ -14,6 +14,25 @@ pub const DASH: u8 = 45;
 
 pub const NEWLINE: u8 = 10;
 
+// `0` to `9`
+pub const DIGIT_ZERO: u8 = 48;
+
+pub const DIGIT_NINE: u8 = 57;
+
+// `A` to `F` and `a` to `f`, as digits worth 10 to 15
+pub const UPPER_A: u8 = 65;
+
+pub const UPPER_F: u8 = 70;
+
+pub const LOWER_A: u8 = 97;
+
+pub const LOWER_F: u8 = 102;
+
+// how far such a letter lies above what it is worth
+pub const UPPER_ABOVE: u8 = UPPER_A - 10;
+
+pub const LOWER_ABOVE: u8 = LOWER_A - 10;
+
 // The place of the first `mark` from `from` on, or the line's end.
 fn mark_from(line: &[u8], from: usize, mark: u8) -> usize
     requires { ⌜ from ≤ length (now line) ⌝ }

@@ -7,10 +7,18 @@ ghost use Rattle.octets.specs.Octets.{hi, lo, over, placed};
 ghost use Rattle.forms.specs.Sized.{Sized};
 ghost use Rattle.subobject.specs.Layout.{worthL, worthNT};
 ghost use Rattle.subobject.specs.Segments.{flagsOctet, fixedOctets};
+ghost use Rattle.subobject_strays.specs.Strays.{reservedPlace};
 ghost use Rattle.writer_spare.specs.Steps.{Known};
 ghost use Rattle.writer_fixed.specs.Small.{Small};
 use forms::Form;
+use subobject::BEHAVIOUR_PLACE;
 use subobject::Head;
+use subobject_strays::RESERVED_PLACE;
+
+// the second octets of the reserved ones and of the behaviour
+const RESERVED_LAST: usize = RESERVED_PLACE + 1;
+
+const BEHAVIOUR_LAST: usize = BEHAVIOUR_PLACE + 1;
 
 // What a flag adds to its octet.
 fn worth(flag: usize, w: u8) -> usize
@@ -74,12 +82,12 @@ fn four(out: &mut [u8], form: Form, h: Head, size: usize)
 // Two reserved octets and the endpoint behaviour.
 fn four_more(out: &mut [u8], behaviour: usize)
     requires { ⌜ 8 ≤ length (now out) ⌝ }
-    ensures four { λ _. ⌜ now (out .exit) ≡ placed (now (out .entry)) 4 (0 ∷ 0 ∷ hi behaviour ∷ lo behaviour ∷ []) ⌝ }
+    ensures four { λ _. ⌜ now (out .exit) ≡ placed (now (out .entry)) reservedPlace (0 ∷ 0 ∷ hi behaviour ∷ lo behaviour ∷ []) ⌝ }
 {
-    out[4] = 0;
-    out[5] = 0;
-    out[6] = (behaviour / 256 % 256) as u8;
-    out[7] = (behaviour % 256) as u8;
+    out[RESERVED_PLACE] = 0;
+    out[RESERVED_LAST] = 0;
+    out[BEHAVIOUR_PLACE] = (behaviour / 256 % 256) as u8;
+    out[BEHAVIOUR_LAST] = (behaviour % 256) as u8;
 }
 
 // The octets before the SID.

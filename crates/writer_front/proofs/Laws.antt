@@ -1,11 +1,13 @@
--- The octets before an NAI and in it, by each way out of the code. Assumes nothing.
+-- The octets before an NAI and in it, by each way out of the code: the tests made there are put into the definition, and what is left computes. The order in which a form's tests are made
+-- is compared with the definition's by going through their values (`srv6-barred`, `mpls-barred`). Assumes nothing.
 use Prim.Native.Nat.{ℕ, _+_}
-use mathlib.Core.Path.{_≡_, refl, _∙_, subst}
+use mathlib.Core.Path.{_≡_, refl, sym, _∙_, subst}
 use mathlib.Core.Bool.{Bool, true, false, cond, not, _&&_, _||_}
 use mathlib.Core.List.{List}
 use lib.Dec.{eqb}
 use lib.ListN.{drop}
 use native.Mathlib.Omega.{arith}
+use Rattle.octets.proofs.Said.{and-false, cond-yes, cond-no}
 use Rattle.forms.specs.declared.Form.{Form}
 use Rattle.forms.specs.Forms.{srv6Form, mplsForm, naiLength}
 use Rattle.forms.proofs.Laws.{of-both}
@@ -17,28 +19,18 @@ use Rattle.writer_spare.specs.Steps.{Known}
 use Rattle.writer_front.specs.Foreign.{foreign}
 use Rattle.writer_front.specs.Front.{strayed, barred, lead, frontOf}
 
-cond-yes : {A : Type 0} (b : Bool) (x y : A) → b ≡ true → x ≡ cond b x y
-cond-yes b x y e = rw e
-
-pub cond-no : {A : Type 0} (b : Bool) (x y : A) → b ≡ false → y ≡ cond b x y
-cond-no b x y e = rw e
-
 module _ (form : Form) (o : Outline) (sid : List ℕ) where
   strayed-sid : o .hassid ≡ true → (b : Bool) → zeros (drop (form .sid) sid) ≡ b → strayed form o sid ≡ not b
   unfolding strayed
-  strayed-sid t b e = rw (t, e) (go (o .structured))
-    where
-      go : (x : Bool) → ((x && false) || not b) ≡ not b
-      go true = refl
-      go false = refl
+  strayed-sid t b e = rw (t, e, and-false (o .structured))
 
   pub before-stray : o .hassid ≡ true → zeros (drop (form .sid) sid) ≡ false → 0 ≡ cond (strayed form o sid) 0 (lead form o)
-  before-stray t e = cond-yes _ _ _ (strayed-sid t false e)
+  before-stray t e = sym (cond-yes _ _ _ (strayed-sid t false e))
 
   pub before-sid : {w k : ℕ} → o .hassid ≡ true → zeros (drop (form .sid) sid) ≡ true → w ≡ form .fixed → k ≡ form .sid
       → w + k ≡ cond (strayed form o sid) 0 (lead form o)
   before-sid {w} {k} t e ew ek =
-      let q : w + k ≡ lead form o = rw (t, ew, ek) in q ∙ cond-no (strayed form o sid) 0 (lead form o) (strayed-sid t true e)
+      let q : w + k ≡ lead form o = rw (t, ew, ek) in q ∙ sym (cond-no (strayed form o sid) 0 (lead form o) (strayed-sid t true e))
 
   pub before-structure : o .hassid ≡ false → o .structured ≡ true → 0 ≡ cond (strayed form o sid) 0 (lead form o)
   unfolding strayed
@@ -68,10 +60,10 @@ ill-by form o = go (o .labelled) (o .hassid) (o .complete)
     go false false false = refl
 
 pub ill-labelled : (form : Form) (o : Outline) → o .labelled ≡ true → not (o .hassid) ≡ malformed (headOfOutline form o)
-ill-labelled form o e = cond-yes (o .labelled) (not (o .hassid)) (o .complete) e ∙ ill-by form o
+ill-labelled form o e = sym (cond-yes (o .labelled) (not (o .hassid)) (o .complete) e) ∙ ill-by form o
 
 pub ill-other : (form : Form) (o : Outline) → o .labelled ≡ false → o .complete ≡ malformed (headOfOutline form o)
-ill-other form o e = cond-no (o .labelled) (not (o .hassid)) (o .complete) e ∙ ill-by form o
+ill-other form o e = sym (cond-no (o .labelled) (not (o .hassid)) (o .complete) e) ∙ ill-by form o
 
 -- What bars a segment of either form.
 pub srv6-barred : (o : Outline) (sid : List ℕ) → barred srv6Form o sid ≡ cond (o .labelled) true (cond (o .complete) true (strayed srv6Form o sid))

@@ -1,8 +1,10 @@
--- Both forms can be read again when they are written. Assumes nothing.
+-- Both forms can be read again when they are written. For each form the numbers are known, so that flags in an octet are linear arithmetic (`omega`); an octet is put together again bit by
+-- bit (`by-four`). Assumes nothing.
 use Prim.Native.Nat.{ℕ, _+_, _*_, _/_, _%_, _≤_, _<_}
 use mathlib.Core.Path.{_≡_, refl, sym}
 use mathlib.Core.Bool.{Bool, true, false, cond}
 use lib.Dec.{eqb}
+use native.Mathlib.Nat.{div-one}
 use native.Mathlib.Omega.{arith}
 use Rattle.forms.specs.declared.Form.{Form}
 use Rattle.forms.specs.Forms.{srv6Form, mplsForm, formOf, flagIn, naiLength}
@@ -50,9 +52,6 @@ by-four a =
 one-more : (a : ℕ) → a / 32 * 32 + a / 16 % 2 * 16 ≡ a / 16 * 16
 one-more a = let q32 : a / 32 ≡ a / 16 / 2 = omega arith in omega arith
 
-by-one : (a : ℕ) → a / 1 ≡ a
-by-one a = omega arith
-
 srv6-sum : (x v t f s a : ℕ) → x + v * 8 + t * 4 + f * 2 + s ≡ a → x + (v * 8 + t * 4 + f * 2 + s * 1 + 0 + 0) ≡ a
 srv6-sum x v t f s a e = omega arith
 
@@ -60,11 +59,11 @@ mpls-sum : (x y v f s c m a : ℕ) → x * 32 + v * 16 ≡ y → y + f * 8 + s *
 mpls-sum x y v f s c m a e d = omega arith
 
 srv6-whole : (a : ℕ) → a / 16 * 16 + (a / 8 % 2 * 8 + a / 4 % 2 * 4 + a / 2 % 2 * 2 + a / 1 % 2 * 1 + 0 + 0) ≡ a
-srv6-whole a = rw (by-one a) (srv6-sum (a / 16 * 16) (a / 8 % 2) (a / 4 % 2) (a / 2 % 2) (a % 2) a (by-four a))
+srv6-whole a = rw (div-one a) (srv6-sum (a / 16 * 16) (a / 8 % 2) (a / 4 % 2) (a / 2 % 2) (a % 2) a (by-four a))
 
 mpls-whole : (a : ℕ) → a / 32 * 32 + (a / 16 % 2 * 16 + 0 + a / 8 % 2 * 8 + a / 4 % 2 * 4 + a / 2 % 2 * 2 + a / 1 % 2 * 1) ≡ a
 mpls-whole a =
-    rw (by-one a) (mpls-sum (a / 32) (a / 16 * 16) (a / 16 % 2) (a / 8 % 2) (a / 4 % 2) (a / 2 % 2) (a % 2) a (one-more a) (by-four a))
+    rw (div-one a) (mpls-sum (a / 32) (a / 16 * 16) (a / 16 % 2) (a / 8 % 2) (a / 4 % 2) (a / 2 % 2) (a % 2) a (one-more a) (by-four a))
 
 srv6-strays : (a b : ℕ) → b < 256 → (a * 256 + b) % 4096 / 16 * 16 ≡ a % 16 * 256 + b / 16 * 16
 srv6-strays a b h =

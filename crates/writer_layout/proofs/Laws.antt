@@ -1,4 +1,5 @@
--- Laws about the runs of octets that a subobject is made of.
+-- Laws about the runs of octets that a subobject is made of: how long each is (`length-subobject` adds them up), that the head's numbers fit their bits (`small-head`), and that four runs laid
+-- one behind the other are the subobject (`written`, by `over-at` from run to run).
 use Prim.Native.Nat.{ℕ, suc, _+_, _*_, _≤_, _<_}
 use mathlib.Core.Path.{_≡_, refl, sym, _∙_, ap}
 use mathlib.Core.Bool.{Bool, true, false, cond, not, _&&_, _||_}
@@ -14,7 +15,7 @@ use Rattle.octets.proofs.Said.{cond-most}
 use Rattle.forms.specs.declared.Form.{Form}
 use Rattle.forms.specs.Forms.{naiLength, knows}
 use Rattle.forms.specs.Sized.{Sized}
-use Rattle.forms.proofs.Laws.{nai-most}
+use Rattle.forms.proofs.Laws.{fixed-most, nai-most}
 use Rattle.subobject.specs.declared.segment.Segment.{Segment}
 use Rattle.subobject.specs.declared.head.Head.{Head}
 use Rattle.subobject.specs.Layout.{sidLength, structureLength, expectedLength, structureThere}
@@ -23,7 +24,6 @@ use Rattle.subobject.specs.Segments.{headOfSegment, flagsOctet, fixedOctets, st
 use Rattle.writer_spare.specs.Held.{Held}
 use Rattle.writer_layout.specs.Readable.{Readable}
 use Rattle.writer_fixed.specs.Small.{Small}
-use Rattle.writer_fixed.proofs.Laws.{fixed-most}
 
 -- Four octets one by one.
 pub four : (l : List ℕ) → length l ≡ 4 → l ≡ getD l 0 0 ∷ getD l 1 0 ∷ getD l 2 0 ∷ getD l 3 0 ∷ []

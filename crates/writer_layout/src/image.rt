@@ -37,7 +37,9 @@ pub fn write(
     nai: &[u8],
     bits: &[u8],
 )
-    requires { ⌜ (Held (segmentWith o (now sid) (now nai) (now bits))) × (h ≡ headOfOutline form o) × (rule8 form h ≡ false) × (length (subobjectOf form (segmentWith o (now sid) (now nai) (now bits))) ≤ length (now out)) × (Sized form) × (Readable form) × (Parts form h front n size) × (o .structured ≡ hasStructure h) ⌝ }
+    requires { let g = segmentWith o (now sid) (now nai) (now bits) in
+        ⌜ (Held g) × (h ≡ headOfOutline form o) × (rule8 form h ≡ false) × (length (subobjectOf form g) ≤ length (now out))
+        × (Sized form) × (Readable form) × (Parts form h front n size) × (o .structured ≡ hasStructure h) ⌝ }
     ensures written { λ _. ⌜ now (out .exit) ≡ over (subobjectOf form (segmentWith o (now (sid .entry)) (now (nai .entry)) (now (bits .entry)))) (now (out .entry)) ⌝ }
 {
     let last = structure(bits);

@@ -1,4 +1,5 @@
--- Parts laid one by one, there or not. Assumes nothing.
+-- Parts laid one by one, there or not. A part that goes through an array of its own is that array (`own`), so what is laid is the part; an absent one is a run of no octets
+-- (`placed-none`). An NAI's length is one of six, and a test between two of them leaves one (`step-40` and so on). Assumes nothing.
 use Prim.Native.Nat.{ℕ, _+_, _≤_, _<_}
 use mathlib.Core.Path.{_≡_, refl, sym, _∙_, ap}
 use mathlib.Core.Bool.{Bool, true, false, cond}

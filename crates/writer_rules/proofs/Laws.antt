@@ -1,4 +1,5 @@
--- What an acceptance says, in the order of specs/Refusals. Assumes nothing.
+-- What an acceptance says, in the order of specs/Refusals, and what the code's looks find. An acceptance is a chain of tests that all failed: `no-refusal` takes them off one by one. What the code
+-- looks at together (the octets before the NAI, those kept for parts that are absent) is turned into the rule by going through the values of its tests. Assumes nothing.
 use Prim.Native.Nat.{ℕ, suc, _+_, _%_, _≤_}
 use mathlib.Core.Path.{_≡_, refl, sym, _∙_, ap}
 use mathlib.Core.Bool.{Bool, true, false, false≢true, cond, not, _&&_, _||_}
@@ -8,12 +9,12 @@ use lib.ListN.{length, drop}
 use borrow.Author.Tests.{eq-eqb, ne-eqb, eqb-true, eqb-false, ltb-false, not-false}
 use native.Mathlib.Omega.{arith}
 use Rattle.answers.specs.Numbers.{lengthWrong, naiUnknown, nothingThere}
-use Rattle.octets.proofs.Said.{either-false, both-true, and-false, cond-most}
+use Rattle.octets.proofs.Said.{either-false, both-true, and-false, cond-no, cond-most}
 use Rattle.objects.specs.Objects.{header, unit}
 use Rattle.forms.specs.declared.Form.{Form}
 use Rattle.forms.specs.Forms.{naiLength, knows}
 use Rattle.forms.specs.Sized.{Sized}
-use Rattle.forms.proofs.Laws.{nai-none}
+use Rattle.forms.proofs.Laws.{fixed-least, fixed-most, nai-most, nai-none}
 use Rattle.subobject.specs.declared.head.Head.{Head}
 use Rattle.subobject.specs.declared.segment.Outline.{Outline}
 use Rattle.subobject.specs.declared.segment.Segment.{Segment}
@@ -23,12 +24,11 @@ use Rattle.subobject.specs.Segments.{outlineOf, headOfOutline, headOfSegment, s
 use Rattle.writer_spare.specs.Held.{Held}
 use Rattle.writer_spare.specs.Spare.{zeros, tidyOf}
 use Rattle.writer_spare.proofs.Laws.{tidy-parts}
-use Rattle.writer_fixed.proofs.Laws.{fixed-least, fixed-most}
 use Rattle.writer_layout.specs.Parts.{Parts}
 use Rattle.writer_layout.proofs.Laws.{length-subobject}
 use Rattle.writer_rules.specs.Refusals.{mostOctets, passes, badPlace, foreign, unfit, noRoom, addNumber, finishNumber}
+use Rattle.writer_rules.specs.Looked.{Looked}
 use Rattle.writer_front.specs.Front.{strayed, barred, lead, frontOf}
-use Rattle.writer_front.proofs.Laws.{cond-no}
 
 -- tests --------------------------------------------------------------------------------------------------------
 
@@ -65,14 +65,18 @@ proper at room e =
 
 -- add ----------------------------------------------------------------------------------------------------------
 
--- What an acceptance says of the segment and the place.
-pub record Taken (form : Form) (room : ℕ) (ero : Bool) (at : ℕ) (g : Segment) : Type 0 where
+-- What an acceptance says of the segment,
+pub record Fit (form : Form) (ero : Bool) (g : Segment) : Type 0 where
   pub r8 : rule8 form (headOfSegment form g) ≡ false
   pub r9 : rule9 (headOfSegment form g) ≡ false
   pub fit : unfit form ero g ≡ false
   pub r11 : rule11 (headOfSegment form g) (bitsOf g) ≡ false
   pub r29 : rule29 (headOfSegment form g) (labelAt (g .sid) 0) ≡ false
   pub r30 : rule30 (headOfSegment form g) (timeAt (g .sid) 0) ≡ false
+
+-- and of the place.
+pub record Taken (form : Form) (room : ℕ) (ero : Bool) (at : ℕ) (g : Segment) : Type 0 where
+  pub segment : Fit form ero g
   pub place : Proper at room
   pub end : Within (at + length (subobjectOf form g)) room
 
@@ -88,7 +92,11 @@ taken form room ero at g e =
     let e30 = no-refusal (rule30 h (timeAt (g .sid) 0)) 29 _ (e29 .1) in
     let e16 = no-refusal (badPlace at room || passes (at + length (subobjectOf form g)) room) 15 0 (e30 .1) in
     let p = either-false (badPlace at room) (passes (at + length (subobjectOf form g)) room) (e16 .0) in
-    record { r8 = e8 .0; r9 = e9 .0; fit = e7 .0; r11 = e11 .0; r29 = e29 .0; r30 = e30 .0; place = proper at room (p .0); end = within _ room (p .1) }
+    record {
+      segment = record { r8 = e8 .0; r9 = e9 .0; fit = e7 .0; r11 = e11 .0; r29 = e29 .0; r30 = e30 .0 };
+      place = proper at room (p .0);
+      end = within _ room (p .1);
+    }
 
 -- The octets of a subobject are as many as its head says.
 pub size-subobject : {form : Form} → Sized form → (g : Segment) → Held g → headOfSegment form g .size ≡ length (subobjectOf form g)
@@ -121,7 +129,7 @@ front-zero {form} z o sid front e = go (barred form o sid) e
 
 front-lead : (form : Form) (o : Outline) (sid : List ℕ) (front : ℕ) → front ≡ frontOf form o sid → barred form o sid ≡ false → front ≡ lead form o
 unfolding frontOf
-front-lead form o sid front e b = e ∙ sym (cond-no (barred form o sid) 0 (lead form o) b)
+front-lead form o sid front e b = e ∙ cond-no (barred form o sid) 0 (lead form o) b
 
 -- what adding finds, from its looks -----------------------------------------------------------------------------
 
@@ -174,17 +182,16 @@ nameless-none a b r e z =
     (p .0, no-refusal b 8 0 (p .1) .0)
 
 -- 7, by what bars a segment before its NAI.
-pub misfit-unfit : {form : Form} → Sized form → (ero : Bool) (g : Segment) (front n : ℕ) (m : Bool) → Held g → front ≡ frontOf form (outlineOf g) (g .sid)
-    → n ≡ naiLength form (g .nt)
+pub misfit-unfit : {form : Form} {g : Segment} {h : Head} {front n size : ℕ} → Looked form g h front n size → (ero m : Bool)
     → m ≡ (eqb front 0 || ((not ero && (g .loose || g .verify)) || not ((g .structured || zeros (g .structure)) && zeros (drop n (g .nai))))) → m ≡ unfit form ero g
 unfolding unfit barred strayed headOfSegment
-misfit-unfit {form} z ero g front n m hg ef en e =
+misfit-unfit {form} {g} {h} {front} {n} k ero m e =
     let zs = zeros (drop (cond (g .hassid) (form .sid) 0) (g .sid)) in
     let y = (g .structured || zeros (g .structure)) && zeros (drop (naiLength form (g .nt)) (g .nai)) in
     let lv = not ero && (g .loose || g .verify) in
     let fm = foreign form (outlineOf g) || malformed (headOfOutline form (outlineOf g)) in
-    let q : m ≡ (barred form (outlineOf g) (g .sid) || (lv || not y)) = e ∙ rw (front-zero z (outlineOf g) (g .sid) front ef, en) in
-    q ∙ go fm (g .structured && not (g .hassid)) zs lv y ∙ rw (tidy-parts form g hg)
+    let q : m ≡ (barred form (outlineOf g) (g .sid) || (lv || not y)) = e ∙ rw (front-zero (k .sized) (outlineOf g) (g .sid) front (k .front), k .nai) in
+    q ∙ go fm (g .structured && not (g .hassid)) zs lv y ∙ rw (tidy-parts form g (k .held))
   where
     go : (fm sh zs lv y : Bool) → ((fm || (sh || not zs)) || (lv || not y)) ≡ (sh || (lv || (not (zs && y) || fm)))
     go true true zs lv y = refl
@@ -221,16 +228,16 @@ fit-lead {form} z ero g front ef u =
     let b : barred form o (g .sid) ≡ false = rw (r .1, p .0, t) in
     (front-lead form o (g .sid) front ef b, p .0)
 
-pub fits-by : {form : Form} → Sized form → (ero : Bool) (g : Segment) (front n size : ℕ) → Held g → front ≡ frontOf form (outlineOf g) (g .sid)
-    → n ≡ naiLength form (g .nt) → size ≡ front + n + cond (g .structured) structureSize 0 → unfit form ero g ≡ false → Fits form g front n size
+pub fits-by : {form : Form} {g : Segment} {h : Head} {front n size : ℕ} → Looked form g h front n size → (ero : Bool) → unfit form ero g ≡ false
+    → Fits form g front n size
 unfolding headOfSegment hasStructure expectedLength
-fits-by {form} z ero g front n size hg ef en es u =
-    let p = fit-lead z ero g front ef u in
+fits-by {form} {g} {h} {front} {n} {size} d ero u =
+    let p = fit-lead (d .sized) ero g front (d .front) u in
     let k : sidLength form (bit (not (g .hassid))) ≡ cond (g .hassid) (form .sid) 0 = sid-bit (g .hassid) in
     let t : g .structured ≡ structureThere (bit (not (g .hassid))) (bit (g .structured)) = there-bit (g .structured) (g .hassid) (p .1) in
     let f : front ≡ form .fixed + sidLength form (bit (not (g .hassid))) = p .0 ∙ rw k in
-    let w : size ≡ expectedLength form (g .nt) (bit (not (g .hassid))) (bit (g .structured)) = es ∙ rw (f, en, ← t) in
-    record { parts = record { front = f; nai = en; whole = w }; there = t; all = w ∙ size-subobject z g hg }
+    let w : size ≡ expectedLength form (g .nt) (bit (not (g .hassid))) (bit (g .structured)) = d .whole ∙ rw (f, d .nai, ← t) in
+    record { parts = record { front = f; nai = d .nai; whole = w }; there = t; all = w ∙ size-subobject (d .sized) g (d .held) }
   where
     sid-bit : (a : Bool) → sidLength form (bit (not a)) ≡ cond a (form .sid) 0
     sid-bit true = refl
@@ -250,6 +257,17 @@ front-most {form} z o sid front e = go (barred form o sid) e
     go : (b : Bool) → front ≡ cond b 0 (lead form o) → front ≤ 24
     go true q = omega arith
     go false q = omega (arith, fixed-most z, z .sid, cond-most (o .hassid) (form .sid))
+
+pub looked-most : {form : Form} {g : Segment} {h : Head} {front n size : ℕ} → Looked form g h front n size → size ≤ 72
+looked-most {form} {g} {front = front} k =
+    omega (
+      arith,
+      k .whole,
+      k .nai,
+      front-most (k .sized) (outlineOf g) (g .sid) front (k .front),
+      nai-most (k .sized) (g .nt),
+      cond-most (g .structured) structureSize,
+    )
 
 -- 11, where a structure has a SID.
 pub overlong-eleven : (form : Form) (g : Segment) (u : Bool) → g .structured ≡ hasStructure (headOfSegment form g)
@@ -287,12 +305,12 @@ unfolding rule30
 no-label-30 form g time e = rw (no-label form g e)
 
 -- A segment that is barred before its NAI.
-pub barred-number : {form : Form} → Sized form → (room : ℕ) (ero : Bool) (at : ℕ) (g : Segment) (h : Head) (front r : ℕ) → h ≡ headOfSegment form g
-    → front ≡ frontOf form (outlineOf g) (g .sid) → front ≡ 0 → r ≡ cond (rule8 form h) naiUnknown (cond (rule9 h) nothingThere lengthWrong)
+pub barred-number : {form : Form} {g : Segment} {h : Head} {front n size : ℕ} → Looked form g h front n size → (room : ℕ) (ero : Bool) (at r : ℕ) → front ≡ 0
+    → r ≡ cond (rule8 form h) naiUnknown (cond (rule9 h) nothingThere lengthWrong)
     → r ≡ addNumber form ero at room g
-unfolding addNumber
-barred-number {form} z room ero at g h front r eh ef e0 e = e ∙ rw (eh, go (unfit form ero g) refl)
+unfolding addNumber headOfSegment
+barred-number {form} {g} {front = front} k room ero at r e0 e = e ∙ rw (k .head, go (unfit form ero g) refl)
   where
     go : (u : Bool) → unfit form ero g ≡ u → unfit form ero g ≡ true
     go true q = q
-    go false q = absurd (omega (arith, fit-lead z ero g front ef q .0, fixed-least z, e0))
+    go false q = absurd (omega (arith, fit-lead (k .sized) ero g front (k .front) q .0, fixed-least (k .sized), e0))

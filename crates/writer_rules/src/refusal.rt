@@ -1,17 +1,12 @@
 // What adding and finishing refuse, as a number; 0 where they do not.
 ghost use mathlib.Core.Path.{_≡_};
 ghost use mathlib.Core.Bool.{false, cond};
-ghost use Prim.Native.Nat.{_+_};
 ghost use Rattle.answers.specs.Numbers.{lengthWrong, naiUnknown, nothingThere};
 ghost use Rattle.forms.specs.Forms.{naiLength};
-ghost use Rattle.forms.specs.Sized.{Sized};
-ghost use Rattle.subobject.specs.Layout.{structureSize};
 ghost use Rattle.subobject.specs.Rules.{rule8, rule9, flagF};
-ghost use Rattle.subobject.specs.Segments.{headOfOutline, segmentWith};
-ghost use Rattle.writer_spare.specs.Held.{Held};
-ghost use Rattle.writer_layout.specs.Readable.{Readable};
-ghost use Rattle.writer_front.specs.Front.{frontOf};
+ghost use Rattle.subobject.specs.Segments.{segmentWith};
 ghost use Rattle.writer_rules.specs.Refusals.{addNumber, finishNumber};
+ghost use Rattle.writer_rules.specs.Looked.{Looked};
 use forms::Form;
 use subobject::Head;
 use subobject::Outline;
@@ -60,7 +55,7 @@ pub fn adding_unlabelled(
     nai: &[u8],
     bits: &[u8],
 ) -> usize
-    requires { ⌜ (Held (segmentWith o (now sid) (now nai) (now bits))) × (h ≡ headOfOutline form o) × (Sized form) × (Readable form) × (front ≡ frontOf form o (now sid)) × (n ≡ naiLength form (o .nt)) × (size ≡ front + n + cond (o .structured) structureSize 0) × (o .labelled ≡ false) ⌝ }
+    requires { ⌜ Looked form (segmentWith o (now sid) (now nai) (now bits)) h front n size × (o .labelled ≡ false) ⌝ }
     ensures number { λ r. ⌜ r ≡ addNumber form ero at room (segmentWith o (now (sid .entry)) (now (nai .entry)) (now (bits .entry))) ⌝ }
 {
     let first = nameless(form, h, n);
@@ -94,7 +89,7 @@ pub fn adding_unstructured(
     nai: &[u8],
     bits: &[u8],
 ) -> usize
-    requires { ⌜ (Held (segmentWith o (now sid) (now nai) (now bits))) × (h ≡ headOfOutline form o) × (Sized form) × (Readable form) × (front ≡ frontOf form o (now sid)) × (n ≡ naiLength form (o .nt)) × (size ≡ front + n + cond (o .structured) structureSize 0) × (o .structured ≡ false) ⌝ }
+    requires { ⌜ Looked form (segmentWith o (now sid) (now nai) (now bits)) h front n size × (o .structured ≡ false) ⌝ }
     ensures number { λ r. ⌜ r ≡ addNumber form ero at room (segmentWith o (now (sid .entry)) (now (nai .entry)) (now (bits .entry))) ⌝ }
 {
     let first = nameless(form, h, n);

@@ -1,15 +1,17 @@
--- Octets that are all 0, four at a time and run by run; which form it is. Assumes nothing.
+-- Octets that are all 0, four at a time and run by run; which form it is. Four octets make a number that is 0 only if each is (`four-blank`); two runs one behind the other are 0 if both are
+-- (`zeros-both`), and so the looks of the code join to what stands behind an NAI of each length. Assumes nothing.
 use Prim.Native.Nat.{ℕ, _+_, _*_, _≤_, _<_}
 use mathlib.Core.Path.{_≡_, refl, sym, _∙_, ap}
 use mathlib.Core.Bool.{Bool, true, false, cond, _&&_, _||_}
 use mathlib.Core.List.{List, [], _∷_, _++_}
 use lib.Dec.{eqb}
 use lib.ListN.{length, getD, take, drop, drop-of-length-le, take-append-drop, length-drop}
-use lib.Seq.{take-all, take-add, drop-drop}
+use lib.Seq.{take-all, take-add, drop-drop, getD-drop}
+use native.Mathlib.Nat.{add-zero}
 use borrow.Author.Tests.{eq-eqb, ne-eqb, eqb-true, eqb-false}
 use native.Mathlib.Omega.{arith}
-use Rattle.octets.specs.Octets.{part}
-use Rattle.octets.proofs.Laws.{length-part, getD-part}
+use Rattle.octets.specs.Octets.{octetOf, part}
+use Rattle.octet_sums.specs.Sums.{fourOf, fourAt}
 use Rattle.forms.specs.declared.Form.{Form}
 use Rattle.forms.specs.Forms.{srv6Form, mplsForm, naiLength}
 use Rattle.subobject.specs.declared.segment.Segment.{Segment}
@@ -20,42 +22,42 @@ use Rattle.writer_spare.specs.Steps.{Known, Step}
 
 -- four octets as one number ------------------------------------------------------------------------------------
 
--- A sum is 0 where each octet is.
-sum-zero : (a b c d : ℕ) → eqb (a + b * 256 + c * 65536 + d * 16777216) 0 ≡ (eqb a 0 && (eqb b 0 && (eqb c 0 && (eqb d 0 && true))))
+-- It is 0 where each octet is.
+sum-zero : (a b c d : ℕ) → eqb (fourOf a b c d) 0 ≡ (eqb a 0 && (eqb b 0 && (eqb c 0 && (eqb d 0 && true))))
 sum-zero a b c d = go (eqb a 0) refl (eqb b 0) refl (eqb c 0) refl (eqb d 0) refl
   where
     go : (x : Bool) → eqb a 0 ≡ x → (y : Bool) → eqb b 0 ≡ y → (z : Bool) → eqb c 0 ≡ z → (w : Bool) → eqb d 0 ≡ w
-        → eqb (a + b * 256 + c * 65536 + d * 16777216) 0 ≡ (x && (y && (z && (w && true))))
-    go true p true q true r true s = eq-eqb (a + b * 256 + c * 65536 + d * 16777216) 0 (omega (arith, eqb-true a 0 p, eqb-true b 0 q, eqb-true c 0 r, eqb-true d 0 s))
-    go false p y q z r w s = ne-eqb (a + b * 256 + c * 65536 + d * 16777216) 0 (λ (e : a + b * 256 + c * 65536 + d * 16777216 ≡ 0). eqb-false a 0 p (omega arith))
-    go true p false q z r w s = ne-eqb (a + b * 256 + c * 65536 + d * 16777216) 0 (λ (e : a + b * 256 + c * 65536 + d * 16777216 ≡ 0). eqb-false b 0 q (omega arith))
-    go true p true q false r w s = ne-eqb (a + b * 256 + c * 65536 + d * 16777216) 0 (λ (e : a + b * 256 + c * 65536 + d * 16777216 ≡ 0). eqb-false c 0 r (omega arith))
-    go true p true q true r false s = ne-eqb (a + b * 256 + c * 65536 + d * 16777216) 0 (λ (e : a + b * 256 + c * 65536 + d * 16777216 ≡ 0). eqb-false d 0 s (omega arith))
+        → eqb (fourOf a b c d) 0 ≡ (x && (y && (z && (w && true))))
+    go true p true q true r true s = eq-eqb (fourOf a b c d) 0 (omega (arith, eqb-true a 0 p, eqb-true b 0 q, eqb-true c 0 r, eqb-true d 0 s))
+    go false p y q z r w s = ne-eqb (fourOf a b c d) 0 (λ (e : fourOf a b c d ≡ 0). eqb-false a 0 p (omega arith))
+    go true p false q z r w s = ne-eqb (fourOf a b c d) 0 (λ (e : fourOf a b c d ≡ 0). eqb-false b 0 q (omega arith))
+    go true p true q false r w s = ne-eqb (fourOf a b c d) 0 (λ (e : fourOf a b c d ≡ 0). eqb-false c 0 r (omega arith))
+    go true p true q true r false s = ne-eqb (fourOf a b c d) 0 (λ (e : fourOf a b c d ≡ 0). eqb-false d 0 s (omega arith))
 
 -- Four octets one by one.
-by-one : (l : List ℕ) → length l ≡ 4 → zeros l ≡ (eqb (getD l 0 0) 0 && (eqb (getD l 1 0) 0 && (eqb (getD l 2 0) 0 && (eqb (getD l 3 0) 0 && true))))
-by-one [] e = absurd (omega arith)
-by-one (a ∷ []) e = absurd (omega arith)
-by-one (a ∷ b ∷ []) e = absurd (omega arith)
-by-one (a ∷ b ∷ c ∷ []) e = absurd (omega arith)
-by-one (a ∷ b ∷ c ∷ d ∷ []) e = refl
-by-one (a ∷ b ∷ c ∷ d ∷ x ∷ l) e = absurd (omega arith)
+four-zero : (x : List ℕ) → zeros (take 4 x) ≡ (eqb (getD x 0 0) 0 && (eqb (getD x 1 0) 0 && (eqb (getD x 2 0) 0 && (eqb (getD x 3 0) 0 && true))))
+four-zero [] = refl
+four-zero (a ∷ []) = refl
+four-zero (a ∷ b ∷ []) = refl
+four-zero (a ∷ b ∷ c ∷ []) = refl
+four-zero (a ∷ b ∷ c ∷ d ∷ x) = refl
 
-pub four-blank : (s : List ℕ) (at a b c d : ℕ) → at + 4 ≤ length s → a ≡ getD s at 0 → b ≡ getD s (at + 1) 0 → c ≡ getD s (at + 2) 0 → d ≡ getD s (at + 3) 0
-    → eqb (a + b * 256 + c * 65536 + d * 16777216) 0 ≡ zeros (part s at 4)
-four-blank s at a b c d h ea eb ec ed =
-    let z : at + 0 ≡ at = omega arith in
-    let e0 : getD (part s at 4) 0 0 ≡ a = getD-part s at 4 0 (omega arith) ∙ rw z (sym ea) in
-    let e1 : getD (part s at 4) 1 0 ≡ b = getD-part s at 4 1 (omega arith) ∙ sym eb in
-    let e2 : getD (part s at 4) 2 0 ≡ c = getD-part s at 4 2 (omega arith) ∙ sym ec in
-    let e3 : getD (part s at 4) 3 0 ≡ d = getD-part s at 4 3 (omega arith) ∙ sym ed in
-    sum-zero a b c d ∙ sym (by-one (part s at 4) (length-part s at 4 h) ∙ rw (e0, e1, e2, e3))
+pub part-zero : (s : List ℕ) (p : ℕ)
+    → zeros (part s p 4) ≡ (eqb (octetOf s p) 0 && (eqb (octetOf s (p + 1)) 0 && (eqb (octetOf s (p + 2)) 0 && (eqb (octetOf s (p + 3)) 0 && true))))
+unfolding part octetOf
+part-zero s p =
+    let e0 : getD (drop p s) 0 0 ≡ getD s p 0 = getD-drop p s 0 0 ∙ ap (λ (i : ℕ). getD s i 0) (add-zero p) in
+    four-zero (drop p s) ∙ rw (e0, getD-drop p s 1 0, getD-drop p s 2 0, getD-drop p s 3 0)
+
+pub four-blank : (s : List ℕ) (at : ℕ) {n : ℕ} → n ≡ fourAt s at → eqb n 0 ≡ zeros (part s at 4)
+unfolding fourAt
+four-blank s at e = rw e (sum-zero (octetOf s at) (octetOf s (at + 1)) (octetOf s (at + 2)) (octetOf s (at + 3)) ∙ sym (part-zero s at))
 
 -- runs ---------------------------------------------------------------------------------------------------------
 
-zeros-append : (a b : List ℕ) → zeros (a ++ b) ≡ (zeros a && zeros b)
-zeros-append [] b = refl
-zeros-append (x ∷ a) b = go (eqb x 0) (zeros-append a b)
+pub zeros-both : (a b : List ℕ) → zeros (a ++ b) ≡ (zeros a && zeros b)
+zeros-both [] b = refl
+zeros-both (x ∷ a) b = go (eqb x 0) (zeros-both a b)
   where
     go : (t : Bool) → zeros (a ++ b) ≡ (zeros a && zeros b) → (t && zeros (a ++ b)) ≡ ((t && zeros a) && zeros b)
     go true e = e
@@ -66,14 +68,14 @@ pub runs : (s : List ℕ) (at m n : ℕ) → zeros (part s at (m + n)) ≡ (zero
 unfolding part
 runs s at m n =
     let l = drop at s in
-    ap zeros (take-add m n l) ∙ zeros-append (take m l) (take n (drop m l)) ∙ rw (drop-drop m at s)
+    ap zeros (take-add m n l) ∙ zeros-both (take m l) (take n (drop m l)) ∙ rw (drop-drop m at s)
 
 -- A run, and all that stands behind it.
 pub run-rest : (s : List ℕ) (at n m : ℕ) → at + n ≡ m → zeros (drop at s) ≡ (zeros (part s at n) && zeros (drop m s))
 unfolding part
 run-rest s at n m e =
     let l = drop at s in
-    ap zeros (sym (take-append-drop n l)) ∙ zeros-append (take n l) (drop n l) ∙ rw (drop-drop n at s, e)
+    ap zeros (sym (take-append-drop n l)) ∙ zeros-both (take n l) (drop n l) ∙ rw (drop-drop n at s, e)
 
 -- All octets of an array, and none behind its end.
 pub run-all : (s : List ℕ) (n : ℕ) → length s ≡ n → zeros (part s 0 n) ≡ zeros s

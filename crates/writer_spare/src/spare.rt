@@ -16,11 +16,7 @@ fn blank4(s: &[u8], at: usize) -> bool
     requires { ⌜ at + 4 ≤ length (now s) ⌝ }
     ensures blank { λ r. ⌜ r ≡ zeros (part (now (s .entry)) at 4) ⌝ }
 {
-    octets::wide(s[at])
-        + octets::wide(s[at + 1]) * 256
-        + octets::wide(s[at + 2]) * 65536
-        + octets::wide(s[at + 3]) * 16777216
-        == 0
+    octet_sums::four(s, at) == 0
 }
 
 fn blank8(s: &[u8], at: usize) -> bool

@@ -1,26 +1,23 @@
 -- What a call answers and leaves, from its refusal or acceptance. Assumes nothing.
 use Prim.Native.Nat.{ℕ}
-use mathlib.Core.Path.{_≡_, refl, sym, _∙_}
+use mathlib.Core.Path.{_≡_, sym, _∙_}
 use mathlib.Core.List.{List}
 use Rattle.answers.specs.Verdicts.{kept}
+use Rattle.answers.proofs.Kept.{kept-old}
 use Rattle.writer_state.specs.declared.Writer.{Writer}
 use Rattle.writer_state.specs.declared.Written.{Written}
 use Rattle.writer_state.specs.Answers.{refusedAs, acceptedAs, answered}
 
-pub kept-refused : {A : Type 0} (n : ℕ) (old new : A) → (n ≡ 0 → ⊥) → kept n old new ≡ old
-kept-refused ℕ.zero old new h = absurd (h refl)
-kept-refused (ℕ.suc n) old new h = refl
-
 -- what a call answers, from its refusal or acceptance ----------------------------------------------------------
 
 pub answered-refused : (m n : ℕ) (old new : Writer) {r : Written} → r ≡ refusedAs m old → m ≡ n → (m ≡ 0 → ⊥) → r ≡ answered n old new
-answered-refused m n old new e q h = e ∙ rw q (sym (kept-refused n (refusedAs n old) (acceptedAs new) (λ z. h (q ∙ z))))
+answered-refused m n old new e q h = e ∙ rw q (sym (kept-old n (refusedAs n old) (acceptedAs new) (λ z. h (q ∙ z))))
 
 pub answered-accepted : (n : ℕ) (old new : Writer) {r : Written} → r ≡ acceptedAs new → n ≡ 0 → r ≡ answered n old new
 answered-accepted n old new e q = e ∙ rw q
 
 pub buffer-refused : (m n : ℕ) (b after : List ℕ) → m ≡ n → (m ≡ 0 → ⊥) → b ≡ kept n b after
-buffer-refused m n b after q h = sym (kept-refused n b after (λ z. h (q ∙ z)))
+buffer-refused m n b after q h = sym (kept-old n b after (λ z. h (q ∙ z)))
 
 pub buffer-accepted : (n : ℕ) (b after : List ℕ) {x : List ℕ} → x ≡ after → n ≡ 0 → x ≡ kept n b after
 buffer-accepted n b after e q = e ∙ rw q

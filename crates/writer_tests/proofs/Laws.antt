@@ -5,7 +5,7 @@ use mathlib.Core.Bool.{Bool, true, false, not, _&&_, _||_}
 use lib.Dec.{eqb, ltb}
 use borrow.Author.Tests.{eq-eqb, ne-eqb, lt-ltb, ltb-true}
 use native.Mathlib.Omega.{arith}
-use Rattle.octets.proofs.Said.{either-false}
+use Rattle.octets.proofs.Said.{either-false, and-false, or-true}
 use Rattle.objects.specs.Objects.{header, unit}
 use Rattle.subobject.specs.declared.head.Head.{Head}
 use Rattle.subobject.specs.Rules.{hasLabel}
@@ -15,11 +15,7 @@ use Rattle.writer_tests.specs.Places.{mostOctets, passes, badPlace}
 -- 29 and 30 only where there is a label.
 pub no-label : (h : Head) (labelled : Bool) → h .m ≡ bit labelled → labelled ≡ false → hasLabel h ≡ false
 unfolding hasLabel
-no-label h labelled e t = let q : h .m ≡ 0 = e ∙ rw t in rw q (go (eqb (h .s) 0))
-  where
-    go : (x : Bool) → (x && false) ≡ false
-    go true = refl
-    go false = refl
+no-label h labelled e t = let q : h .m ≡ 0 = e ∙ rw t in rw q (and-false (eqb (h .s) 0))
 
 -- 16: a place that is past the end is one from which the segment passes it.
 module _ (at size room : ℕ) where
@@ -36,11 +32,7 @@ module _ (at size room : ℕ) where
 
   pub crowd-odd : (at % unit ≡ 0 → ⊥) → true ≡ (badPlace at room || passes (at + size) room)
   unfolding badPlace
-  crowd-odd h = rw (ne-eqb (at % unit) 0 h) (go (ltb at header))
-    where
-      go : (a : Bool) → true ≡ ((a || true) || passes (at + size) room)
-      go true = refl
-      go false = refl
+  crowd-odd h = rw (ne-eqb (at % unit) 0 h, or-true (ltb at header))
 
   pub crowd-end : (e r : Bool) → e ≡ (ltb at header || ltb mostOctets at) → e ≡ false → at % unit ≡ 0 → r ≡ passes (at + size) room
       → r ≡ (badPlace at room || passes (at + size) room)

@@ -1,5 +1,5 @@
--- One arm for each row that looks at the board: the row says which line the definition gives, the call laid that line, and `by-look` puts both together.
-use Rattle.console_board_rows.proofs.Laws.{by-look}
+-- One arm for each row that looks at the board: the row says which line the definition gives, the call laid that line, and `behind-by` puts both together.
+use Rattle.printing.proofs.Laws.{behind-by}
 use Rattle.command_rows.specs.declared.Looking.{Looking}
 use Rattle.console_board_rows.specs.Boarded.{lookedLine}
 use borrow.Author.Needs.{needs}
@@ -50,7 +50,7 @@ returns c =
     let before2 = c .before .before in
     let before4 = before2 .before .before in
     let a = before4 .before .before .before .before .args in
-    by-look (λ (y : Looking). lookedLine y (a .b) (a .store .now) (a .c)) (before4 .enum-told .given .1) (before2 .body .ensures)
+    behind-by (λ (y : Looking). lookedLine y (a .b) (a .store .now) (a .c)) (before4 .enum-told .given .1) (before2 .body .ensures)
 
 same-length-2 : tie.Need-same-length-2
 same-length-2 c = search needs
@@ -60,7 +60,7 @@ returns-2 c =
     let before2 = c .before .before in
     let before4 = before2 .before .before in
     let a = before4 .before .before .before .before .args in
-    by-look (λ (y : Looking). lookedLine y (a .b) (a .store .now) (a .c)) (before4 .enum-told2 .given .1) (before2 .next .ensures)
+    behind-by (λ (y : Looking). lookedLine y (a .b) (a .store .now) (a .c)) (before4 .enum-told2 .given .1) (before2 .next .ensures)
 
 same-length-3 : tie.Need-same-length-3
 same-length-3 c = search needs
@@ -70,7 +70,7 @@ returns-3 c =
     let before2 = c .before .before in
     let before4 = before2 .before .before in
     let a = before4 .before .before .before .before .args in
-    by-look (λ (y : Looking). lookedLine y (a .b) (a .store .now) (a .c)) (before4 .enum-told3 .given .1) (before2 .moved .ensures)
+    behind-by (λ (y : Looking). lookedLine y (a .b) (a .store .now) (a .c)) (before4 .enum-told3 .given .1) (before2 .moved .ensures)
 
 same-length-4 : tie.Need-same-length-4
 same-length-4 c = search needs
@@ -80,7 +80,7 @@ returns-4 c =
     let before2 = c .before .before in
     let before4 = before2 .before .before in
     let a = before4 .before .before .before .before .args in
-    by-look (λ (y : Looking). lookedLine y (a .b) (a .store .now) (a .c)) (before4 .enum-told4 .given .1) (before2 .mark .ensures)
+    behind-by (λ (y : Looking). lookedLine y (a .b) (a .store .now) (a .c)) (before4 .enum-told4 .given .1) (before2 .mark .ensures)
 
 same-length-5 : tie.Need-same-length-5
 same-length-5 c = search needs
@@ -90,7 +90,7 @@ returns-5 c =
     let before2 = c .before .before in
     let before4 = before2 .before .before in
     let a = before4 .before .before .before .before .args in
-    by-look (λ (y : Looking). lookedLine y (a .b) (a .store .now) (a .c)) (before4 .enum-told5 .given .1) (before2 .numbers .ensures)
+    behind-by (λ (y : Looking). lookedLine y (a .b) (a .store .now) (a .c)) (before4 .enum-told5 .given .1) (before2 .numbers .ensures)
 
 same-length-6 : tie.Need-same-length-6
 same-length-6 c = search needs
@@ -100,7 +100,7 @@ returns-6 c =
     let before2 = c .before .before in
     let before4 = before2 .before .before in
     let a = before4 .before .before .before .before .args in
-    by-look (λ (y : Looking). lookedLine y (a .b) (a .store .now) (a .c)) (before4 .enum-told6 .given .1) (before2 .chain .ensures)
+    behind-by (λ (y : Looking). lookedLine y (a .b) (a .store .now) (a .c)) (before4 .enum-told6 .given .1) (before2 .chain .ensures)
 
 pub looked-spec : {M : Type 1} → statement M
 looked-spec =

@@ -1,6 +1,7 @@
 -- Whether a begin is refused depends on whether its buffer has four octets (`Laws`), so that the trial's answer is the new buffer's; a refused one leaves
 -- all as it was, and an accepted one fills the first octets of the memory.
-use Rattle.console_writer.proofs.Laws.{begin-trial, begin-keeps, kept-old, kept-new}
+use Rattle.console_writer.proofs.Laws.{begin-trial, begin-keeps}
+use Rattle.answers.proofs.Kept.{kept-old, kept-new}
 use Rattle.console_writer.specs.Composing.{freshBuffer}
 use Rattle.writer_ends.specs.Ends.{beginAnswer, beginBuffer}
 use lib.Seq.{length-take-le, take-at}
@@ -50,7 +51,7 @@ returns c =
     )) in
     let h = rw e at (c .before .before .before .before .if1 .taken) in (
       begin-keeps (freshBuffer (a .c .three)) (a .old) (a .c .ero) (a .c .two) h,
-      (kept-old _ _ _ h, rw (← e) (c .before .before .placed .ensures)),
+      (sym (kept-old _ _ _ h), rw (← e) (c .before .before .placed .ensures)),
     )
 
 slice-relend-prefix-fresh : tie.Need-slice-relend-prefix-fresh
@@ -94,7 +95,7 @@ returns-2 c =
     let b = before7 .fresh .ensures .1 ∙ ap (λ (x : ℕ). beginBuffer (freshBuffer x) (a .old) (a .c .ero)) n in (
       rw (← e),
       (
-        take-at (before7 .fresh .last .0) (drop new m) new (before7 .fresh .kept .0 ∙ l) ∙ (b ∙ kept-new _ _ _ z),
+        take-at (before7 .fresh .last .0) (drop new m) new (before7 .fresh .kept .0 ∙ l) ∙ (b ∙ sym (kept-new _ _ _ z)),
         rw (← e) (c .before .before .placed2 .ensures),
       ),
     )

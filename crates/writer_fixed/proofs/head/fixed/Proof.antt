@@ -1,5 +1,6 @@
 use native.Mathlib.Omega.{arith}
-use Rattle.writer_fixed.proofs.Laws.{fixed-least, fixed-long, fixed-eight, fixed-four}
+use Rattle.writer_fixed.proofs.Laws.{laid-eight, laid-four}
+use Rattle.forms.proofs.Laws.{fixed-least, fixed-eight}
 use borrow.Author.Needs.{needs}
 use Rattle.writer_fixed.proofs.head.fixed.Statement.{statement}
 use Rattle.writer_fixed.proofs.head.fixed.Tie as tie
@@ -13,7 +14,7 @@ four-more-requires : tie.Need-four-more-requires
 four-more-requires c κs =
     let b4 = c .before .before .before .before in
     let b7 = b4 .before .before .before in
-    omega (arith, fixed-long (b7 .pre .2) (c .before .if1 .taken), b7 .pre .1, b4 .four .kept .0)
+    omega (arith, fixed-eight (b7 .pre .2) (c .before .if1 .taken), b7 .pre .1, b4 .four .kept .0)
 
 same-length : tie.Need-same-length
 same-length c = search needs
@@ -25,8 +26,8 @@ returns c =
     let b7 = b4 .before .before .before in
     let b10 = b7 .before .before .before in
     let a = b10 .args in
-    fixed-eight (a .form) (a .h) (a .behaviour) (a .out .now) _ _ (b4 .if1 .taken)
-    (omega (arith, fixed-long (b10 .pre .2) (b4 .if1 .taken), b10 .pre .1)) (b7 .four .ensures) (b2 .four-more .ensures)
+    laid-eight (a .form) (a .h) (a .behaviour) (a .out .now) _ _ (b4 .if1 .taken)
+    (omega (arith, fixed-eight (b10 .pre .2) (b4 .if1 .taken), b10 .pre .1)) (b7 .four .ensures) (b2 .four-more .ensures)
 
 same-length-2 : tie.Need-same-length-2
 same-length-2 c = search needs
@@ -36,7 +37,7 @@ returns-2 c =
     let b3 = c .before .before .before in
     let b6 = b3 .before .before .before in
     let a = b6 .args in
-    fixed-four (a .form) (a .h) (a .behaviour) (a .out .now) _ (c .if1 .left) (b3 .four .ensures)
+    laid-four (a .form) (a .h) (a .behaviour) (a .out .now) _ (c .if1 .left) (b3 .four .ensures)
 
 pub fixed-spec : {M : Type 1} → statement M
 fixed-spec =

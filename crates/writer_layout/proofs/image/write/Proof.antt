@@ -7,13 +7,12 @@ use lib.ListN.{length}
 use native.Mathlib.Omega.{arith}
 use Rattle.octets.proofs.Said.{cond-most}
 use Rattle.forms.specs.Forms.{naiLength}
-use Rattle.forms.proofs.Laws.{nai-most}
+use Rattle.forms.proofs.Laws.{fixed-most, nai-most}
 use Rattle.subobject.specs.declared.head.Head.{Head}
 use Rattle.subobject.specs.declared.segment.Segment.{Segment}
 use Rattle.subobject.specs.Layout.{sidLength}
 use Rattle.subobject.specs.Rules.{hasStructure}
 use Rattle.subobject.specs.Segments.{headOfSegment, segmentWith}
-use Rattle.writer_fixed.proofs.Laws.{fixed-most}
 use Rattle.writer_layout.proofs.Laws.{small-head, room, written-subobject}
 use borrow.Author.Needs.{needs}
 use Rattle.writer_layout.proofs.image.write.Statement.{statement}

@@ -7,14 +7,12 @@ use lib.Dec.{eqb, ltb}
 use lib.ListN.{drop}
 use native.Mathlib.Omega.{arith}
 use Rattle.answers.specs.Numbers.{naiUnknown, nothingThere}
-use Rattle.octets.proofs.Said.{cond-most}
-use Rattle.forms.proofs.Laws.{nai-most}
 use Rattle.subobject.specs.declared.segment.Segment.{Segment}
 use Rattle.subobject.specs.Rules.{rule8, rule9, rule11, mostBits, sumAt, labelAt, timeAt, rule29, rule30}
 use Rattle.subobject.specs.Segments.{headOfSegment, segmentWith, bitsOf}
 use Rattle.writer_spare.specs.Spare.{zeros}
 use Rattle.writer_rules.specs.Refusals.{addNumber, noRoom, unfit}
-use Rattle.writer_rules.proofs.Laws.{nameless-first, nameless-none, misfit-unfit, Fits, fits-by, overlong-eleven, front-most, no-label-29, no-label-30}
+use Rattle.writer_rules.proofs.Laws.{nameless-first, nameless-none, misfit-unfit, Fits, fits-by, overlong-eleven, looked-most, no-label-29, no-label-30}
 use borrow.Author.Needs.{needs}
 use Rattle.writer_rules.proofs.refusal.adding_unlabelled.Statement.{statement}
 use Rattle.writer_rules.proofs.refusal.adding_unlabelled.Tie as tie
@@ -24,13 +22,13 @@ seg c = segmentWith (c .args .o) (c .args .sid .now) (c .args .nai .now) (c .arg
 
 head : (c : tie.Start) → c .args .h ≡ headOfSegment (c .args .form) (seg c)
 unfolding headOfSegment
-head c = c .pre .1
+head c = c .pre .0 .head
 
 unlabelled-29 : (c : tie.Start) → rule29 (c .args .h) (labelAt (c .args .sid .now) 0) ≡ false
-unlabelled-29 c = rw (head c) (no-label-29 (c .args .form) (seg c) (labelAt (c .args .sid .now) 0) (c .pre .7))
+unlabelled-29 c = rw (head c) (no-label-29 (c .args .form) (seg c) (labelAt (c .args .sid .now) 0) (c .pre .1))
 
 unlabelled-30 : (c : tie.Start) → rule30 (c .args .h) (timeAt (c .args .sid .now) 0) ≡ false
-unlabelled-30 c = rw (head c) (no-label-30 (c .args .form) (seg c) (timeAt (c .args .sid .now) 0) (c .pre .7))
+unlabelled-30 c = rw (head c) (no-label-30 (c .args .form) (seg c) (timeAt (c .args .sid .now) 0) (c .pre .1))
 
 -- 8 and 9: the number that they give, or that neither is broken.
 first : (c : tie.Start) (r x : ℕ) → r ≡ cond (rule8 (c .args .form) (c .args .h)) naiUnknown (cond (rule9 (c .args .h)) nothingThere 0) → (r ≡ 0 → ⊥)
@@ -47,10 +45,10 @@ seven : (c : tie.Start) (m : Bool)
     || ((not (c .args .ero) && (c .args .o .loose || c .args .o .verify))
     || not ((c .args .o .structured || zeros (c .args .bits .now)) && zeros (drop (c .args .n) (c .args .nai .now)))))
     → m ≡ unfit (c .args .form) (c .args .ero) (seg c)
-seven c m e = misfit-unfit (c .pre .2) (c .args .ero) (seg c) (c .args .front) (c .args .n) m (c .pre .0) (c .pre .4) (c .pre .5) e
+seven c m e = misfit-unfit (c .pre .0) (c .args .ero) m e
 
 fit : (c : tie.Start) → unfit (c .args .form) (c .args .ero) (seg c) ≡ false → Fits (c .args .form) (seg c) (c .args .front) (c .args .n) (c .args .size)
-fit c f = fits-by (c .pre .2) (c .args .ero) (seg c) (c .args .front) (c .args .n) (c .args .size) (c .pre .0) (c .pre .4) (c .pre .5) (c .pre .6) f
+fit c f = fits-by (c .pre .0) (c .args .ero) f
 
 eleven : (c : tie.Start) (u : Bool) → unfit (c .args .form) (c .args .ero) (seg c) ≡ false
     → u ≡ (c .args .o .structured && ltb mostBits (sumAt (c .args .bits .now) 0)) → u ≡ rule11 (c .args .h) (bitsOf (seg c))
@@ -59,7 +57,7 @@ eleven c u f e = overlong-eleven (c .args .form) (seg c) u (fit c f .there) e �
 nameless-requires : tie.Need-nameless-requires
 nameless-requires c κs =
     let start = c .before .before .before in
-    (rw (start .pre .1) (start .pre .5), rw (start .pre .1) refl)
+    (rw (start .pre .0 .head) (start .pre .0 .nai), rw (start .pre .0 .head) refl)
 
 returns : tie.Need-returns
 unfolding addNumber
@@ -70,7 +68,7 @@ returns c =
 misfit-requires : tie.Need-misfit-requires
 misfit-requires c κs =
     let start = c .before .before .before .before .before in
-    (start .pre .0 .nai, start .pre .0 .structure, rw (start .pre .5) (start .pre .3 .steps (start .args .o .nt)))
+    (start .pre .0 .held .nai, start .pre .0 .held .structure, rw (start .pre .0 .nai) (start .pre .0 .readable .steps (start .args .o .nt)))
 
 returns-2 : tie.Need-returns-2
 unfolding addNumber
@@ -110,14 +108,7 @@ returns-3 c =
 crowded-requires : tie.Need-crowded-requires
 crowded-requires c κs =
     let start = c .before .before .before .before .before .before .before .before .before in
-    omega (
-      arith,
-      start .pre .6,
-      start .pre .5,
-      front-most (start .pre .2) (start .args .o) (start .args .sid .now) (start .args .front) (start .pre .4),
-      nai-most (start .pre .2) (start .args .o .nt),
-      cond-most (start .args .o .structured) 8,
-    )
+    omega (arith, looked-most (start .pre .0))
 
 returns-4 : tie.Need-returns-4
 unfolding addNumber noRoom

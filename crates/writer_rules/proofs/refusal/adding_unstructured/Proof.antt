@@ -7,15 +7,13 @@ use lib.Dec.{eqb}
 use lib.ListN.{drop}
 use native.Mathlib.Omega.{arith}
 use Rattle.answers.specs.Numbers.{naiUnknown, nothingThere}
-use Rattle.octets.proofs.Said.{cond-most}
-use Rattle.forms.proofs.Laws.{nai-most}
 use Rattle.subobject.specs.declared.head.Head.{Head}
 use Rattle.subobject.specs.declared.segment.Segment.{Segment}
 use Rattle.subobject.specs.Rules.{rule8, rule9, rule11}
 use Rattle.subobject.specs.Segments.{headOfSegment, segmentWith, bitsOf}
 use Rattle.writer_spare.specs.Spare.{zeros}
 use Rattle.writer_rules.specs.Refusals.{addNumber, noRoom, unfit}
-use Rattle.writer_rules.proofs.Laws.{nameless-first, nameless-none, misfit-unfit, Fits, fits-by, front-most, no-structure-11}
+use Rattle.writer_rules.proofs.Laws.{nameless-first, nameless-none, misfit-unfit, Fits, fits-by, looked-most, no-structure-11}
 use borrow.Author.Needs.{needs}
 use Rattle.writer_rules.proofs.refusal.adding_unstructured.Statement.{statement}
 use Rattle.writer_rules.proofs.refusal.adding_unstructured.Tie as tie
@@ -25,7 +23,7 @@ seg c = segmentWith (c .args .o) (c .args .sid .now) (c .args .nai .now) (c .arg
 
 head : (c : tie.Start) → c .args .h ≡ headOfSegment (c .args .form) (seg c)
 unfolding headOfSegment
-head c = c .pre .1
+head c = c .pre .0 .head
 
 -- 8 and 9: the number that they give, or that neither is broken.
 first : (c : tie.Start) (r x : ℕ) → r ≡ cond (rule8 (c .args .form) (c .args .h)) naiUnknown (cond (rule9 (c .args .h)) nothingThere 0) → (r ≡ 0 → ⊥)
@@ -42,18 +40,18 @@ seven : (c : tie.Start) (m : Bool)
     || ((not (c .args .ero) && (c .args .o .loose || c .args .o .verify))
     || not ((c .args .o .structured || zeros (c .args .bits .now)) && zeros (drop (c .args .n) (c .args .nai .now)))))
     → m ≡ unfit (c .args .form) (c .args .ero) (seg c)
-seven c m e = misfit-unfit (c .pre .2) (c .args .ero) (seg c) (c .args .front) (c .args .n) m (c .pre .0) (c .pre .4) (c .pre .5) e
+seven c m e = misfit-unfit (c .pre .0) (c .args .ero) m e
 
 fit : (c : tie.Start) → unfit (c .args .form) (c .args .ero) (seg c) ≡ false → Fits (c .args .form) (seg c) (c .args .front) (c .args .n) (c .args .size)
-fit c f = fits-by (c .pre .2) (c .args .ero) (seg c) (c .args .front) (c .args .n) (c .args .size) (c .pre .0) (c .pre .4) (c .pre .5) (c .pre .6) f
+fit c f = fits-by (c .pre .0) (c .args .ero) f
 
 unstructured : (c : tie.Start) → rule11 (c .args .h) (bitsOf (seg c)) ≡ false
-unstructured c = rw (head c) (no-structure-11 (c .args .form) (seg c) (c .pre .7))
+unstructured c = rw (head c) (no-structure-11 (c .args .form) (seg c) (c .pre .1))
 
 nameless-requires : tie.Need-nameless-requires
 nameless-requires c κs =
     let start = c .before .before .before in
-    (rw (start .pre .1) (start .pre .5), rw (start .pre .1) refl)
+    (rw (start .pre .0 .head) (start .pre .0 .nai), rw (start .pre .0 .head) refl)
 
 returns : tie.Need-returns
 unfolding addNumber
@@ -64,7 +62,7 @@ returns c =
 misfit-requires : tie.Need-misfit-requires
 misfit-requires c κs =
     let start = c .before .before .before .before .before in
-    (start .pre .0 .nai, start .pre .0 .structure, rw (start .pre .5) (start .pre .3 .steps (start .args .o .nt)))
+    (start .pre .0 .held .nai, start .pre .0 .held .structure, rw (start .pre .0 .nai) (start .pre .0 .readable .steps (start .args .o .nt)))
 
 returns-2 : tie.Need-returns-2
 unfolding addNumber
@@ -83,7 +81,7 @@ returns-2 c =
 label-bad-requires : tie.Need-label-bad-requires
 label-bad-requires c κs =
     let start = c .before .before .before .before .before .before .before in
-    ap (λ (h : Head). h .m) (start .pre .1)
+    ap (λ (h : Head). h .m) (start .pre .0 .head)
 
 returns-3 : tie.Need-returns-3
 unfolding addNumber
@@ -107,7 +105,7 @@ returns-3 c =
 time-bad-requires : tie.Need-time-bad-requires
 time-bad-requires c κs =
     let start = c .before .before .before .before .before .before .before .before .before in
-    ap (λ (h : Head). h .m) (start .pre .1)
+    ap (λ (h : Head). h .m) (start .pre .0 .head)
 
 returns-4 : tie.Need-returns-4
 unfolding addNumber
@@ -134,14 +132,7 @@ returns-4 c =
 crowded-requires : tie.Need-crowded-requires
 crowded-requires c κs =
     let start = c .before .before .before .before .before .before .before .before .before .before .before in
-    omega (
-      arith,
-      start .pre .6,
-      start .pre .5,
-      front-most (start .pre .2) (start .args .o) (start .args .sid .now) (start .args .front) (start .pre .4),
-      nai-most (start .pre .2) (start .args .o .nt),
-      cond-most (start .args .o .structured) 8,
-    )
+    omega (arith, looked-most (start .pre .0))
 
 returns-5 : tie.Need-returns-5
 unfolding addNumber noRoom
