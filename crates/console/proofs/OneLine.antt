@@ -1,4 +1,5 @@
--- "It .. writes exactly one line for each": the answer to a line that is not skipped is one line, with no newline but at its end.
+-- "It .. writes exactly one line for each": the answer to a line that is not skipped is one line, with no newline but at its end. Every word that a line is made of has octets above 31 only
+-- (`clear-..`), words joined by spaces have too (`line-one`), and each row of the table gives such a line (`by-verb-one`).
 use Prim.Native.Nat.{ℕ, zero, suc, _+_, _/_, _%_, _<_}
 use mathlib.Core.Path.{_≡_, refl, sym, _∙_, ap}
 use mathlib.Core.Bool.{Bool, true, false, cond, _&&_}

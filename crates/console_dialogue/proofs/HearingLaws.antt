@@ -1,4 +1,5 @@
--- Laws of hearing, in the order of specs/Hearing.
+-- Laws of hearing, in the order of specs/Hearing. Octets are heard one by one, so laws about a line of them go by induction over it with what was heard of the line before (`hear-on`, `hear-in`,
+-- `say-on`, `say-in`); that what is kept is cut makes no difference (`cut-twice`). The last ones put them into the words of the code's calls.
 use Prim.Native.Nat.{ℕ, suc, _+_, _-_, _≤_, _<_, min}
 use mathlib.Core.Path.{_≡_, refl, sym, _∙_, ap}
 use mathlib.Core.Bool.{Bool, true, false}

@@ -1,4 +1,5 @@
--- A turn, from what the call of its group of rows promises: one law to a group.
+-- A turn, from what the call of its group of rows promises: one law to a group. The table computes to the group's definition row by row (`refl`), and `does` carries what the call left and said
+-- along that.
 use Prim.Native.Nat.{ℕ}
 use mathlib.Core.Path.{_≡_, refl, sym, _∙_, ap}
 use mathlib.Core.List.{List}

@@ -11,6 +11,7 @@ use crate::onward::take_in;
 use board_record::STORE_SIZE;
 use command::LONGEST_LINE;
 use command_forms::MOST_SIZE;
+use console_fields::LONG;
 
 // one octet more than the longest line has
 const KEPT: usize = LONGEST_LINE + 1;
@@ -22,7 +23,7 @@ const SPELLED: usize = KEPT / 2 + 1;
 const MEMORY: usize = MOST_SIZE + SPELLED;
 
 // a line of octets, and words before them
-const ANSWER: usize = 2 * MOST_SIZE + 512;
+const ANSWER: usize = 2 * MOST_SIZE + LONG;
 
 // Takes in all that was read, and writes the answer to each line that ends there.
 fn take_all(
@@ -35,7 +36,10 @@ fn take_all(
     out: &mut [u8],
 ) -> Hearing
     requires { ⌜ ReadyToHear (h .kept) (now line) (now store) (now memory) (now room) (now out) ⌝ }
-    ensures heard { λ r. ⌜ heardOf r (now (line .exit)) (now (store .exit)) (now (memory .exit)) ≡ hearAll (heardOf h (now (line .entry)) (now (store .entry)) (now (memory .entry))) (now (read .entry)) ⌝ }
+    ensures heard { λ r.
+        let before = heardOf h (now (line .entry)) (now (store .entry)) (now (memory .entry)) in
+        let after = heardOf r (now (line .exit)) (now (store .exit)) (now (memory .exit)) in
+        ⌜ after ≡ hearAll before (now (read .entry)) ⌝ }
     ensures within { λ r. ⌜ r .kept ≤ length (now (line .entry)) ⌝ }
 {
     let mut heard = h;
@@ -67,7 +71,10 @@ fn listen(
     out: &mut [u8],
 ) -> Listened
     requires { ⌜ ReadyToHear (h .kept) (now line) (now store) (now memory) (now room) (now out) ⌝ }
-    ensures reached { λ r. ⌜ (Reached (heardOf h (now (line .entry)) (now (store .entry)) (now (memory .entry))) → Reached (heardOf (r .hearing) (now (line .exit)) (now (store .exit)) (now (memory .exit)))) ⌝ }
+    ensures reached { λ r.
+        let before = heardOf h (now (line .entry)) (now (store .entry)) (now (memory .entry)) in
+        let after = heardOf (r .hearing) (now (line .exit)) (now (store .exit)) (now (memory .exit)) in
+        ⌜ (Reached before → Reached after) ⌝ }
     ensures within { λ r. ⌜ r .hearing .kept ≤ length (now (line .entry)) ⌝ }
 {
     let mut read = io::large_buffer();

@@ -28,8 +28,14 @@ pub fn take_in(
     out: &mut [u8],
 ) -> Onward
     requires { ⌜ (at < length (now read)) × ReadyToHear (h .kept) (now line) (now store) (now memory) (now room) (now out) ⌝ }
-    ensures heard { λ r. ⌜ hearAll (heardOf (r .hearing) (now (line .exit)) (now (store .exit)) (now (memory .exit))) (drop (r .next) (now (read .entry))) ≡ hearAll (heardOf h (now (line .entry)) (now (store .entry)) (now (memory .entry))) (drop at (now (read .entry))) ⌝ }
-    ensures said { λ r. ⌜ take (r .end) (now (out .exit)) ++ sayAll (heardOf (r .hearing) (now (line .exit)) (now (store .exit)) (now (memory .exit))) (drop (r .next) (now (read .entry))) ≡ sayAll (heardOf h (now (line .entry)) (now (store .entry)) (now (memory .entry))) (drop at (now (read .entry))) ⌝ }
+    ensures heard { λ r.
+        let before = heardOf h (now (line .entry)) (now (store .entry)) (now (memory .entry)) in
+        let after = heardOf (r .hearing) (now (line .exit)) (now (store .exit)) (now (memory .exit)) in
+        ⌜ hearAll after (drop (r .next) (now (read .entry))) ≡ hearAll before (drop at (now (read .entry))) ⌝ }
+    ensures said { λ r.
+        let before = heardOf h (now (line .entry)) (now (store .entry)) (now (memory .entry)) in
+        let after = heardOf (r .hearing) (now (line .exit)) (now (store .exit)) (now (memory .exit)) in
+        ⌜ take (r .end) (now (out .exit)) ++ sayAll after (drop (r .next) (now (read .entry))) ≡ sayAll before (drop at (now (read .entry))) ⌝ }
     ensures within { λ r. ⌜ (at < r .next) × (r .next ≤ length (now (read .entry))) × (r .hearing .kept ≤ length (now (line .entry))) × (r .end ≤ length (now (out .entry))) ⌝ }
 {
     let part = part_of(read, at);

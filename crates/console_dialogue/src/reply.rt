@@ -25,7 +25,9 @@ pub fn answered(
     out: &mut [u8],
 ) -> Turn
     requires { ⌜ Rooms (now line) (now store) (now memory) (now room) (now out) ⌝ }
-    ensures done { λ r. ⌜ Does state (now (store .entry)) (now (memory .entry)) (now (line .entry)) n (r .state) (now (store .exit)) (now (memory .exit)) (now (out .entry)) (now (out .exit)) (r .end) ⌝ }
+    ensures done { λ r.
+        ⌜ Does state (now (store .entry)) (now (memory .entry)) (now (line .entry)) n
+        (r .state) (now (store .exit)) (now (memory .exit)) (now (out .entry)) (now (out .exit)) (r .end) ⌝ }
 {
     let c = command::parse(line);
     let verb = c.verb;

@@ -26,7 +26,9 @@ pub fn set(
     out: &mut [u8],
 ) -> Turn
     requires { ⌜ (c ≡ commandOf (now line)) × (c .verb ≡ set row) × Rooms (now line) (now store) (now memory) (now room) (now out) ⌝ }
-    ensures done { λ r. ⌜ Does state (now (store .entry)) (now (memory .entry)) (now (line .entry)) n (r .state) (now (store .entry)) (now (memory .exit)) (now (out .entry)) (now (out .exit)) (r .end) ⌝ }
+    ensures done { λ r.
+        ⌜ Does state (now (store .entry)) (now (memory .entry)) (now (line .entry)) n
+        (r .state) (now (store .entry)) (now (memory .exit)) (now (out .entry)) (now (out .exit)) (r .end) ⌝ }
 {
     match row {
         Setting::Pcc => {

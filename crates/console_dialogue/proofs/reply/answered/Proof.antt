@@ -1,4 +1,5 @@
--- A row's turn is the call's of its group (`proofs/Rows`).
+-- A row's turn is the call's of its group (`proofs/Rows`): which verb was read is known from the row (`verb-in`), the command and the sessions from `parse` and `agree`, and each arm's
+-- return hands these and what its call ensures to the law of its group.
 use Rattle.console_dialogue.proofs.TurnLaws.{does, composed-does}
 use Rattle.console_dialogue.proofs.Rows.{verb-in, asks-does, writes-row, changes-does, looks-does}
 use Rattle.console_writer_rows.specs.Written.{writtenTurn}
