@@ -9,7 +9,7 @@ use Rattle.positions.specs.declared.Setup.{Setup}
 use Rattle.positions.specs.Positions.{firstTwo}
 use Rattle.command_forms.specs.Forms.{mostSize}
 use Rattle.session.specs.declared.Opened.{Opened}
-use Rattle.session.specs.Sessions.{openRefused}
+use Rattle.session.specs.Sessions.{noForm, openRefused}
 use Rattle.board_record.specs.declared.record.Board.{Board}
 use Rattle.board_record.specs.Sizes.{storeSize}
 use Rattle.board_record.specs.Record.{emptyBoard}
@@ -30,10 +30,6 @@ pub record Console : Type 0 where
 -- "the writer stands at place 0 of an ERO", of SRv6
 abbrev pub writerAtStart : Writer
 writerAtStart = record { ero = true; at = 0; form = srv6Setup }
-
--- no form is at fault
-abbrev pub noForm : ℕ
-noForm = 0
 
 -- "its store is 49,152 octets of 0"
 unfoldable pub storeAtStart : List ℕ

@@ -6,9 +6,6 @@ use positions::Setup;
 use session::Opened;
 use writer_state::Writer;
 
-// no form is at fault
-const NO_FORM: usize = 0;
-
 pub struct State {
     pub board: Board,
     pub pcc: Opened,
@@ -25,8 +22,8 @@ pub fn start() -> State
 {
     State {
         board: board_record::empty(),
-        pcc: session::refused_open(answers::OPEN_MALFORMED, NO_FORM),
-        pce: session::refused_open(answers::OPEN_MALFORMED, NO_FORM),
+        pcc: session::refused_open(answers::OPEN_MALFORMED, session::NO_FORM),
+        pce: session::refused_open(answers::OPEN_MALFORMED, session::NO_FORM),
         writer: Writer {
             ero: true,
             at: 0,

@@ -40,8 +40,8 @@ abbrev pub node4 : ℕ → List ℕ
 node4 flags = 0x07 ∷ 0x10 ∷ 0x00 ∷ 0x0C ∷ 0x24 ∷ 0x08 ∷ 0x10 ∷ flags ∷ 192 ∷ 0 ∷ 2 ∷ 1 ∷ []
 
 -- One with NT 5, the adjacency of unnumbered ends, M and label 16: its NAI has 16 octets, or 8.
-abbrev pub unnumbered : List ℕ
-unnumbered =
+abbrev pub unnumberedWhole : List ℕ
+unnumberedWhole =
     0x07 ∷ 0x10 ∷ 0x00 ∷ 0x1C ∷ 0x24 ∷ 0x18 ∷ 0x50 ∷ 0x01 ∷ 0x00 ∷ 0x01 ∷ 0x01 ∷ 0x00
     ∷ 192 ∷ 0 ∷ 2 ∷ 1 ∷ 0 ∷ 0 ∷ 0 ∷ 7 ∷ 192 ∷ 0 ∷ 2 ∷ 2 ∷ 0 ∷ 0 ∷ 0 ∷ 8 ∷ []
 
@@ -71,7 +71,7 @@ mplsExamples =
     ∷ route (labelled 0x0A 0x71 0x40) mplsSetup
     ∷ route (node4 0x05) mplsSetup
     ∷ route (node4 0x04) mplsSetup
-    ∷ route unnumbered mplsSetup
+    ∷ route unnumberedWhole mplsSetup
     ∷ route unnumberedShort mplsSetup
     ∷ route threeLabels mplsSetup
     ∷ route (labelled 0x09 0x71 0x00) srv6Setup

@@ -6,8 +6,8 @@ use Rattle.answers.specs.Numbers.{openMalformed, capabilityMissing, wrongMsd, n
 use Rattle.positions.specs.declared.Setup.{Setup}
 use Rattle.session.specs.declared.Limit.the-variants.{Free}
 use Rattle.session.specs.declared.Opened.{Opened}
-use Rattle.session.specs.Sessions.{openRefused}
-use Rattle.open.specs.Open.{srv6Of, listed, framed, fitting, holding, sizedIn, breaks28, breaks2Srv6, breaks3Srv6, srv6Carried, noForm}
+use Rattle.session.specs.Sessions.{noForm, openRefused}
+use Rattle.open.specs.Open.{srv6Of, listed, framed, fitting, holding, sizedIn, breaks28, breaks2Srv6, breaks3Srv6, srv6Carried}
 
 -- An answer's number and SRv6's half: no form at fault is named, and there is no MPLS.
 abbrev pub srv6Half : Opened → Opened

@@ -9,7 +9,7 @@ use Rattle.answers.specs.Numbers.{openMalformed, capabilityMissing, wrongMsd, n
 use Rattle.positions.specs.declared.Setup.{Setup}
 use Rattle.positions.specs.Positions.{usableSetup}
 use Rattle.session.specs.declared.Opened.{Opened}
-use Rattle.session.specs.Sessions.{openRefused, withoutSrv6}
+use Rattle.session.specs.Sessions.{noForm, openRefused, withoutSrv6}
 use Rattle.tlvs.specs.Tlvs.{Tlvs, tlvsOf, tlvsWhole, firstTlv, notThere}
 use Rattle.setup_types.specs.SetupTypes.{pathSetup, holdsList, subsOf, listedIn}
 use Rattle.capability_mpls.specs.Mpls.{mplsCapability, mplsSizedOf, depthless, mplsBeside}
@@ -145,10 +145,6 @@ rule broken number form = record { broken = broken; number = number; form = form
 abbrev pub firstRule : List Rule → Opened → Opened
 firstRule [] o = o
 firstRule (r ∷ rs) o = cond (r .broken) (openRefused (r .number) (r .form)) (firstRule rs o)
-
--- No sub-TLV is at fault.
-abbrev pub noForm : ℕ
-noForm = 0
 
 -- 28 "before all others". "Order: 1, 2, 3.", and of each 26's "tested before 27's".
 abbrev pub openRules : Setup → List ℕ → List Rule

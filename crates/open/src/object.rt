@@ -23,29 +23,26 @@ use open_walk::Found;
 use positions::Setup;
 use session::Opened;
 
-// No sub-TLV is at fault.
-const NO_FORM: usize = 0;
-
 // The answer to an OPEN object, with A and R at two positions: what it carries, or 28, 1, 2 or 3 with the form at fault. Sub-TLV 26 is looked for,
 // in a walk of its own, only where setup type 1 is listed.
 pub fn read_open(p: Setup, s: &[u8]) -> Opened
     ensures read { λ r. ⌜ r ≡ openOf p (now (s .entry)) ⌝ }
 {
     if !positions::usable(p) {
-        return session::refused_open(NOT_USABLE, NO_FORM);
+        return session::refused_open(NOT_USABLE, session::NO_FORM);
     }
     if !is_framed(s) {
-        return session::refused_open(OPEN_MALFORMED, NO_FORM);
+        return session::refused_open(OPEN_MALFORMED, session::NO_FORM);
     }
     match open_walk::walk(s, TLVS_AT, s.len(), false, SRV6_CAPABILITY) {
-        Found::Cut => session::refused_open(OPEN_MALFORMED, NO_FORM),
+        Found::Cut => session::refused_open(OPEN_MALFORMED, session::NO_FORM),
         Found::Values(list, sub) => {
             let srv6 = srv6_by(p, s, list, sub);
             if !listed(s, list, MPLS) {
                 return srv6;
             }
             match open_walk::walk(s, TLVS_AT, s.len(), false, MPLS_CAPABILITY) {
-                Found::Cut => session::refused_open(OPEN_MALFORMED, NO_FORM),
+                Found::Cut => session::refused_open(OPEN_MALFORMED, session::NO_FORM),
                 Found::Values(again, beside) => joined(mpls_by(s, beside), srv6),
             }
         }

@@ -10,9 +10,9 @@ use Rattle.forms.specs.Forms.{flagIn}
 use Rattle.session.specs.declared.Session.{Session}
 use Rattle.subobject.specs.declared.segment.Segment.{Segment}
 use Rattle.objects.specs.Objects.{typePlace, typeWorth}
-use Rattle.subobject.specs.Layout.{worthNT, structureSize, bitLengths, headAt, structurePlace}
+use Rattle.subobject.specs.Layout.{worthNT, flagsPlace, lowFlagsPlace, structureSize, bitLengths, headAt, structurePlace}
 use Rattle.subobject.specs.Rules.{hasStructure}
-use Rattle.subobject_strays.specs.Strays.{flagsPlace, reservedPlace}
+use Rattle.subobject_strays.specs.Strays.{reservedPlace}
 use Rattle.frame.specs.Frames.{placesOf}
 use Rattle.route.specs.Routes.{judgeOf, segmentOf}
 
@@ -23,20 +23,13 @@ EachOctet (x ∷ xs) = (x < 256) × EachOctet xs
 
 -- ignored bits -------------------------------------------------------------------------------------------------
 
--- the second octets of the flags and of the reserved ones
-abbrev pub flagsLast : ℕ
-flagsLast = 3
-
-abbrev pub reservedLast : ℕ
-reservedLast = 5
-
 -- Strays (document 02, C-18; subobject_strays/specs/Strays): what is unassigned or reserved in the fixed part,
 abbrev pub unassignedAt : Form → List ℕ → ℕ → List ℕ
 unassignedAt form s at =
     -- "12 flags; the last four are V, T, F, S": the other eight are unassigned; for MPLS, whose last five are V, F, S, C, M, the other seven
-    (octetOf s (at + flagsPlace) % worthNT) ∷ (octetOf s (at + flagsLast) / form .free)
+    (octetOf s (at + flagsPlace) % worthNT) ∷ (octetOf s (at + lowFlagsPlace) / form .free)
     -- "4-5 reserved", where the form has them
-    ∷ cond (form .behaves) (octetOf s (at + reservedPlace) ∷ octetOf s (at + reservedLast) ∷ []) []
+    ∷ cond (form .behaves) (octetOf s (at + reservedPlace) ∷ octetOf s (at + reservedPlace + 1) ∷ []) []
 
 -- and of a structure the "3 reserved, 1 flags".
 abbrev pub endingAt : Form → List ℕ → Bool → ℕ → List ℕ
@@ -47,7 +40,7 @@ endingAt form s ero at =
 abbrev pub assignedAt : Form → List ℕ → Bool → ℕ → List ℕ
 assignedAt form s ero at =
     -- in RRO "V is ignored"
-    cond ero 0 (flagIn (octetOf s (at + flagsLast)) (form .v))
+    cond ero 0 (flagIn (octetOf s (at + lowFlagsPlace)) (form .v))
     -- "T is ignored where S is 1"
     ∷ cond (eqb (headAt form s ero at .s) 0) 0 (headAt form s ero at .t) ∷ []
 

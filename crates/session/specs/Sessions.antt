@@ -10,6 +10,10 @@ use Rattle.session.specs.declared.Opened.{Opened}
 use Rattle.session.specs.declared.Session.{Session}
 use Rattle.session.specs.declared.Sessions.{Sessions}
 
+-- The form at fault where none is.
+abbrev pub noForm : ℕ
+noForm = 0
+
 -- A refused OPEN carries nothing but its number and the form at fault.
 abbrev pub openRefused : ℕ → ℕ → Opened
 openRefused number form =

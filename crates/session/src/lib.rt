@@ -48,6 +48,9 @@ pub struct Sessions {
     pub mpls: Session,
 }
 
+// The form at fault where none is.
+pub const NO_FORM: usize = 0;
+
 // The refusal of an OPEN object by `number`, with the form at fault.
 pub fn refused_open(number: usize, form: usize) -> Opened
     ensures refused { λ r. ⌜ r ≡ openRefused number form ⌝ }
