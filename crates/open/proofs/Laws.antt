@@ -13,7 +13,7 @@ use Rattle.answers.specs.Numbers.{openMalformed, capabilityMissing, wrongMsd, n
 use Rattle.positions.specs.declared.Setup.{Setup}
 use Rattle.positions.specs.Positions.{usableSetup}
 use Rattle.session.specs.declared.Opened.{Opened}
-use Rattle.session.specs.Sessions.{openRefused, withoutSrv6}
+use Rattle.session.specs.Sessions.{noForm, openRefused, withoutSrv6}
 use Rattle.tlvs.specs.Tlvs.{tlvsWhole, firstTlv, notThere}
 use Rattle.setup_types.specs.SetupTypes.{pathSetup, holdsList, subsOf, listsType, listedIn}
 use Rattle.capability_mpls.specs.Mpls.{mplsCapability, mplsAnnouncedOf}
@@ -49,7 +49,6 @@ use Rattle.open.specs.Open.{
   Rule,
   rule,
   firstRule,
-  noForm,
   openOf,
 }
 use Rattle.open_carried.specs.Carried.{announcedBy, srv6By, mplsAnnouncedBy, mplsBy, joinedOf}

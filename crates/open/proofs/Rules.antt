@@ -17,7 +17,7 @@ use Rattle.answers.proofs.Determined.{determined}
 use Rattle.positions.specs.declared.Setup.{Setup}
 use Rattle.session.specs.declared.Limit.the-variants.{Free}
 use Rattle.session.specs.declared.Opened.{Opened}
-use Rattle.session.specs.Sessions.{openRefused, withoutSrv6}
+use Rattle.session.specs.Sessions.{noForm, openRefused, withoutSrv6}
 use Rattle.msd.specs.Msd.{maxSegmentsLeft, maxHEncaps, smallestOf, depthNumber, depthIn}
 use Rattle.msd_limit.specs.Limits.{limitBy, limitOfPairs, present, onlyEnds}
 use Rattle.capability_mpls.specs.Mpls.{mplsNOf, mplsLimitOf}
@@ -50,7 +50,6 @@ use Rattle.open.specs.Open.{
   Rule,
   rule,
   firstRule,
-  noForm,
   openRules,
   openOf,
 }

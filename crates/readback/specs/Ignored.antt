@@ -29,7 +29,7 @@ unassignedAt form s at =
     -- "12 flags; the last four are V, T, F, S": the other eight are unassigned; for MPLS, whose last five are V, F, S, C, M, the other seven
     (octetOf s (at + flagsPlace) % worthNT) ∷ (octetOf s (at + lowFlagsPlace) / form .free)
     -- "4-5 reserved", where the form has them
-    ∷ cond (form .behaves) (octetOf s (at + reservedPlace) ∷ octetOf s (at + reservedPlace + 1) ∷ []) []
+    ∷ cond (form .behaves) (octetOf s (at + reservedPlace) ∷ octetOf s (at + (reservedPlace + 1)) ∷ []) []
 
 -- and of a structure the "3 reserved, 1 flags".
 abbrev pub endingAt : Form → List ℕ → Bool → ℕ → List ℕ
