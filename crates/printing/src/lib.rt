@@ -46,7 +46,11 @@ fn glyph(d: u8) -> u8
     requires { ⌜ d ≤ 15 ⌝ }
     ensures glyph { λ r. ⌜ r ≡ glyphOf d ⌝ }
 {
-    if d < 10 { DIGIT_ZERO + d } else { UPPER_ABOVE + d }
+    if d < 10 {
+        DIGIT_ZERO + d
+    } else {
+        UPPER_ABOVE + d
+    }
 }
 
 // The pairs of digits of octets.
