@@ -12,7 +12,7 @@ use board_record::larger;
 use board_refusals::compact_rules;
 use board_sweep::sweep;
 use board_tops::work_out;
-use board_whole::is_board;
+use board_rule17::is_board;
 
 pub fn compact<'a>(
     keys: &mut [u32; 128],

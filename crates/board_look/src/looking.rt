@@ -18,7 +18,7 @@ use board_refusals::next_rules;
 use board_rules::Change;
 use board_rules::Handed;
 use board_rules::Octets;
-use board_whole::is_board;
+use board_rule17::is_board;
 use octets::wide;
 
 // The next change for the mark (s, w).

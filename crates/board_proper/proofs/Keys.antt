@@ -8,8 +8,8 @@ use lib.Dec.{eqb}
 use Rattle.octets.proofs.Said.{both-true, or-true}
 use Rattle.board_record.specs.Proper.{allBelow, freshB, newB}
 use Rattle.board_record.proofs.All.{all-none, all-more}
-use Rattle.board_along.specs.Chain.{Heads, Links}
-use Rattle.board_along.proofs.Laws.{no-heads, no-links}
+use Rattle.board_order_numbers.specs.Chain.{Heads, Links}
+use Rattle.board_order_numbers.proofs.Laws.{no-heads, no-links}
 
 pub record Hashed (xs hs ns : List ℕ) (i : ℕ) : Type 0 where
   pub heads : Heads xs hs i

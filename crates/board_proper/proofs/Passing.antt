@@ -24,11 +24,11 @@ use Rattle.board_record.proofs.Search.{used-is, is-used}
 use Rattle.board_record.proofs.Proper.{Sound, body-is, is-body, proper-sound, sound-proper, proper-is, is-proper}
 use Rattle.board_order.proofs.Names.{named-none}
 use Rattle.board_order.proofs.Chains.{proper-apart, once, chain-apart, chained-in, in-chained, chained-count, count-chained}
-use Rattle.board_along.specs.Chain.{along}
-use Rattle.board_along.specs.Numbers.{lateB}
+use Rattle.board_order_numbers.specs.Chain.{along}
+use Rattle.board_order_numbers.specs.Numbers.{lateB}
 use Rattle.board_fits.specs.Fits.{bodyB}
-use Rattle.board_rest.specs.Rest.{emptyB}
-use Rattle.board_along.proofs.Laws.{along-at}
+use Rattle.board_unnamed.specs.Rest.{emptyB}
+use Rattle.board_order_numbers.proofs.Laws.{along-at}
 use Rattle.board_extent.proofs.Loops.{cut-count}
 use Rattle.board_proper.proofs.Rows.{Risen, risen-none, risen-more, risen-once, Bounded, not-late}
 

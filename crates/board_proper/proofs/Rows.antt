@@ -11,7 +11,7 @@ use borrow.Author.Tests.{eqb-true, eqb-false, ltb-true, ltb-false}
 use Rattle.board_record.specs.Sizes.{places}
 use Rattle.board_record.specs.Order.{placeOn}
 use Rattle.board_record.proofs.Logic.{true≢false, same?, from?}
-use Rattle.board_along.specs.Numbers.{lateB}
+use Rattle.board_order_numbers.specs.Numbers.{lateB}
 
 -- the first i numbers of a row are places, their versions rise, and the last of these is `last`
 pub record Risen (vs order : List ℕ) (i last : ℕ) : Type 0 where

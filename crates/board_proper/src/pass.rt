@@ -6,10 +6,10 @@ ghost use Rattle.board_record.specs.Table.{tableOf};
 ghost use Rattle.board_record.specs.Proper.{properB};
 ghost use Rattle.board_record.specs.Order.{inOrder};
 ghost use Rattle.board_record.specs.Tops.{inTops};
-use board_along::SLOTS;
-use board_along::chained;
-use board_along::late;
-use board_along::numbered;
+use board_order_numbers::SLOTS;
+use board_order_numbers::chained;
+use board_order_numbers::late;
+use board_order_numbers::numbered;
 use board_extent::extent;
 use board_places::bodies;
 use board_places::low;
@@ -18,7 +18,7 @@ use board_record::GROUPS;
 use board_record::PLACES;
 use board_record::VERSION_MOST;
 use board_record::larger;
-use board_rest::closed;
+use board_unnamed::closed;
 use board_tops::same;
 
 pub fn is_proper<'a>(

@@ -10,8 +10,8 @@ use board_order_moves::move_last;
 use board_refusals::remove_rules;
 use board_search::place_in;
 use board_tops::raise;
-use board_whole::is_board;
-use board_whole::length_in;
+use board_rule17::is_board;
+use board_rule17::length_in;
 
 pub fn remove(
     keys: &[u32; 128],

@@ -1,6 +1,6 @@
 // What next hands out.
 ghost use mathlib.Core.Path.{_≡_};
-ghost use Rattle.border_answers.specs.Handing.{changeOut};
+ghost use Rattle.border_answers.specs.AnswersOut.{changeOut};
 use board_rules::Handed;
 
 // Its kind, then what comes with it; the form is a path's.

@@ -1,6 +1,6 @@
 // The writer's state, and what its calls hand back.
 ghost use mathlib.Core.Path.{_≡_};
-ghost use Rattle.border_answers.specs.Handing.{writerIn, writtenOut};
+ghost use Rattle.border_answers.specs.AnswersOut.{writerIn, writtenOut};
 use border_records::VerdictRecord;
 use writer_state::Writer;
 use writer_state::Written;

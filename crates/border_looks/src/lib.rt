@@ -4,7 +4,7 @@ ghost use mathlib.Core.Path.{_≡_};
 ghost use Rattle.octets.specs.Octets.{part};
 ghost use Rattle.board_record.specs.Record.{boardOf};
 ghost use Rattle.board_rules.specs.OnRecord.{bodyOn, bodyFormOn, nextOn, movedOn};
-ghost use Rattle.border_answers.specs.Handing.{changeOut};
+ghost use Rattle.border_answers.specs.AnswersOut.{changeOut};
 ghost use Rattle.border_records.specs.Records.{verdictOut};
 ghost use Rattle.border_looks.specs.Looks.{partOut, freshOut};
 use border_answers::ChangeRecord;
@@ -74,8 +74,8 @@ pub fn body<'a>(
     PartRecord {
         number: 0,
         start: board_record::ROOM * at,
-        length: board_whole::length_in(lengths, at),
-        form: board_whole::form_in(forms, at),
+        length: board_rule17::length_in(lengths, at),
+        form: board_rule17::form_in(forms, at),
     }
 }
 

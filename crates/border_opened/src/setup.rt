@@ -1,7 +1,7 @@
 // Where A and R stand.
 ghost use mathlib.Core.Path.{_≡_};
 ghost use Rattle.border_opened.specs.Opens.{setupIn};
-use positions::Setup;
+use flag_positions::Setup;
 
 #[repr(C)]
 pub struct SetupRecord {

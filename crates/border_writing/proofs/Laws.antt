@@ -21,7 +21,7 @@ use Rattle.border_segment.specs.declared.segment.OutlineRecord.{OutlineRecord}
 use Rattle.border_segment.specs.Segments.{outlineIn}
 use Rattle.border_answers.specs.declared.writing.WriterRecord.{WriterRecord}
 use Rattle.border_answers.specs.declared.writing.WrittenRecord.{WrittenRecord}
-use Rattle.border_answers.specs.Handing.{writerIn, writtenOut}
+use Rattle.border_answers.specs.AnswersOut.{writerIn, writtenOut}
 
 -- One answer and one buffer that hang on a writer.
 pub by-writer : (answer : Writer → Written) (buffer : Writer → List ℕ) (w : Writer) (v : Written) (r : WrittenRecord) (after : List ℕ) (x : WriterRecord)

@@ -2,11 +2,11 @@
 // The writer's small state goes in and comes back.
 ghost use mathlib.Core.Path.{_≡_};
 ghost use Rattle.subobject.specs.Segments.{segmentWith};
-ghost use Rattle.writer_ends.specs.Ends.{beginAnswer, beginBuffer, finishAnswer, finishBuffer};
+ghost use Rattle.writer_begin_finish.specs.Ends.{beginAnswer, beginBuffer, finishAnswer, finishBuffer};
 ghost use Rattle.writer.specs.Writing.{addAnswer, addBuffer};
 ghost use Rattle.border_records.specs.Records.{isYes, flagOf};
 ghost use Rattle.border_segment.specs.Segments.{outlineIn};
-ghost use Rattle.border_answers.specs.Handing.{writerIn, writtenOut};
+ghost use Rattle.border_answers.specs.AnswersOut.{writerIn, writtenOut};
 use border_answers::WriterRecord;
 use border_answers::WrittenRecord;
 use border_answers::writer_in;
@@ -50,7 +50,7 @@ pub fn begin(buffer: &mut [u8], writer: WriterRecord, ero: u8, pst: u64) -> Writ
     ensures answer { λ r. ⌜ r ≡ writtenOut (beginAnswer (now (buffer .entry)) (writerIn writer) (isYes ero) pst) ⌝ }
     ensures octets { λ _. ⌜ now (buffer .exit) ≡ beginBuffer (now (buffer .entry)) (writerIn writer) (isYes ero) ⌝ }
 {
-    let w = writer_ends::begin(buffer, writer_in(writer), border_records::yes(ero), pst);
+    let w = writer_begin_finish::begin(buffer, writer_in(writer), border_records::yes(ero), pst);
     handed(writer, w)
 }
 
@@ -102,5 +102,5 @@ pub fn finish(buffer: &mut [u8], writer: WriterRecord) -> WrittenRecord
     ensures answer { λ r. ⌜ r ≡ writtenOut (finishAnswer (now (buffer .entry)) (writerIn writer)) ⌝ }
     ensures octets { λ _. ⌜ now (buffer .exit) ≡ finishBuffer (now (buffer .entry)) (writerIn writer) ⌝ }
 {
-    written_out(writer_ends::finish(buffer, writer_in(writer)))
+    written_out(writer_begin_finish::finish(buffer, writer_in(writer)))
 }

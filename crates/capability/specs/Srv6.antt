@@ -8,8 +8,8 @@ use lib.Dec.{eqb, leb}
 use Rattle.octets.specs.Octets.{octetOf, be16}
 use Rattle.objects.specs.Objects.{srv6Setup}
 use Rattle.answers.specs.Numbers.{openMalformed, wrongMsd}
-use Rattle.positions.specs.declared.Setup.{Setup}
-use Rattle.positions.specs.Positions.{flagAt}
+use Rattle.flag_positions.specs.declared.Setup.{Setup}
+use Rattle.flag_positions.specs.Positions.{flagAt}
 use Rattle.session.specs.declared.Limit.{Limit}
 use Rattle.session.specs.declared.Opened.{Opened}
 use Rattle.session.specs.Sessions.{openRefused, openCarries}

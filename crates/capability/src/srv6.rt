@@ -9,7 +9,7 @@ use answers::OPEN_MALFORMED;
 use answers::WRONG_MSD;
 use msd::ABSENT;
 use objects::SRV6_SETUP;
-use positions::Setup;
+use flag_positions::Setup;
 use session::Limit;
 use session::Opened;
 
@@ -41,8 +41,8 @@ pub fn announced(p: Setup, w: &[u8]) -> Opened
     let flags = octets::octet(w, FLAGS_AT);
     let n = flags / WORTH_N % 2 == 1;
     let all = octets::read16(w, BOTH_FLAGS_AT);
-    let a = positions::flag(all, p.a);
-    let r = positions::flag(all, p.r);
+    let a = flag_positions::flag(all, p.a);
+    let r = flag_positions::flag(all, p.r);
     if flags / WORTH_X % 2 == 1 {
         return session::carried(true, n, Limit::Free, a, r, ABSENT, ABSENT);
     }

@@ -8,8 +8,8 @@ use Rattle.objects.specs.Objects.{srv6Setup}
 use Rattle.answers.proofs.Determined.{determined}
 use Rattle.answers.specs.declared.verdict.Verdict.{Verdict}
 use Rattle.answers.specs.Verdicts.{refusedBy}
-use Rattle.positions.specs.declared.Setup.{Setup}
-use Rattle.positions.specs.Positions.{firstTwo}
+use Rattle.flag_positions.specs.declared.Setup.{Setup}
+use Rattle.flag_positions.specs.Positions.{firstTwo}
 use Rattle.open.specs.Open.{openOf}
 use Rattle.session.specs.declared.Opened.{Opened}
 use Rattle.session.specs.declared.Sessions.{Sessions}

@@ -10,7 +10,7 @@ use Rattle.answers.specs.declared.verdict.Verdict.{Verdict}
 use Rattle.answers.specs.Verdicts.{refusedBy}
 use Rattle.session.specs.declared.Opened.{Opened}
 use Rattle.session.specs.Sessions.{sessionsOf}
-use Rattle.positions.specs.Positions.{firstTwo}
+use Rattle.flag_positions.specs.Positions.{firstTwo}
 use Rattle.open.specs.Open.{openOf}
 use Rattle.route_call.specs.Called.{judgedFor}
 use Rattle.cut_objects.specs.Cutting.{firstObject, restObjects}

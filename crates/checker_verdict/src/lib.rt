@@ -14,7 +14,7 @@ pub fn check(s: &[u8]) -> Verdict
     ensures checked { λ r. ⌜ r ≡ checkedOf (now (s .entry)) ⌝ }
 {
     let behind = rest(s);
-    let p = positions::first_two();
+    let p = flag_positions::first_two();
     let pcc = open::read_open(p, first(s));
     if pcc.number != 0 {
         return answers::refused(pcc.number, 0);

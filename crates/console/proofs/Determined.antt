@@ -13,7 +13,7 @@ use Rattle.printing.specs.Text.{Behind}
 use Rattle.command.specs.Commands.{commandOf}
 use Rattle.command.specs.declared.Command.{Command}
 use Rattle.console_state.specs.declared.state.State.{State}
-use Rattle.console_state.specs.Standing.{consoleOf}
+use Rattle.console_state.specs.State.{consoleOf}
 use Rattle.console_dialogue.specs.Turns.{Does}
 
 pub word-determined : (m : ℕ) (line : List ℕ) (i : ℕ) {a b : List ℕ} → a ≡ wordOf m line i → b ≡ wordOf m line i → a ≡ b

@@ -27,18 +27,18 @@ use Rattle.board_look_by_value.specs.ByValue.{bodyNumberByValue, bodyByValue, b
 use Rattle.printing.specs.Text.{spell, decimalOf, glyphOf, hexOf, octetsText, furtherText, listText}
 use Rattle.words.specs.Words.{newline, space, comma, ascii}
 use Rattle.console_lines.specs.Lines.{lineOf, acceptance, refusalLine, openRefusalLine, badLine, doneLine, oneLine, twoLine, octetsLine, formLine, listLine}
-use Rattle.console_ends.specs.Ends.{bitOf, limitText, depthText, mplsWords, strayWords, labelWords}
+use Rattle.console_line_ends.specs.Ends.{bitOf, limitText, depthText, mplsWords, strayWords, labelWords}
 use Rattle.console_fields.specs.Shown.{openLine, openedLine, structureText, segmentLine}
 use Rattle.command_forms.specs.declared.verb.Verb.{Verb}
 use Rattle.command_forms.specs.declared.verb.Verb.the-variants as v
 use Rattle.command.specs.declared.Command.{Command}
 use Rattle.command.specs.Commands.{commandOf}
-use Rattle.console_state.specs.Standing.{Console}
+use Rattle.console_state.specs.State.{Console}
 use Rattle.console_state.specs.Answers.{answerLine, countLine, plainLine}
-use Rattle.console_routes.specs.Routing.{openIn, routeLine, pickedLine, segmentAnswer}
-use Rattle.console_writer.specs.Composing.{placeLine, finishLine}
+use Rattle.console_routes.specs.RouteLines.{openIn, routeLine, pickedLine, segmentAnswer}
+use Rattle.console_writer.specs.WriterLines.{placeLine, finishLine}
 use Rattle.console_chain.specs.Chain.{chainOf}
-use Rattle.console_board.specs.Boarding.{bodyLine, handedLine, nextLine, movedLine}
+use Rattle.console_board.specs.BoardLines.{bodyLine, handedLine, nextLine, movedLine}
 use Rattle.console_dialogue.specs.Turns.{turnBy, turnOf}
 
 -- Octets above 31, none of them a newline.

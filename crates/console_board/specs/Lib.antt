@@ -1,1 +1,1 @@
-pub mod Boarding
+pub mod BoardLines

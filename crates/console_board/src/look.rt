@@ -6,7 +6,7 @@ ghost use Rattle.octets.specs.Octets.{part};
 ghost use Rattle.board_record.specs.Sizes.{places, room};
 ghost use Rattle.printing.specs.Text.{Behind, fieldSize};
 ghost use Rattle.console_lines.specs.Lines.{short};
-ghost use Rattle.console_board.specs.Boarding.{bodyLine, nextLine, movedLine, markLine, boardLine, chainLine};
+ghost use Rattle.console_board.specs.BoardLines.{bodyLine, nextLine, movedLine, markLine, boardLine, chainLine};
 use board_record::Board;
 use board_record::PLACES;
 use board_rules::Handed;

@@ -5,7 +5,7 @@ use mathlib.Core.List.{List}
 use Rattle.board_record.specs.declared.record.Board.{Board}
 use Rattle.printing.specs.Text.{Behind}
 use Rattle.command_rows.specs.declared.Changing.{Changing}
-use Rattle.console_board.specs.Boarding.{Boarding}
+use Rattle.console_board.specs.BoardLines.{Boarding}
 
 pub by-change : (f : Changing → Boarding) {row x : Changing} {board : Board} {store before after : List ℕ} {r : ℕ}
     → row ≡ x

@@ -8,7 +8,7 @@ use Rattle.command_rows.specs.declared.Changing.{Changing}
 use Rattle.command_rows.specs.declared.Changing.the-variants as g
 use Rattle.command_rows.specs.declared.Looking.{Looking}
 use Rattle.command_rows.specs.declared.Looking.the-variants as l
-use Rattle.console_board.specs.Boarding.{Boarding, reportTurn, removeTurn, compactTurn, bodyLine, nextLine, movedLine, markLine, boardLine, chainLine}
+use Rattle.console_board.specs.BoardLines.{Boarding, reportTurn, removeTurn, compactTurn, bodyLine, nextLine, movedLine, markLine, boardLine, chainLine}
 
 abbrev pub changedTurn : Changing → Board → List ℕ → Sessions → List ℕ → Command → List ℕ → Boarding
 changedTurn g.Report b store both addresses c line = reportTurn b store both addresses c line

@@ -6,7 +6,7 @@ ghost use lib.ListN.{length};
 ghost use Rattle.printing.specs.Text.{Behind, fieldSize};
 ghost use Rattle.board_record.specs.Sizes.{places};
 ghost use Rattle.console_lines.specs.Lines.{short};
-ghost use Rattle.console_state.specs.Standing.{listIn};
+ghost use Rattle.console_state.specs.State.{listIn};
 ghost use Rattle.console_board_rows.specs.Boarded.{changedTurn, lookedLine};
 use board_record::Board;
 use command::Command;

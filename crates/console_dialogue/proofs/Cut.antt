@@ -12,9 +12,9 @@ use Rattle.words.specs.Words.{newline}
 use Rattle.command_forms.specs.declared.verb.Verb.the-variants as v
 use Rattle.command.specs.declared.Command.{Command}
 use Rattle.command.specs.Commands.{skipped, longestLine, bareCommand, commandOf}
-use Rattle.console_state.specs.Standing.{Console}
+use Rattle.console_state.specs.State.{Console}
 use Rattle.console_dialogue.specs.Turns.{turnBy, turnOf}
-use Rattle.console_dialogue.specs.Hearing.{Dialogue, turnNow, lineEnded, mostKept, longer, sayAll}
+use Rattle.console_dialogue.specs.Input.{Dialogue, turnNow, lineEnded, mostKept, longer, sayAll}
 use Rattle.console_dialogue.proofs.HearingLaws.{cut-twice}
 
 -- ## One line

@@ -1,4 +1,4 @@
--- Laws of hearing, in the order of specs/Hearing. Octets are heard one by one, so laws about a line of them go by induction over it with what was heard of the line before (`hear-on`, `hear-in`,
+-- Laws of hearing, in the order of specs/Input. Octets are heard one by one, so laws about a line of them go by induction over it with what was heard of the line before (`hear-on`, `hear-in`,
 -- `say-on`, `say-in`); that what is kept is cut makes no difference (`cut-twice`). The last ones put them into the words of the code's calls.
 use Prim.Native.Nat.{ℕ, suc, _+_, _-_, _≤_, _<_, min}
 use mathlib.Core.Path.{_≡_, refl, sym, _∙_, ap}
@@ -14,10 +14,10 @@ use Rattle.words.proofs.Laws.{behind-drop}
 use Rattle.octets.specs.Octets.{placed}
 use Rattle.printing.specs.Text.{Behind}
 use Rattle.printing.proofs.Laws.{behind-placed}
-use Rattle.console_state.specs.Standing.{Console}
+use Rattle.console_state.specs.State.{Console}
 use Rattle.console_state.proofs.Laws.{take-fit}
 use Rattle.console_dialogue.specs.Turns.{turnOf}
-use Rattle.console_dialogue.specs.Hearing.{ReadyToHear, Dialogue, nextNumber, turnNow, lineEnded, mostKept, longer, hearAll, sayAll}
+use Rattle.console_dialogue.specs.Input.{ReadyToHear, Dialogue, nextNumber, turnNow, lineEnded, mostKept, longer, hearAll, sayAll}
 
 -- ## What is kept
 

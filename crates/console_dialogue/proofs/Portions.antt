@@ -5,7 +5,7 @@ use mathlib.Core.Bool.{Bool, true, false}
 use mathlib.Core.List.{List, [], _∷_, _++_, append-assoc}
 use lib.Dec.{eqb}
 use Rattle.words.specs.Words.{newline}
-use Rattle.console_dialogue.specs.Hearing.{Dialogue, heardAtStart, turnNow, lineEnded, longer, hearAll, sayAll, sayWhole}
+use Rattle.console_dialogue.specs.Input.{Dialogue, heardAtStart, turnNow, lineEnded, longer, hearAll, sayAll, sayWhole}
 
 pub hear-append : (g : Dialogue) (xs ys : List ℕ) → hearAll (hearAll g xs) ys ≡ hearAll g (xs ++ ys)
 unfolding hearAll

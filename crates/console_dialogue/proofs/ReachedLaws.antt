@@ -5,9 +5,9 @@ use mathlib.Core.List.{List, [], _∷_, _++_}
 use lib.ListN.{length, drop, drop-of-length-le}
 use Rattle.words.specs.Words.{newline}
 use Rattle.console_state.specs.declared.state.State.{State}
-use Rattle.console_state.specs.Standing.{stateAtStart, storeAtStart, writerPart, listIn}
+use Rattle.console_state.specs.State.{stateAtStart, storeAtStart, writerPart, listIn}
 use Rattle.console_dialogue.proofs.Portions.{hear-append}
-use Rattle.console_dialogue.specs.Hearing.{Dialogue, heardAtStart, heardOf, hearAll, lineEnded}
+use Rattle.console_dialogue.specs.Input.{Dialogue, heardAtStart, heardOf, hearAll, lineEnded}
 use Rattle.console_dialogue.specs.Reached.{Reached}
 
 pub reached-start : {g : Dialogue} → g ≡ heardAtStart → Reached g

@@ -20,8 +20,8 @@ use Rattle.command_rows.specs.declared.Looking.{Looking}
 use Rattle.command_rows.specs.declared.Looking.the-variants as l
 use Rattle.command_rows.specs.Rows.{rowVerb, asked, written, changes, looked}
 use Rattle.console_state.specs.declared.state.State.{State}
-use Rattle.console_state.specs.Standing.{Console, listIn, consoleOf, withBoard}
-use Rattle.console_board.specs.Boarding.{Boarding}
+use Rattle.console_state.specs.State.{Console, listIn, consoleOf, withBoard}
+use Rattle.console_board.specs.BoardLines.{Boarding}
 use Rattle.console_route_rows.specs.Asked.{askedLine}
 use Rattle.console_writer_rows.specs.Written.{writtenTurn}
 use Rattle.console_board_rows.specs.Boarded.{changedTurn, lookedLine}

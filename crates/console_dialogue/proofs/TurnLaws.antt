@@ -4,7 +4,7 @@ use mathlib.Core.Path.{_≡_, refl, sym, _∙_, ap, subst}
 use mathlib.Core.List.{List, _++_}
 use lib.ListN.{length, take, drop}
 use lib.Seq.{take-at, drop-at}
-use Rattle.positions.specs.declared.Setup.{Setup}
+use Rattle.flag_positions.specs.declared.Setup.{Setup}
 use Rattle.command_forms.specs.Forms.{mostSize}
 use Rattle.session.specs.declared.Opened.{Opened}
 use Rattle.board_record.specs.declared.record.Board.{Board}
@@ -14,8 +14,8 @@ use Rattle.command_forms.specs.declared.verb.Verb.{Verb}
 use Rattle.command.specs.declared.Command.{Command}
 use Rattle.command.specs.Commands.{commandOf}
 use Rattle.console_state.specs.declared.state.State.{State}
-use Rattle.console_state.specs.Standing.{Console, writerPart, listIn, consoleOf, withWriter}
-use Rattle.console_writer.specs.Composing.{Composing}
+use Rattle.console_state.specs.State.{Console, writerPart, listIn, consoleOf, withWriter}
+use Rattle.console_writer.specs.WriterLines.{Composing}
 use Rattle.console_dialogue.specs.Turns.{Turned, composes, turnBy, turnOf, Does}
 
 -- The turn of a line is that of its command.

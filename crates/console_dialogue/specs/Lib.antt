@@ -1,3 +1,3 @@
 pub mod Turns
-pub mod Hearing
+pub mod Input
 pub mod Reached

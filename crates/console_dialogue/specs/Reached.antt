@@ -2,7 +2,7 @@
 use Prim.Native.Nat.{ℕ}
 use mathlib.Core.Path.{_≡_}
 use mathlib.Core.List.{List}
-use Rattle.console_dialogue.specs.Hearing.{Dialogue, heardAtStart, heardOf, hearAll}
+use Rattle.console_dialogue.specs.Input.{Dialogue, heardAtStart, heardOf, hearAll}
 use Rattle.console_dialogue.specs.declared.heard.Hearing.{Hearing}
 
 -- as some input leaves it, from the start on

@@ -13,11 +13,11 @@ use Rattle.command_forms.specs.declared.verb.Verb.the-variants as v
 use Rattle.command.specs.declared.Command.{Command}
 use Rattle.command.specs.Commands.{commandOf}
 use Rattle.console_state.specs.declared.state.State.{State}
-use Rattle.console_state.specs.Standing.{Console, consoleOf}
+use Rattle.console_state.specs.State.{Console, consoleOf}
 use Rattle.console_state.specs.Spelled.{octetsIn}
-use Rattle.console_routes.specs.Routing.{openIn, routeLine, segmentAnswer}
-use Rattle.console_writer.specs.Composing.{Composing, beginTurn, addTurn, finishTurn, lentLine}
-use Rattle.console_board.specs.Boarding.{Boarding, reportTurn, removeTurn, compactTurn, bodyLine, nextLine, movedLine, markLine, boardLine, chainLine}
+use Rattle.console_routes.specs.RouteLines.{openIn, routeLine, segmentAnswer}
+use Rattle.console_writer.specs.WriterLines.{Composing, beginTurn, addTurn, finishTurn, lentLine}
+use Rattle.console_board.specs.BoardLines.{Boarding, reportTurn, removeTurn, compactTurn, bodyLine, nextLine, movedLine, markLine, boardLine, chainLine}
 
 -- the console after a line, and the line that answers it
 pub record Turned : Type 0 where

@@ -1,9 +1,9 @@
 // What has been heard, and the answer to a line.
 ghost use mathlib.Core.Path.{_≡_};
 ghost use Rattle.printing.specs.Text.{Behind};
-ghost use Rattle.console_dialogue.specs.Hearing.{ReadyToHear, heardOf, lineEnded, turnNow};
+ghost use Rattle.console_dialogue.specs.Input.{ReadyToHear, heardOf, lineEnded, turnNow};
 use crate::reply::answered;
-use console_part::numbered;
+use console_line_parts::numbered;
 use console_state::State;
 
 // The console's state, how many octets of a line have been kept, and the lines before it.

@@ -2,8 +2,8 @@
 ghost use Prim.Native.Nat.{_+_, _*_, _≤_};
 ghost use mathlib.Core.Path.{_≡_};
 ghost use lib.ListN.{length};
-ghost use Rattle.console_state.specs.Standing.{storeAtStart};
-ghost use Rattle.console_dialogue.specs.Hearing.{ReadyToHear, heardOf, hearAll};
+ghost use Rattle.console_state.specs.State.{storeAtStart};
+ghost use Rattle.console_dialogue.specs.Input.{ReadyToHear, heardOf, hearAll};
 ghost use Rattle.console_dialogue.specs.Reached.{Reached, Ended};
 use crate::heard::Hearing;
 use crate::heard::answer;

@@ -3,11 +3,11 @@ ghost use Prim.Native.Nat.{_≤_, _<_};
 ghost use mathlib.Core.Path.{_≡_};
 ghost use mathlib.Core.List.{_++_};
 ghost use lib.ListN.{length, take, drop};
-ghost use Rattle.console_dialogue.specs.Hearing.{ReadyToHear, heardOf, hearAll, sayAll};
+ghost use Rattle.console_dialogue.specs.Input.{ReadyToHear, heardOf, hearAll, sayAll};
 use crate::heard::Hearing;
 use crate::heard::answer;
 use crate::line::keep;
-use console_part::part as part_of;
+use console_line_parts::part as part_of;
 
 // What has been heard, the end of the answer in `out`, and where to go on in what was read.
 pub struct Onward {

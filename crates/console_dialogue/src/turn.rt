@@ -1,6 +1,6 @@
 // What a line leaves by value: the state, and the end of the answer in `out`.
 ghost use mathlib.Core.Path.{_≡_};
-ghost use Rattle.console_state.specs.Standing.{withBoard, withWriter};
+ghost use Rattle.console_state.specs.State.{withBoard, withWriter};
 use console_board::Boarded;
 use console_state::State;
 use console_state::with_board;

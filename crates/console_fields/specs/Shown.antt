@@ -11,7 +11,7 @@ use Rattle.subobject_strays.specs.declared.Strays.{Strays}
 use Rattle.forms.specs.declared.Form.{Form}
 use Rattle.forms.specs.Forms.{naiLength}
 use Rattle.printing.specs.Text.{decimalOf, octetsText}
-use Rattle.console_ends.specs.Ends.{bitOf, limitText, flagWords, labelWords}
+use Rattle.console_line_ends.specs.Ends.{bitOf, limitText, flagWords, labelWords}
 use Rattle.console_lines.specs.Lines.{acceptance, openRefusalLine}
 
 -- the octets that the line of an OPEN or of a segment takes at most

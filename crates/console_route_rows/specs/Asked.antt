@@ -6,7 +6,7 @@ use Rattle.session.specs.declared.Sessions.{Sessions}
 use Rattle.command.specs.declared.Command.{Command}
 use Rattle.command_rows.specs.declared.Asking.{Asking}
 use Rattle.command_rows.specs.declared.Asking.the-variants as a
-use Rattle.console_routes.specs.Routing.{routeLine, segmentAnswer}
+use Rattle.console_routes.specs.RouteLines.{routeLine, segmentAnswer}
 
 abbrev pub askedLine : Asking → Sessions → List ℕ → Command → List ℕ → List ℕ
 askedLine a.Ero both addresses c line = routeLine true both addresses c line

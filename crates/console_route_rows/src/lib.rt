@@ -5,7 +5,7 @@ ghost use lib.ListN.{length};
 ghost use Rattle.printing.specs.Text.{Behind};
 ghost use Rattle.console_fields.specs.Shown.{long};
 ghost use Rattle.console_state.specs.Rooms.{Spells};
-ghost use Rattle.console_state.specs.Standing.{listIn};
+ghost use Rattle.console_state.specs.State.{listIn};
 ghost use Rattle.console_route_rows.specs.Asked.{askedLine};
 use command::Command;
 use command_rows::Asking;

@@ -13,7 +13,7 @@ use Rattle.session.specs.declared.Sessions.{Sessions}
 use Rattle.route.specs.declared.picking.Picked.{Picked}
 use Rattle.route_call.specs.Called.{judgedFor, segmentFor}
 use Rattle.command_forms.specs.Forms.{mostSize}
-use Rattle.console_state.specs.Standing.{listIn}
+use Rattle.console_state.specs.State.{listIn}
 use Rattle.console_state.proofs.Laws.{spelled}
 
 pub judged-told : (ero : Bool) (both : Sessions) (pst : ℕ) {x y l m : List ℕ} {v : Verdict} → x ≡ y → l ≡ m → v ≡ judgedFor x ero both pst l

@@ -1,1 +1,1 @@
-pub mod Routing
+pub mod RouteLines

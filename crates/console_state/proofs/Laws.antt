@@ -13,7 +13,7 @@ use Rattle.octets.specs.Octets.{over}
 use Rattle.printing.specs.Text.{Behind}
 use Rattle.console_lines.specs.Lines.{refusalLine}
 use Rattle.command_forms.specs.Forms.{mostSize}
-use Rattle.console_state.specs.Standing.{listIn}
+use Rattle.console_state.specs.State.{listIn}
 use Rattle.console_state.specs.Answers.{answerLine}
 
 -- ## Answers

@@ -1,4 +1,4 @@
-pub mod Standing
+pub mod State
 pub mod Answers
 pub mod Spelled
 pub mod Rooms

@@ -3,7 +3,7 @@ ghost use Prim.Native.Nat.{min};
 ghost use mathlib.Core.Path.{_≡_};
 ghost use lib.ListN.{length};
 ghost use Rattle.io.specs.Counts.{Counts};
-ghost use Rattle.console_state.specs.Standing.{listIn};
+ghost use Rattle.console_state.specs.State.{listIn};
 use command_forms::MOST_SIZE;
 
 // A number of octets at the start of `s`, at most `n`.

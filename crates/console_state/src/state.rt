@@ -1,8 +1,8 @@
 // What the console keeps by value between two lines.
 ghost use mathlib.Core.Path.{_≡_};
-ghost use Rattle.console_state.specs.Standing.{stateAtStart, withBoard, withPcc, withPce, withWriter, withPositions, withGiven};
+ghost use Rattle.console_state.specs.State.{stateAtStart, withBoard, withPcc, withPce, withWriter, withPositions, withGiven};
 use board_record::Board;
-use positions::Setup;
+use flag_positions::Setup;
 use session::Opened;
 use writer_state::Writer;
 
@@ -30,7 +30,7 @@ pub fn start() -> State
             form: objects::SRV6_SETUP as u8,
         },
         size: 0,
-        positions: positions::first_two(),
+        positions: flag_positions::first_two(),
         given: 0,
     }
 }

@@ -1,4 +1,4 @@
--- Laws of the writer's commands, in the order of specs/Composing.
+-- Laws of the writer's commands, in the order of specs/WriterLines.
 use Prim.Native.Nat.{ℕ, zero, suc, _+_, _<_, min}
 use mathlib.Core.Path.{_≡_, refl}
 use mathlib.Core.Bool.{Bool, true, false, cond}
@@ -11,8 +11,8 @@ use borrow.Author.Tests.{leb-true, leb-false, lt-ltb, le-ltb, ltb-true, ltb-fals
 use Rattle.octets.proofs.Laws.{copied, copied-more}
 use Rattle.writer_state.specs.declared.Writer.{Writer}
 use Rattle.writer_state.specs.Answers.{answered}
-use Rattle.writer_ends.specs.Ends.{beginNumber, beginAnswer}
-use Rattle.console_writer.specs.Composing.{freshOctet, freshBuffer}
+use Rattle.writer_begin_finish.specs.Ends.{beginNumber, beginAnswer}
+use Rattle.console_writer.specs.WriterLines.{freshOctet, freshBuffer}
 
 -- ## The part of a memory that is lent
 

@@ -1,1 +1,1 @@
-pub mod Composing
+pub mod WriterLines

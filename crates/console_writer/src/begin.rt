@@ -2,10 +2,10 @@
 ghost use Prim.Native.Nat.{_≤_};
 ghost use mathlib.Core.Path.{_≡_};
 ghost use lib.ListN.{length, take};
-ghost use Rattle.writer_ends.specs.Ends.{beginAnswer, beginBuffer};
+ghost use Rattle.writer_begin_finish.specs.Ends.{beginAnswer, beginBuffer};
 ghost use Rattle.printing.specs.Text.{Behind};
 ghost use Rattle.console_lines.specs.Lines.{short};
-ghost use Rattle.console_writer.specs.Composing.{freshBuffer, beginTurn};
+ghost use Rattle.console_writer.specs.WriterLines.{freshBuffer, beginTurn};
 use crate::wrote::Composed;
 use crate::wrote::placed;
 use command::Command;
@@ -33,7 +33,7 @@ fn fresh(part: &mut [u8], old: Writer, ero: bool, pst: u64) -> Written
     ensures buffer { λ _. ⌜ now (part .exit) ≡ beginBuffer (freshBuffer (length (now (part .entry)))) old ero ⌝ }
 {
     fill(part);
-    writer_ends::begin(part, old, ero, pst)
+    writer_begin_finish::begin(part, old, ero, pst)
 }
 
 // A number as a size.
@@ -53,7 +53,7 @@ pub fn begun(old: Writer, size: usize, c: Command, memory: &mut [u8], out: &mut 
     let new = narrow(c.three);
     let mut trial = [0u8; HEADER];
     let k = fit(new, &trial);
-    let w = writer_ends::begin(&mut trial[..k], old, c.ero, c.two);
+    let w = writer_begin_finish::begin(&mut trial[..k], old, c.ero, c.two);
     let v = w.verdict;
     if v.number != 0 {
         return Composed {

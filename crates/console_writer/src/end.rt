@@ -2,10 +2,10 @@
 ghost use Prim.Native.Nat.{_+_, _*_, _≤_};
 ghost use mathlib.Core.Path.{_≡_};
 ghost use lib.ListN.{length, take};
-ghost use Rattle.writer_ends.specs.Ends.{finishAnswer, finishBuffer};
+ghost use Rattle.writer_begin_finish.specs.Ends.{finishAnswer, finishBuffer};
 ghost use Rattle.printing.specs.Text.{Behind};
 ghost use Rattle.console_lines.specs.Lines.{short};
-ghost use Rattle.console_writer.specs.Composing.{finishTurn, finishLine, lentLine};
+ghost use Rattle.console_writer.specs.WriterLines.{finishTurn, finishLine, lentLine};
 use crate::wrote::Composed;
 use console_state::fit;
 use writer_state::Writer;
@@ -23,7 +23,7 @@ fn close(part: &mut [u8], old: Writer, out: &mut [u8]) -> Closed
     ensures buffer { λ _. ⌜ now (part .exit) ≡ finishBuffer (now (part .entry)) old ⌝ }
     ensures told { λ r. ⌜ Behind (now (out .entry)) (now (out .exit)) 0 (r .end) (finishLine old (now (part .entry))) ⌝ }
 {
-    let w = writer_ends::finish(part, old);
+    let w = writer_begin_finish::finish(part, old);
     let v = w.verdict;
     let new = w.writer;
     if v.number != 0 {

@@ -6,7 +6,7 @@ ghost use Rattle.printing.specs.Text.{Behind};
 ghost use Rattle.console_lines.specs.Lines.{short};
 ghost use Rattle.console_state.specs.Rooms.{Spells};
 ghost use Rattle.console_add.specs.Added.{AddForm};
-ghost use Rattle.console_writer.specs.Composing.{addTurn};
+ghost use Rattle.console_writer.specs.WriterLines.{addTurn};
 use crate::wrote::Composed;
 use crate::wrote::placed;
 use command::Command;

@@ -3,7 +3,7 @@ ghost use Prim.Native.Nat.{_≤_};
 ghost use lib.ListN.{length};
 ghost use Rattle.printing.specs.Text.{Behind};
 ghost use Rattle.console_lines.specs.Lines.{short};
-ghost use Rattle.console_writer.specs.Composing.{placeLine};
+ghost use Rattle.console_writer.specs.WriterLines.{placeLine};
 use writer_state::Writer;
 use writer_state::Written;
 

@@ -5,7 +5,7 @@ use mathlib.Core.List.{List}
 use Rattle.writer_state.specs.declared.Writer.{Writer}
 use Rattle.printing.specs.Text.{Behind}
 use Rattle.command_rows.specs.declared.Writing.{Writing}
-use Rattle.console_writer.specs.Composing.{Composing}
+use Rattle.console_writer.specs.WriterLines.{Composing}
 
 pub by-row : (f : Writing → Composing) {row x : Writing} {writer : Writer} {lent before after : List ℕ} {r : ℕ}
     → row ≡ x

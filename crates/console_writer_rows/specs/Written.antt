@@ -5,7 +5,7 @@ use Rattle.writer_state.specs.declared.Writer.{Writer}
 use Rattle.command.specs.declared.Command.{Command}
 use Rattle.command_rows.specs.declared.Writing.{Writing}
 use Rattle.command_rows.specs.declared.Writing.the-variants as w
-use Rattle.console_writer.specs.Composing.{Composing, beginTurn, addTurn, finishTurn, lentLine}
+use Rattle.console_writer.specs.WriterLines.{Composing, beginTurn, addTurn, finishTurn, lentLine}
 
 abbrev pub writtenTurn : Writing → Writer → List ℕ → Command → List ℕ → Composing
 writtenTurn w.Begin old lent c line = beginTurn old lent c

@@ -11,7 +11,7 @@ use Rattle.setup_types.specs.SetupTypes.{listSize, listsType}
 use Rattle.msd.specs.Msd.{knownMsd}
 use Rattle.capability_mpls.specs.Mpls.{mplsSizedOf, mplsNOf, mplsXOf, depthOf, depthless, mplsLimitOf}
 use Rattle.capability.specs.Srv6.{sizedOf, nOf, xOf, aOf, rOf, wrongOf, hEncapsOf, segmentsLeftOf, limitOf}
-use Rattle.positions.specs.Positions.{usableSetup, flagAt}
+use Rattle.flag_positions.specs.Positions.{usableSetup, flagAt}
 use Rattle.open.specs.Open.{
   setupOf,
   mplsOf,

@@ -9,7 +9,7 @@ use Rattle.answers.specs.Verdicts.{refusedBy, acceptedWith}
 use Rattle.session.specs.declared.Limit.the-variants.{Most}
 use Rattle.session.specs.declared.Sessions.{Sessions}
 use Rattle.session.specs.Sessions.{openRefused, withMpls, withoutSrv6, sessionsOf}
-use Rattle.positions.specs.Positions.{firstTwo}
+use Rattle.flag_positions.specs.Positions.{firstTwo}
 use Rattle.open.specs.Open.{openOf}
 use Rattle.route_call.specs.Called.{judgedFor}
 use Rattle.examples.specs.Table.{objectE, Example, ExampleAnswer}

@@ -12,7 +12,7 @@ use Rattle.session.specs.declared.Opened.{Opened}
 use Rattle.session.specs.declared.Sessions.{Sessions}
 use Rattle.session.specs.Sessions.{openRefused, openCarries, sessionsOf}
 use Rattle.msd.specs.Msd.{absent}
-use Rattle.positions.specs.Positions.{firstTwo}
+use Rattle.flag_positions.specs.Positions.{firstTwo}
 use Rattle.open.specs.Open.{openOf}
 use Rattle.route_call.specs.Called.{judgedFor}
 

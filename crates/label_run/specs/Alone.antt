@@ -1,4 +1,4 @@
--- Labels alone. No promise rests on it: contracts of inner functions cite it, and proofs put it together to route_glance/specs/Settled.
+-- Labels alone. No promise rests on it: contracts of inner functions cite it, and proofs put it together to route_pass/specs/Settled.
 use Prim.Native.Nat.{ℕ, zero, suc, _+_, _*_, _≤_}
 use mathlib.Core.Path.{_≡_}
 use mathlib.Core.List.{List}

@@ -14,7 +14,7 @@ use Rattle.octets.proofs.Said.{both-true}
 use Rattle.objects.specs.Objects.{mplsSetup, srv6Setup}
 use Rattle.answers.specs.Numbers.{openMalformed, capabilityMissing, wrongMsd, notUsable}
 use Rattle.answers.proofs.Determined.{determined}
-use Rattle.positions.specs.declared.Setup.{Setup}
+use Rattle.flag_positions.specs.declared.Setup.{Setup}
 use Rattle.session.specs.declared.Limit.the-variants.{Free}
 use Rattle.session.specs.declared.Opened.{Opened}
 use Rattle.session.specs.Sessions.{noForm, openRefused, withoutSrv6}

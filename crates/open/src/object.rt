@@ -20,7 +20,7 @@ use open_carried::srv6_by;
 use open_frame::TLVS_AT;
 use open_frame::is_framed;
 use open_walk::Found;
-use positions::Setup;
+use flag_positions::Setup;
 use session::Opened;
 
 // The answer to an OPEN object, with A and R at two positions: what it carries, or 28, 1, 2 or 3 with the form at fault. Sub-TLV 26 is looked for,
@@ -28,7 +28,7 @@ use session::Opened;
 pub fn read_open(p: Setup, s: &[u8]) -> Opened
     ensures read { λ r. ⌜ r ≡ openOf p (now (s .entry)) ⌝ }
 {
-    if !positions::usable(p) {
+    if !flag_positions::usable(p) {
         return session::refused_open(NOT_USABLE, session::NO_FORM);
     }
     if !is_framed(s) {

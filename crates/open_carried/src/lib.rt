@@ -11,7 +11,7 @@ use capability::SRV6_FORM;
 use capability_mpls::MPLS_FORM;
 use objects::MPLS_SETUP;
 use objects::SRV6_SETUP;
-use positions::Setup;
+use flag_positions::Setup;
 use session::Opened;
 use tlvs::NOWHERE;
 use tlvs::Span;

@@ -13,7 +13,7 @@ use Rattle.subobject.specs.Segments.{headOfSegment, flagsOctet, fixedOctets, su
 use Rattle.writer_spare.specs.Spare.{tidyOf}
 use Rattle.writer_state.specs.declared.Writer.{Writer}
 use Rattle.writer_rules.specs.Refusals.{passes, badPlace, foreign, unfit, noRoom, addNumber, finishNumber}
-use Rattle.writer_ends.specs.Ends.{headerOf, beginNumber, beginAnswer, beginBuffer, finishAnswer, finishBuffer}
+use Rattle.writer_begin_finish.specs.Ends.{headerOf, beginNumber, beginAnswer, beginBuffer, finishAnswer, finishBuffer}
 use Rattle.writer.specs.Writing.{addAnswerIn, addBufferIn}
 use Rattle.readback.specs.Runs.{Run, addsRun, writeRun, objectIn}
 

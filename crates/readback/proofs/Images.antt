@@ -20,7 +20,7 @@ use Rattle.writer_state.specs.declared.Written.{Written}
 use Rattle.writer_rules.specs.Refusals.{addNumber, finishNumber}
 use Rattle.writer_rules.proofs.Laws.{Fit, Proper, Taken, taken, Done, done}
 use Rattle.writer_state.specs.Answers.{answered, refusedAs, acceptedAs}
-use Rattle.writer_ends.specs.Ends.{headerOf, beginNumber, beginAnswer, beginBuffer, finishAnswer, finishBuffer}
+use Rattle.writer_begin_finish.specs.Ends.{headerOf, beginNumber, beginAnswer, beginBuffer, finishAnswer, finishBuffer}
 use Rattle.writer.specs.Writing.{addAnswerIn, addBufferIn, addAnswer, addBuffer}
 use Rattle.readback.specs.Runs.{Run, onward, beginRun, addRun, finishRun, addsRun, writeRun, Accepted, objectIn, writtenBody, objectOf}
 

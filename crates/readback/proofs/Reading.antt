@@ -43,7 +43,7 @@ use Rattle.writer_layout.proofs.Forms.{readable-by}
 use Rattle.writer_state.specs.declared.Writer.{Writer}
 use Rattle.writer_rules.specs.Refusals.{unfit}
 use Rattle.writer_rules.proofs.Laws.{Fit, size-subobject}
-use Rattle.writer_ends.specs.Ends.{headerOf}
+use Rattle.writer_begin_finish.specs.Ends.{headerOf}
 use Rattle.readback.specs.Runs.{Run, writeRun, Accepted, objectIn, writtenBody, objectOf, AllHeld, openSession}
 use Rattle.readback.specs.Runs.AllHeld.{more}
 use Rattle.readback.specs.Ignored.{ignoredAt, ignoredIn, ignoredOf}

@@ -34,7 +34,7 @@ use Rattle.forms.proofs.Laws.{sized-by}
 use Rattle.writer_layout.proofs.Forms.{readable-by}
 use Rattle.writer_state.specs.declared.Writer.{Writer}
 use Rattle.writer_rules.specs.Refusals.{mostOctets, addNumber, finishNumber, unfit, noRoom, badPlace, passes}
-use Rattle.writer_ends.specs.Ends.{headerOf, beginNumber}
+use Rattle.writer_begin_finish.specs.Ends.{headerOf, beginNumber}
 use Rattle.readback.specs.Runs.{Run, onward, beginRun, addRun, finishRun, addsRun, writeRun, Accepted, objectIn, writtenBody, objectOf, AllHeld}
 use Rattle.readback.specs.Runs.AllHeld.{none as held-none, more}
 use Rattle.readback.specs.Ignored.{EachOctet, ignoredAt, ignoredIn, ignoredOf, askedFrom, segmentsRead}

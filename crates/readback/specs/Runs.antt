@@ -16,7 +16,7 @@ use Rattle.objects.specs.Objects.{header}
 use Rattle.writer_spare.specs.Held.{Held}
 use Rattle.writer_state.specs.declared.Writer.{Writer}
 use Rattle.writer_state.specs.declared.Written.{Written}
-use Rattle.writer_ends.specs.Ends.{headerOf, beginAnswer, beginBuffer, finishAnswer, finishBuffer}
+use Rattle.writer_begin_finish.specs.Ends.{headerOf, beginAnswer, beginBuffer, finishAnswer, finishBuffer}
 use Rattle.writer.specs.Writing.{addAnswer, addBuffer}
 
 -- calls, one after the other -----------------------------------------------------------------------------------

@@ -39,7 +39,7 @@ use Rattle.frame.proofs.Laws.{Sized, headed-sized, fits-true}
 use Rattle.route.specs.declared.picking.Picked.{Picked}
 use Rattle.route_walk.specs.Walk.{checksAt, subobjectChecks}
 use Rattle.route_walk.proofs.Laws.{head-size}
-use Rattle.route_glance.specs.Settled.{Settled}
+use Rattle.route_pass.specs.Settled.{Settled}
 use Rattle.route.specs.Parts.{nothingWith}
 use Rattle.route.specs.Routes.{rule13, wholeChecks, lastChecks, checksOf, countOf, strayCount, acceptanceOf, judgeAs, rule15, pickOf, segmentAs}
 pub use Rattle.route_ordered.proofs.Ordered.{numbered-subobjects, numbered-frame, numbered-all, frame-sound, frame-bounds, frame-stops, frame-none, frame-count}

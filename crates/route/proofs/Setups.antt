@@ -21,7 +21,7 @@ use Rattle.session.specs.declared.Limit.the-variants.{Free, Most}
 use Rattle.session.specs.declared.Session.{Session}
 use Rattle.route_rules.specs.SessionRules.{rule12}
 use Rattle.route_rules.specs.Parts.{limitedOf}
-use Rattle.route_glance.specs.Settled.{Settled}
+use Rattle.route_pass.specs.Settled.{Settled}
 use Rattle.route.specs.declared.picking.Picked.{Picked}
 use Rattle.route.specs.Parts.{sessionBy, limitThere, mostAllowed}
 use Rattle.route.specs.Routes.{rule13, judgeAs, segmentAs, judgeOf, segmentOf}

@@ -4,12 +4,12 @@ ghost use mathlib.Core.Bool.{true, false};
 ghost use Prim.Native.Nat.{_<_, _≤_, _%_};
 ghost use Rattle.forms.specs.Forms.{formOf};
 ghost use Rattle.route_rules.specs.SessionRules.{rule13};
-ghost use Rattle.route_glance.specs.Settled.{SettledBy, strayWorth};
+ghost use Rattle.route_pass.specs.Settled.{SettledBy, strayWorth};
 ghost use Rattle.route.specs.Parts.{sessionBy, limitThere, mostAllowed};
 ghost use Rattle.route.specs.Routes.{judgeOf};
 use answers::Verdict;
 use msd::ABSENT;
-use route_glance::STRAY_WORTH;
+use route_pass::STRAY_WORTH;
 use route_ordered::judge_as;
 use route_rules::not_agreed;
 use session::Limit;
@@ -23,9 +23,9 @@ fn seen(s: &[u8], ero: bool, n: bool, pst: u64) -> usize
         return 0;
     }
     if pst == objects::MPLS_SETUP {
-        return route_glance::see_mpls(s, ero, n);
+        return route_pass::see_mpls(s, ero, n);
     }
-    route_glance::see_srv6(s, ero, n)
+    route_pass::see_srv6(s, ero, n)
 }
 
 // Whether a route of which the pass settled x is accepted: the form is agreed, and where there is a limit, there are no more segments.

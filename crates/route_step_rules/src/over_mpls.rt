@@ -25,7 +25,7 @@ fn rules_at(form: Form, s: &[u8], at: usize, h: Head) -> Verdict
     if subobject_rules::seven(form, h) {
         return answers::refused(answers::LENGTH_WRONG, at);
     }
-    if subobject_numbered::too_long(form, s, at, h) {
+    if subobject_rules_by_number::too_long(form, s, at, h) {
         return answers::refused(answers::STRUCTURE_TOO_LONG, at);
     }
     if route_step_tests::bad_label(form, s, at, h) {

@@ -25,13 +25,13 @@ fn rules_at(form: Form, s: &[u8], at: usize, h: Head) -> Verdict
     if subobject_rules::seven(form, h) {
         return answers::refused(answers::LENGTH_WRONG, at);
     }
-    if subobject_numbered::too_long(form, s, at, h) {
+    if subobject_rules_by_number::too_long(form, s, at, h) {
         return answers::refused(answers::STRUCTURE_TOO_LONG, at);
     }
-    if subobject_numbered::bad_label(form, s, at, h) {
+    if subobject_rules_by_number::bad_label(form, s, at, h) {
         return answers::refused(answers::LABEL_VALUE, 0);
     }
-    if subobject_numbered::bad_format(form, s, at, h) {
+    if subobject_rules_by_number::bad_format(form, s, at, h) {
         return answers::refused(answers::LABEL_FORMAT, 0);
     }
     answers::accepted(0)

@@ -25,8 +25,8 @@ pub fn walk(form: Form, s: &[u8], ero: bool, n: bool, count: usize) -> Verdict
         let mut k: usize = 0;
         while k < order::RULE_COUNT {
             let number = order::ORDER[k];
-            if subobject_numbered::breaks(form, s, at, h, ero, n, number) {
-                break 'walk answers::refused(number, subobject_numbered::place(number, at));
+            if subobject_rules_by_number::breaks(form, s, at, h, ero, n, number) {
+                break 'walk answers::refused(number, subobject_rules_by_number::place(number, at));
             }
             k = k + 1;
         }

@@ -9,7 +9,7 @@ use Rattle.session.specs.Sessions.{sessionsOf}
 use Rattle.open.specs.Open.{openOf}
 use Rattle.route_call.specs.Called.{judgedFor, segmentFor}
 use Rattle.subobject.specs.Segments.{segmentWith}
-use Rattle.writer_ends.specs.Ends.{beginAnswer, beginBuffer, finishAnswer, finishBuffer}
+use Rattle.writer_begin_finish.specs.Ends.{beginAnswer, beginBuffer, finishAnswer, finishBuffer}
 use Rattle.writer.specs.Writing.{addAnswer, addBuffer}
 use Rattle.board_rules.specs.OnRecord.{removeOn, compactOn, nextOn, movedOn}
 use Rattle.report_call.specs.Reported.{reportForOn, reportStoreForOn}
@@ -29,7 +29,7 @@ use Rattle.border_answers.specs.declared.writing.WrittenRecord.{WrittenRecord}
 use Rattle.border_looks.specs.declared.PartRecord.{PartRecord}
 use Rattle.border_answers.specs.declared.change.ChangeRecord.{ChangeRecord}
 use Rattle.border_looks.specs.declared.MarkRecord.{MarkRecord}
-use Rattle.border_answers.specs.Handing.{writerIn, writtenOut, changeOut}
+use Rattle.border_answers.specs.AnswersOut.{writerIn, writtenOut, changeOut}
 use Rattle.border_looks.specs.Looks.{partOut, freshOut}
 
 -- x and y, both the same value of a definition, are equal.

@@ -6,7 +6,7 @@ ghost use Rattle.board_rules.specs.OnRecord.{removeOn, compactOn, bodyOn, bodyF
 ghost use Rattle.report_call.specs.Reported.{reportForOn, reportStoreForOn};
 ghost use Rattle.border_records.specs.Records.{verdictOut};
 ghost use Rattle.border_session.specs.Agreed.{sessionsIn};
-ghost use Rattle.border_answers.specs.Handing.{changeOut};
+ghost use Rattle.border_answers.specs.AnswersOut.{changeOut};
 ghost use Rattle.border_looks.specs.Looks.{partOut, freshOut};
 use border_answers::ChangeRecord;
 use border_looks::MarkRecord;

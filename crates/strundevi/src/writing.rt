@@ -1,11 +1,11 @@
 // Writing a route: begun, given one segment at a time, and finished. The writer's small state goes in and comes back.
 ghost use mathlib.Core.Path.{_≡_};
 ghost use Rattle.subobject.specs.Segments.{segmentWith};
-ghost use Rattle.writer_ends.specs.Ends.{beginAnswer, beginBuffer, finishAnswer, finishBuffer};
+ghost use Rattle.writer_begin_finish.specs.Ends.{beginAnswer, beginBuffer, finishAnswer, finishBuffer};
 ghost use Rattle.writer.specs.Writing.{addAnswer, addBuffer};
 ghost use Rattle.border_records.specs.Records.{isYes};
 ghost use Rattle.border_segment.specs.Segments.{outlineIn};
-ghost use Rattle.border_answers.specs.Handing.{writerIn, writtenOut};
+ghost use Rattle.border_answers.specs.AnswersOut.{writerIn, writtenOut};
 use border_answers::WriterRecord;
 use border_answers::WrittenRecord;
 use border_segment::OutlineRecord;

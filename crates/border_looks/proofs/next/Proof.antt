@@ -1,5 +1,5 @@
 use mathlib.Core.Path.{ap, _∙_}
-use Rattle.border_answers.specs.Handing.{changeOut}
+use Rattle.border_answers.specs.AnswersOut.{changeOut}
 use borrow.Author.Needs.{needs}
 use Rattle.border_looks.proofs.next.Statement.{statement}
 use Rattle.border_looks.proofs.next.Tie as tie

@@ -1,5 +1,5 @@
 use mathlib.Core.Path.{ap, _∙_}
-use Rattle.positions.specs.declared.Setup.{Setup}
+use Rattle.flag_positions.specs.declared.Setup.{Setup}
 use Rattle.open.specs.Open.{openOf}
 use Rattle.border_opened.specs.Opens.{openedOut}
 use borrow.Author.Needs.{needs}

@@ -1,5 +1,5 @@
 use Rattle.writer_state.specs.declared.Writer.{Writer}
-use Rattle.writer_ends.specs.Ends.{beginAnswer, beginBuffer}
+use Rattle.writer_begin_finish.specs.Ends.{beginAnswer, beginBuffer}
 use Rattle.border_records.specs.Records.{isYes}
 use Rattle.border_writing.proofs.Laws.{by-writer}
 use borrow.Author.Needs.{needs}

@@ -1,4 +1,4 @@
-use Rattle.writer_ends.specs.Ends.{finishAnswer, finishBuffer}
+use Rattle.writer_begin_finish.specs.Ends.{finishAnswer, finishBuffer}
 use Rattle.border_writing.proofs.Laws.{by-writer}
 use borrow.Author.Needs.{needs}
 use Rattle.border_writing.proofs.finish.Statement.{statement}

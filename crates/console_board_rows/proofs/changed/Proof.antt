@@ -1,6 +1,6 @@
 use Rattle.console_board_rows.proofs.Laws.{by-change}
 use Rattle.command_rows.specs.declared.Changing.{Changing}
-use Rattle.console_state.specs.Standing.{listIn}
+use Rattle.console_state.specs.State.{listIn}
 use Rattle.console_board_rows.specs.Boarded.{changedTurn}
 use mathlib.Core.Path.{refl}
 use borrow.Author.Needs.{needs}

@@ -1,7 +1,7 @@
 -- One arm for each row that asks about a route: the row says which line the definition gives, the call laid that line, and `behind-by` puts both together.
 use Rattle.printing.proofs.Laws.{behind-by}
 use Rattle.command_rows.specs.declared.Asking.{Asking}
-use Rattle.console_state.specs.Standing.{listIn}
+use Rattle.console_state.specs.State.{listIn}
 use Rattle.console_route_rows.specs.Asked.{askedLine}
 use borrow.Author.Needs.{needs}
 use Rattle.console_route_rows.proofs.asked.Statement.{statement}

@@ -1,4 +1,4 @@
-use Rattle.console_routes.specs.Routing.{openIn}
+use Rattle.console_routes.specs.RouteLines.{openIn}
 use Rattle.console_state.proofs.Laws.{spelled}
 use Rattle.open.specs.Open.{openOf}
 use mathlib.Core.Path.{_∙_, ap}

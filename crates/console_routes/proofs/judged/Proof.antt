@@ -1,4 +1,4 @@
-use Rattle.console_routes.specs.Routing.{routeLine}
+use Rattle.console_routes.specs.RouteLines.{routeLine}
 use Rattle.console_routes.proofs.Laws.{judged-told}
 use Rattle.console_state.proofs.Laws.{spelled}
 use borrow.Author.Needs.{needs}

@@ -1,4 +1,4 @@
-use Rattle.console_routes.specs.Routing.{pickedLine, segmentAnswer}
+use Rattle.console_routes.specs.RouteLines.{pickedLine, segmentAnswer}
 use Rattle.console_routes.proofs.Laws.{picked-told}
 use Rattle.console_state.proofs.Laws.{spelled, told-refused, told-accepted}
 use Rattle.forms.specs.Forms.{formOf}

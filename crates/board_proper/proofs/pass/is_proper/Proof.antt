@@ -9,7 +9,7 @@ use lib.ListN.{getD}
 use Rattle.board_record.specs.Sizes.{places}
 use Rattle.board_record.specs.Table.{tableOf}
 use Rattle.octets.proofs.Said.{said-yes}
-use Rattle.board_along.specs.Chain.{along}
+use Rattle.board_order_numbers.specs.Chain.{along}
 use Rattle.board_proper.proofs.Keys.{Hashed, hashed-none, hashed-more}
 use Rattle.board_proper.proofs.Passing.{Along, along-none, along-more, fit-at, key-along, is-new, is-closed, clear-at, end-full, end-short}
 use Rattle.board_proper.proofs.Passing.{stop-floor, stop-version, stop-bodies, stop-low, stop-late, stop-new, stop-top, stop-closed}

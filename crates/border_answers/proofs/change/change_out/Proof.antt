@@ -1,5 +1,5 @@
 use mathlib.Core.Path.{sym, ap}
-use Rattle.border_answers.specs.Handing.{changeOut}
+use Rattle.border_answers.specs.AnswersOut.{changeOut}
 use borrow.Author.Needs.{needs}
 use Rattle.border_answers.proofs.change.change_out.Statement.{statement}
 use Rattle.border_answers.proofs.change.change_out.Tie as tie

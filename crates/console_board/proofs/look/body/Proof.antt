@@ -1,5 +1,5 @@
 use Rattle.board_look_by_value.proofs.Inside.{body-inside}
-use Rattle.console_board.specs.Boarding.{bodyLine}
+use Rattle.console_board.specs.BoardLines.{bodyLine}
 use Rattle.console_state.proofs.Laws.{told-refused, told-accepted}
 use Rattle.console_lines.specs.Lines.{formLine}
 use Rattle.board_look_by_value.specs.ByValue.{bodyByValue, bodyFormByValue}

@@ -1,4 +1,4 @@
-use Rattle.console_board.specs.Boarding.{movedLine}
+use Rattle.console_board.specs.BoardLines.{movedLine}
 use Rattle.console_state.proofs.Laws.{told-refused, told-accepted}
 use Rattle.console_lines.specs.Lines.{oneLine}
 use borrow.Author.Needs.{needs}

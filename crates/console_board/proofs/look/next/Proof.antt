@@ -1,7 +1,7 @@
 -- One case for each thing that next hands out; the octets of a path lie in the store (`path-inside`).
 use Rattle.board_rules.proofs.Inside.{length-part-most}
 use Rattle.board_look_by_value.proofs.Inside.{path-inside}
-use Rattle.console_board.specs.Boarding.{nextLine}
+use Rattle.console_board.specs.BoardLines.{nextLine}
 use Prim.Native.Nat.{_*_}
 use lib.ListN.{length}
 use mathlib.Core.Path.{_∙_, ap, sym}

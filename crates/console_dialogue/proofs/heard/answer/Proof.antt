@@ -1,5 +1,5 @@
 use Rattle.console_dialogue.proofs.HearingLaws.{ended-made, turn-told}
-use Rattle.console_dialogue.specs.Hearing.{heardOf, nextNumber}
+use Rattle.console_dialogue.specs.Input.{heardOf, nextNumber}
 use lib.Seq.{length-take-le}
 use mathlib.Core.Path.{sym, refl}
 use native.Mathlib.Omega.{arith}

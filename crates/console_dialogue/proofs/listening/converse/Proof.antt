@@ -1,4 +1,4 @@
-use Rattle.console_state.specs.Standing.{storeAtStart}
+use Rattle.console_state.specs.State.{storeAtStart}
 use lib.ListN.{length-replicate}
 use mathlib.Core.Path.{refl}
 use native.Mathlib.Omega.{arith}

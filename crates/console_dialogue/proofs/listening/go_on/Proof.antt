@@ -2,7 +2,7 @@
 use Rattle.console_dialogue.proofs.HearingLaws.{still-ready}
 use Rattle.console_dialogue.proofs.ReachedLaws.{start-made, reached-start}
 use Rattle.console_dialogue.specs.Reached.{Reached}
-use Rattle.console_dialogue.specs.Hearing.{heardOf}
+use Rattle.console_dialogue.specs.Input.{heardOf}
 use lib.ListN.{length}
 use mathlib.Core.Path.{_≡_, refl, _∙_}
 use Prim.Native.Nat.{_≤_}

@@ -1,7 +1,7 @@
 -- A walk over what was read: what is left of it, heard from here on, gives the whole. All lent lengths stay.
 use Rattle.console_dialogue.proofs.HearingLaws.{still-ready}
 use Rattle.console_dialogue.proofs.ReachedLaws.{heard-all}
-use Rattle.console_dialogue.specs.Hearing.{heardOf, hearAll}
+use Rattle.console_dialogue.specs.Input.{heardOf, hearAll}
 use lib.Seq.{length-take-le}
 use lib.ListN.{length, drop}
 use mathlib.Core.Path.{_≡_, refl, sym, _∙_}

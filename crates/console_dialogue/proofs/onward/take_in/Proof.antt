@@ -1,7 +1,7 @@
 -- What was read splits at its first newline. With one, the line before it is answered and the rest is heard next (`heard-line`, `said-line`); without
 -- one, all of it is more of the line (`heard-part`, `said-part`).
 use Rattle.console_dialogue.proofs.HearingLaws.{longer-made, heard-line, said-line, heard-part, said-part, text-within}
-use Rattle.console_dialogue.specs.Hearing.{mostKept, heardOf}
+use Rattle.console_dialogue.specs.Input.{mostKept, heardOf}
 use Rattle.words.specs.Words.{newline, untilMark}
 use lib.ListN.{length, drop, take, length-take}
 use Prim.Native.Nat.{_≤_}

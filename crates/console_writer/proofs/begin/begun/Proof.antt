@@ -2,8 +2,8 @@
 -- all as it was, and an accepted one fills the first octets of the memory.
 use Rattle.console_writer.proofs.Laws.{begin-trial, begin-keeps}
 use Rattle.answers.proofs.Kept.{kept-old, kept-new}
-use Rattle.console_writer.specs.Composing.{freshBuffer}
-use Rattle.writer_ends.specs.Ends.{beginAnswer, beginBuffer}
+use Rattle.console_writer.specs.WriterLines.{freshBuffer}
+use Rattle.writer_begin_finish.specs.Ends.{beginAnswer, beginBuffer}
 use lib.Seq.{length-take-le, take-at}
 use lib.ListN.{length, drop}
 use Prim.Native.Nat.{ℕ, _≤_}

@@ -1,5 +1,5 @@
 use Rattle.console_writer.proofs.Laws.{filled-more, filled-all}
-use Rattle.console_writer.specs.Composing.{freshBuffer}
+use Rattle.console_writer.specs.WriterLines.{freshBuffer}
 use Rattle.octets.proofs.Laws.{copied}
 use lib.ListN.{length, length-set}
 use mathlib.Core.Path.{_≡_, refl, _∙_}

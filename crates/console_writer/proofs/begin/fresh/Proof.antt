@@ -1,4 +1,4 @@
-use Rattle.writer_ends.specs.Ends.{beginAnswer, beginBuffer}
+use Rattle.writer_begin_finish.specs.Ends.{beginAnswer, beginBuffer}
 use Prim.Native.Nat.{ℕ}
 use mathlib.Core.List.{List}
 use mathlib.Core.Path.{_∙_, ap}

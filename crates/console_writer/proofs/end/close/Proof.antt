@@ -1,4 +1,4 @@
-use Rattle.console_writer.specs.Composing.{finishLine}
+use Rattle.console_writer.specs.WriterLines.{finishLine}
 use Rattle.console_state.proofs.Laws.{told-refused, told-accepted, take-fit}
 use Rattle.console_lines.specs.Lines.{octetsLine}
 use lib.ListN.{take}

@@ -1,6 +1,6 @@
 use Rattle.console_writer.proofs.Laws.{lent-back}
 use Rattle.console_state.proofs.Laws.{take-fit}
-use Rattle.writer_ends.specs.Ends.{finishBuffer}
+use Rattle.writer_begin_finish.specs.Ends.{finishBuffer}
 use Prim.Native.Nat.{ℕ}
 use mathlib.Core.List.{List}
 use mathlib.Core.Path.{_∙_, ap, sym}

@@ -1,4 +1,4 @@
-use Rattle.console_writer.specs.Composing.{placeLine}
+use Rattle.console_writer.specs.WriterLines.{placeLine}
 use Rattle.console_state.proofs.Laws.{told-refused, told-accepted}
 use Rattle.console_lines.specs.Lines.{oneLine}
 use borrow.Author.Needs.{needs}

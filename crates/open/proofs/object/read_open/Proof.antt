@@ -5,7 +5,7 @@ use Rattle.open.specs.Open.{tlvsAt, framed}
 use Rattle.open_walk.specs.Walk.{sightOf, openWalk}
 use Rattle.capability_mpls.specs.Mpls.{mplsCapability}
 use Rattle.capability.specs.Srv6.{srv6Capability}
-use Rattle.positions.specs.Positions.{usableSetup}
+use Rattle.flag_positions.specs.Positions.{usableSetup}
 use lib.ListN.{drop}
 use mathlib.Core.Bool.{true, false}
 use borrow.Author.Tests.{not-true, not-false}

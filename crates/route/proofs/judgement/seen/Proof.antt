@@ -6,8 +6,8 @@ use Rattle.octets.specs.Octets.{be16}
 use Rattle.forms.specs.declared.Form.{Form}
 use Rattle.forms.proofs.Laws.{form-mpls, form-srv6}
 use Rattle.frame.proofs.Laws.{headed-sized}
-use Rattle.route_glance.specs.Settled.{SettledBy}
-use Rattle.route_glance.proofs.Pass.{unsettled}
+use Rattle.route_pass.specs.Settled.{SettledBy}
+use Rattle.route_pass.proofs.Pass.{unsettled}
 use Rattle.route.proofs.judgement.seen.Statement.{statement}
 use Rattle.route.proofs.judgement.seen.Tie as tie
 

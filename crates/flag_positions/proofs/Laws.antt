@@ -1,0 +1,38 @@
+-- Laws of the two positions: which can be used, what a position is worth; any two answers that fit are equal.
+use Prim.Native.Nat.{ℕ}
+use mathlib.Core.Path.{_≡_, refl}
+use mathlib.Core.Bool.{Bool, true, false, _&&_}
+use borrow.Author.Tests.{eq-eqb}
+use lib.Dec.{leb}
+use Rattle.answers.proofs.Determined.{determined}
+use Rattle.flag_positions.specs.declared.Setup.{Setup}
+use Rattle.flag_positions.specs.Positions.{usableSetup, firstTwo, flagAt}
+
+-- The positions of the checking program.
+pub usable-0-1 : usableSetup firstTwo ≡ true
+unfolding usableSetup
+usable-0-1 = refl
+
+-- Equal positions are of no use.
+pub equal-unusable : (p : ℕ) → usableSetup (record { a = p; r = p }) ≡ false
+unfolding usableSetup
+equal-unusable p = rw (eq-eqb p p refl) (go (leb p 13))
+  where
+    go : (b : Bool) → (b && (b && false)) ≡ false
+    go true = refl
+    go false = refl
+
+-- Position 0 is the highest of the 16 flags, 13 the third from the low end.
+pub highest : (flagAt 0 32768 ≡ true) × (flagAt 0 1 ≡ false) × (flagAt 13 4 ≡ true)
+unfolding flagAt
+highest = (refl, refl, refl)
+
+-- Any two answers that fit the contract of a call are equal.
+pub first_two-determined : {x y : Setup} → x ≡ firstTwo → y ≡ firstTwo → x ≡ y
+first_two-determined = determined
+
+pub usable-determined : (p : Setup) {x y : Bool} → x ≡ usableSetup p → y ≡ usableSetup p → x ≡ y
+usable-determined p = determined
+
+pub flag-determined : (flags p : ℕ) {x y : Bool} → x ≡ flagAt p flags → y ≡ flagAt p flags → x ≡ y
+flag-determined flags p = determined
