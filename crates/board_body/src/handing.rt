@@ -7,11 +7,11 @@ use answers::NOT_A_BOARD;
 use answers::Verdict;
 use answers::refused;
 use board_refusals::body_rules;
-use board_search::place_in;
 use board_rule17::form_in;
 use board_rule17::is_board;
 use board_rule17::length_in;
 use board_rule17::start_of;
+use board_search::place_in;
 
 // The number of a call for a body.
 pub fn body_number<'a>(

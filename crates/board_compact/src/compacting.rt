@@ -10,9 +10,9 @@ use answers::refused;
 use board_order_drops::drop_empty;
 use board_record::larger;
 use board_refusals::compact_rules;
+use board_rule17::is_board;
 use board_sweep::sweep;
 use board_tops::work_out;
-use board_rule17::is_board;
 
 pub fn compact<'a>(
     keys: &mut [u32; 128],

@@ -15,10 +15,10 @@ use board_record::wide16;
 use board_record::wide32;
 use board_refusals::moved_rules;
 use board_refusals::next_rules;
+use board_rule17::is_board;
 use board_rules::Change;
 use board_rules::Handed;
 use board_rules::Octets;
-use board_rule17::is_board;
 use octets::wide;
 
 // The next change for the mark (s, w).

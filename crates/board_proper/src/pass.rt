@@ -6,11 +6,11 @@ ghost use Rattle.board_record.specs.Table.{tableOf};
 ghost use Rattle.board_record.specs.Proper.{properB};
 ghost use Rattle.board_record.specs.Order.{inOrder};
 ghost use Rattle.board_record.specs.Tops.{inTops};
+use board_extent::extent;
 use board_order_numbers::SLOTS;
 use board_order_numbers::chained;
 use board_order_numbers::late;
 use board_order_numbers::numbered;
-use board_extent::extent;
 use board_places::bodies;
 use board_places::low;
 use board_record::GROUP;
@@ -18,8 +18,8 @@ use board_record::GROUPS;
 use board_record::PLACES;
 use board_record::VERSION_MOST;
 use board_record::larger;
-use board_unnamed::closed;
 use board_tops::same;
+use board_unnamed::closed;
 
 pub fn is_proper<'a>(
     keys: &'a [u32; 128],

@@ -8,10 +8,10 @@ use answers::Verdict;
 use answers::refused;
 use board_order_moves::move_last;
 use board_refusals::remove_rules;
-use board_search::place_in;
-use board_tops::raise;
 use board_rule17::is_board;
 use board_rule17::length_in;
+use board_search::place_in;
+use board_tops::raise;
 
 pub fn remove(
     keys: &[u32; 128],

@@ -7,9 +7,9 @@ ghost use mathlib.Core.Path.{_≡_};
 ghost use Rattle.capability.specs.Srv6.{announcedOf};
 use answers::OPEN_MALFORMED;
 use answers::WRONG_MSD;
+use flag_positions::Setup;
 use msd::ABSENT;
 use objects::SRV6_SETUP;
-use flag_positions::Setup;
 use session::Limit;
 use session::Opened;
 

@@ -12,6 +12,7 @@ use answers::NOT_USABLE;
 use answers::OPEN_MALFORMED;
 use capability::SRV6_CAPABILITY;
 use capability_mpls::MPLS_CAPABILITY;
+use flag_positions::Setup;
 use open_carried::MPLS;
 use open_carried::joined;
 use open_carried::listed;
@@ -20,7 +21,6 @@ use open_carried::srv6_by;
 use open_frame::TLVS_AT;
 use open_frame::is_framed;
 use open_walk::Found;
-use flag_positions::Setup;
 use session::Opened;
 
 // The answer to an OPEN object, with A and R at two positions: what it carries, or 28, 1, 2 or 3 with the form at fault. Sub-TLV 26 is looked for,

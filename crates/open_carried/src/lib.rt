@@ -9,9 +9,9 @@ ghost use Rattle.open_carried.specs.Carried.{mplsAnnouncedBy, srv6By, jo
 use answers::CAPABILITY_MISSING;
 use capability::SRV6_FORM;
 use capability_mpls::MPLS_FORM;
+use flag_positions::Setup;
 use objects::MPLS_SETUP;
 use objects::SRV6_SETUP;
-use flag_positions::Setup;
 use session::Opened;
 use tlvs::NOWHERE;
 use tlvs::Span;
