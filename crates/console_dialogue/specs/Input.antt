@@ -8,7 +8,7 @@ use lib.ListN.{length, take}
 use Rattle.words.specs.Words.{newline}
 use Rattle.command.specs.Commands.{longestLine}
 use Rattle.console_state.specs.Rooms.{Rooms}
-use Rattle.console_state.specs.Standing.{Console, consoleOf, atStart}
+use Rattle.console_state.specs.State.{Console, consoleOf, atStart}
 use Rattle.console_dialogue.specs.Turns.{Turned, turnOf}
 use Rattle.console_dialogue.specs.declared.heard.Hearing.{Hearing}
 
