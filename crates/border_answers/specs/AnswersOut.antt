@@ -4,7 +4,7 @@ use Rattle.writer_state.specs.declared.Writer.{Writer}
 use Rattle.writer_state.specs.declared.Written.{Written}
 use Rattle.board_rules.specs.declared.answer.Handed.{Handed}
 use Rattle.board_rules.specs.declared.answer.Handed.the-variants.{Refused, Path, Removed, Level}
-use Rattle.border_records.specs.Records.{isYes, flagOf, verdictOut}
+use Rattle.border_records.specs.Records.{isYes, bit, verdictOut}
 use Rattle.border_answers.specs.declared.writing.WriterRecord.{WriterRecord}
 use Rattle.border_answers.specs.declared.writing.WrittenRecord.{WrittenRecord}
 use Rattle.border_answers.specs.declared.change.ChangeRecord.{ChangeRecord}
@@ -13,7 +13,7 @@ abbrev pub writerIn : WriterRecord → Writer
 writerIn w = record { ero = isYes (w .ero); at = w .at; form = w .form }
 
 abbrev pub writerOut : Writer → WriterRecord
-writerOut w = record { ero = flagOf (w .ero); form = w .form; at = w .at }
+writerOut w = record { ero = bit (w .ero); form = w .form; at = w .at }
 
 abbrev pub writtenOut : Written → WrittenRecord
 writtenOut w = record { verdict = verdictOut (w .verdict); writer = writerOut (w .writer) }

@@ -4,7 +4,7 @@ use mathlib.Core.Bool.{cond}
 use lib.Dec.{ltb}
 use Rattle.flag_positions.specs.declared.Setup.{Setup}
 use Rattle.session.specs.declared.Opened.{Opened}
-use Rattle.border_records.specs.Records.{isYes, flagOf, limitIn, limitedFlag, mostOf, depthFrom, thereOf, valueOf}
+use Rattle.border_records.specs.Records.{isYes, bit, limitIn, limitedFlag, mostOf, depthFrom, thereOf, valueOf}
 use Rattle.border_opened.specs.declared.opened.OpenedRecord.{OpenedRecord}
 use Rattle.border_opened.specs.declared.setup.SetupRecord.{SetupRecord}
 
@@ -37,18 +37,18 @@ abbrev pub openedOut : Opened → OpenedRecord
 openedOut o =
     record {
       number = o .number;
-      srv6 = flagOf (o .srv6);
-      n = flagOf (o .n);
+      srv6 = bit (o .srv6);
+      n = bit (o .n);
       limited = limitedFlag (o .limit);
       limit = mostOf (o .limit);
-      a = flagOf (o .a);
-      r = flagOf (o .r);
+      a = bit (o .a);
+      r = bit (o .r);
       hasv = thereOf (o .v);
       v = valueOf (o .v);
       hasm = thereOf (o .m);
       m = valueOf (o .m);
-      mpls = flagOf (o .mpls);
-      mplsn = flagOf (o .mplsn);
+      mpls = bit (o .mpls);
+      mplsn = bit (o .mplsn);
       mplslimited = limitedFlag (o .mplslimit);
       form = formOut (o .form);
       mplslimit = mostOf (o .mplslimit);

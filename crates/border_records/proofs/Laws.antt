@@ -13,7 +13,7 @@ use Rattle.session.specs.declared.Limit.the-variants.{Free, Most}
 use Rattle.border_records.specs.declared.verdict.VerdictRecord.{VerdictRecord}
 use Rattle.border_records.specs.Records.{
   isYes,
-  flagOf,
+  bit,
   limitIn,
   limitedFlag,
   mostOf,
@@ -25,7 +25,7 @@ use Rattle.border_records.specs.Records.{
   verdictOut,
 }
 
-pub flag-back : (b : Bool) → isYes (flagOf b) ≡ b
+pub flag-back : (b : Bool) → isYes (bit b) ≡ b
 flag-back true = refl
 flag-back false = refl
 

@@ -4,17 +4,15 @@ use Prim.Native.Nat.{ℕ, min}
 use mathlib.Core.Bool.{Bool, cond, not}
 use lib.Dec.{eqb, ltb}
 use Rattle.answers.specs.declared.verdict.Verdict.{Verdict}
+pub use Rattle.octets.specs.Octets.{bit}
 use Rattle.msd.specs.Msd.{absent}
 use Rattle.session.specs.declared.Limit.{Limit}
 use Rattle.session.specs.declared.Limit.the-variants.{Free, Most}
 use Rattle.border_records.specs.declared.verdict.VerdictRecord.{VerdictRecord}
 
--- A flag is an octet: 0 is no, every other number is yes; an answer has 0 or 1.
+-- A flag is an octet: 0 is no, every other number is yes; an answer has 0 or 1, its `bit`.
 abbrev pub isYes : ℕ → Bool
 isYes flag = not (eqb flag 0)
-
-abbrev pub flagOf : Bool → ℕ
-flagOf b = cond b 1 0
 
 -- A limit is a flag and a number; without the flag the number does not count, and an answer has 0 there.
 abbrev pub limitIn : ℕ → ℕ → Limit

@@ -5,7 +5,7 @@ use lib.Dec.{eqb}
 use Rattle.subobject.specs.declared.segment.Outline.{Outline}
 use Rattle.subobject.specs.declared.segment.Segment.{Segment}
 use Rattle.route.specs.declared.picking.Picked.{Picked}
-use Rattle.border_records.specs.Records.{isYes, flagOf, verdictOut}
+use Rattle.border_records.specs.Records.{isYes, bit, verdictOut}
 use Rattle.border_segment.specs.declared.segment.OutlineRecord.{OutlineRecord}
 use Rattle.border_segment.specs.declared.segment.SegmentRecord.{SegmentRecord}
 use Rattle.route_step.specs.declared.stepping.Stepped.{Stepped}
@@ -20,7 +20,7 @@ abbrev pub completeIn : ℕ → Bool
 completeIn label = eqb (label / 2 % 2) 1
 
 abbrev pub labelOut : Bool → Bool → ℕ
-labelOut m c = flagOf m + 2 * flagOf c
+labelOut m c = bit m + 2 * bit c
 
 abbrev pub outlineIn : OutlineRecord → Outline
 outlineIn o =
@@ -38,17 +38,17 @@ outlineIn o =
 abbrev pub segmentOut : Segment → SegmentRecord
 segmentOut g =
     record {
-      loose = flagOf (g .loose);
-      verify = flagOf (g .verify);
+      loose = bit (g .loose);
+      verify = bit (g .verify);
       nt = g .nt;
       behaviour = g .behaviour;
-      hassid = flagOf (g .hassid);
+      hassid = bit (g .hassid);
       sid = g .sid;
       nai = g .nai;
-      structured = flagOf (g .structured);
+      structured = bit (g .structured);
       structure = g .structure;
-      labelled = flagOf (g .labelled);
-      complete = flagOf (g .complete);
+      labelled = bit (g .labelled);
+      complete = bit (g .complete);
     }
 
 -- What a segment's record names beside its octets.
@@ -71,7 +71,7 @@ pickedOut p =
       segment = segmentOut (p .segment);
       flags = p .strays .flags;
       sflags = p .strays .structure;
-      reserved = flagOf (p .strays .reserved);
+      reserved = bit (p .strays .reserved);
     }
 
 abbrev pub steppedOut : Stepped → SteppedRecord

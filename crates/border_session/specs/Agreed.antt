@@ -3,7 +3,7 @@ use mathlib.Core.Bool.{false}
 use Rattle.msd.specs.Msd.{absent}
 use Rattle.session.specs.declared.Session.{Session}
 use Rattle.session.specs.declared.Sessions.{Sessions}
-use Rattle.border_records.specs.Records.{isYes, flagOf, limitIn, limitedFlag, shortOf, depthFrom, thereOf, valueOf}
+use Rattle.border_records.specs.Records.{isYes, bit, limitIn, limitedFlag, shortOf, depthFrom, thereOf, valueOf}
 use Rattle.border_session.specs.declared.SessionRecord.{SessionRecord}
 
 -- The two sessions in one record. MPLS's has no A, R, v and m.
@@ -37,17 +37,17 @@ sessionsIn s = record { srv6 = srv6In s; mpls = mplsIn s }
 abbrev pub sessionsOut : Sessions → SessionRecord
 sessionsOut s =
     record {
-      agreed = flagOf (s .srv6 .agreed);
-      n = flagOf (s .srv6 .n);
-      a = flagOf (s .srv6 .a);
-      r = flagOf (s .srv6 .r);
+      agreed = bit (s .srv6 .agreed);
+      n = bit (s .srv6 .n);
+      a = bit (s .srv6 .a);
+      r = bit (s .srv6 .r);
       hasv = thereOf (s .srv6 .v);
       v = valueOf (s .srv6 .v);
       hasm = thereOf (s .srv6 .m);
       m = valueOf (s .srv6 .m);
       limited = limitedFlag (s .srv6 .limit);
-      mpls = flagOf (s .mpls .agreed);
-      mplsn = flagOf (s .mpls .n);
+      mpls = bit (s .mpls .agreed);
+      mplsn = bit (s .mpls .n);
       mplslimited = limitedFlag (s .mpls .limit);
       limit = shortOf (s .srv6 .limit);
       mplslimit = shortOf (s .mpls .limit);

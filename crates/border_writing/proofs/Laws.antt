@@ -16,7 +16,7 @@ use Rattle.writer_state.specs.declared.Written.{Written}
 use Rattle.writer_state.specs.Answers.{answered}
 use Rattle.writer.specs.Writing.{addAnswerIn, addAnswer}
 use Rattle.border_records.specs.declared.verdict.VerdictRecord.{VerdictRecord}
-use Rattle.border_records.specs.Records.{isYes, flagOf, verdictOut}
+use Rattle.border_records.specs.Records.{isYes, bit, verdictOut}
 use Rattle.border_segment.specs.declared.segment.OutlineRecord.{OutlineRecord}
 use Rattle.border_segment.specs.Segments.{outlineIn}
 use Rattle.border_answers.specs.declared.writing.WriterRecord.{WriterRecord}
@@ -51,7 +51,7 @@ state-kept b w g v e =
     forms (ℕ.suc n) new q = refl
 
 -- A record that is handed back with another place only.
-pub placed-out : (x : WriterRecord) (v : Written) (d : VerdictRecord) → d ≡ verdictOut (v .verdict) → x .ero ≡ flagOf (v .writer .ero)
+pub placed-out : (x : WriterRecord) (v : Written) (d : VerdictRecord) → d ≡ verdictOut (v .verdict) → x .ero ≡ bit (v .writer .ero)
     → x .form ≡ v .writer .form
     → _≡_ {A = WrittenRecord} (record { verdict = d; writer = record { ero = x .ero; form = x .form; at = v .writer .at } }) (writtenOut v)
 placed-out x v d e k f = by-parts e k f
@@ -62,7 +62,7 @@ placed-out x v d e k f = by-parts e k f
     by-parts i j l = cc
 
 -- A flag that is 0 or 1 comes back as it was.
-pub flag-back : (n : ℕ) → n ≤ 1 → n ≡ flagOf (isYes n)
+pub flag-back : (n : ℕ) → n ≤ 1 → n ≡ bit (isYes n)
 flag-back ℕ.zero h = refl
 flag-back (ℕ.suc ℕ.zero) h = refl
 flag-back (ℕ.suc (ℕ.suc n)) h = absurd (omega arith)

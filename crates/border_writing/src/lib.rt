@@ -4,7 +4,7 @@ ghost use mathlib.Core.Path.{_≡_};
 ghost use Rattle.subobject.specs.Segments.{segmentWith};
 ghost use Rattle.writer_begin_finish.specs.Ends.{beginAnswer, beginBuffer, finishAnswer, finishBuffer};
 ghost use Rattle.writer.specs.Writing.{addAnswer, addBuffer};
-ghost use Rattle.border_records.specs.Records.{isYes, flagOf};
+ghost use Rattle.border_records.specs.Records.{isYes, bit};
 ghost use Rattle.border_segment.specs.Segments.{outlineIn};
 ghost use Rattle.border_answers.specs.AnswersOut.{writerIn, writtenOut};
 use border_answers::WriterRecord;
@@ -18,7 +18,7 @@ use writer_state::Written;
 // What a call hands back, where the record that came has the same kind and form: it goes back as it came, with another place. A caller that loads
 // kind and form as one number then does not wait for two octets stored one by one.
 fn placed(came: WriterRecord, w: Written) -> WrittenRecord
-    requires { ⌜ (came .ero ≡ flagOf (w .writer .ero)) × (came .form ≡ w .writer .form) ⌝ }
+    requires { ⌜ (came .ero ≡ bit (w .writer .ero)) × (came .form ≡ w .writer .form) ⌝ }
     ensures placed { λ r. ⌜ r ≡ writtenOut w ⌝ }
 {
     let verdict = w.verdict;

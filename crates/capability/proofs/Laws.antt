@@ -30,12 +30,12 @@ and-leb false x y e = leb-true x y (cc)
 
 module _ (w : List ℕ) where
   -- There is no limit exactly if X is set or neither H.Encaps nor Segments Left is present.
-  pub no-limit-exactly : (limitOf w ≡ Free) ↔ ((xOf w ≡ true) ⊎ ((present maxHEncaps (pairsOf w) ≡ false) × (present maxSegmentsLeft (pairsOf w) ≡ false)))
+  pub no-limit-exactly : (limitOf w ≡ Free) ↔ ((xOf w ≡ true) ⊎ ((present (pairsOf w) maxHEncaps ≡ false) × (present (pairsOf w) maxSegmentsLeft ≡ false)))
   unfolding limitOf hEncapsOf segmentsLeftOf
   no-limit-exactly = go (xOf w)
     where
       go : (x : Bool) → (limitOfPairs (cond x [] (pairsOf w)) ≡ Free)
-          ↔ ((x ≡ true) ⊎ ((present maxHEncaps (pairsOf w) ≡ false) × (present maxSegmentsLeft (pairsOf w) ≡ false)))
+          ↔ ((x ≡ true) ⊎ ((present (pairsOf w) maxHEncaps ≡ false) × (present (pairsOf w) maxSegmentsLeft ≡ false)))
       go true = (λ e. inl refl, λ h. refl)
       go false = (λ e. inr (free-exactly (pairsOf w) .0 e), λ h. ⊎-elim (λ e. absurd (false≢true e)) (λ k. free-exactly (pairsOf w) .1 k) h)
 
@@ -63,12 +63,12 @@ module _ (p : Setup) (w : List ℕ) where
   -- The last way out of the code: X is 0 and no pair is wrong.
   pub announced-pairs : (flags : ℕ) (a r : Bool) (g : Gathered) (l : Limit) {o : Opened} → flags ≡ octetOf w flagsAt → sizedOf w ≡ true
       → eqb (flags / 1 % 2) 1 ≡ false → wrongPairs (pairsOf w) ≡ false → a ≡ aOf p w → r ≡ rOf p w → g ≡ gatheredOf (pairsOf w)
-      → Stands (g .encaps) (g .left) (pairsOf w) → l ≡ limitBy (depthIn (g .encaps)) (depthIn (g .left))
+      → Stands (pairsOf w) (g .encaps) (g .left) → l ≡ limitBy (depthIn (g .encaps)) (depthIn (g .left))
       → o ≡ openCarries true (eqb (flags / 2 % 2) 1) l a r (g .encaps) (g .left) → o ≡ announcedOf p w
   unfolding announcedOf wrongOf limitOf hEncapsOf segmentsLeftOf
   announced-pairs flags a r g l e s x none f h k t m o =
-      let v : g .encaps ≡ depthNumber (smallestOf maxHEncaps (pairsOf w)) = rw (k, none) in
-      let n : g .left ≡ depthNumber (smallestOf maxSegmentsLeft (pairsOf w)) = rw (k, none) in
+      let v : g .encaps ≡ depthNumber (smallestOf (pairsOf w) maxHEncaps) = rw (k, none) in
+      let n : g .left ≡ depthNumber (smallestOf (pairsOf w) maxSegmentsLeft) = rw (k, none) in
       let limit = rw (t .0, t .1) at m in
       o ∙ rw (s, x-told flags false e x, none, n-told flags e, f, h, limit, v, n)
 

@@ -41,21 +41,21 @@ worthN = 2
 abbrev pub worthX : ℕ
 worthX = 1
 
-abbrev pub flagSet : ℕ → List ℕ → Bool
-flagSet worth w = eqb (octetOf w flagsAt / worth % 2) 1
+abbrev pub flagSet : List ℕ → ℕ → Bool
+flagSet w worth = eqb (octetOf w flagsAt / worth % 2) 1
 
 unfoldable pub nOf : List ℕ → Bool
-nOf w = flagSet worthN w
+nOf w = flagSet w worthN
 
 unfoldable pub xOf : List ℕ → Bool
-xOf w = flagSet worthX w
+xOf w = flagSet w worthX
 
 -- A and R, at their positions among the 16 flags (document 02, C-15).
 unfoldable pub aOf : Setup → List ℕ → Bool
-aOf p w = flagAt (p .a) (be16 w bothFlagsAt)
+aOf p w = flagAt (be16 w bothFlagsAt) (p .a)
 
 unfoldable pub rOf : Setup → List ℕ → Bool
-rOf p w = flagAt (p .r) (be16 w bothFlagsAt)
+rOf p w = flagAt (be16 w bothFlagsAt) (p .r)
 
 abbrev pub pairsOf : List ℕ → List Pair
 pairsOf w = pairsIn (drop pairsAt w)
@@ -70,10 +70,10 @@ countingOf w = cond (xOf w) [] (pairsOf w)
 
 -- H.Encaps' v and Segments Left's m, each there or not, and the limit of them.
 unfoldable pub hEncapsOf : List ℕ → Option ℕ
-hEncapsOf w = smallestOf maxHEncaps (countingOf w)
+hEncapsOf w = smallestOf (countingOf w) maxHEncaps
 
 unfoldable pub segmentsLeftOf : List ℕ → Option ℕ
-segmentsLeftOf w = smallestOf maxSegmentsLeft (countingOf w)
+segmentsLeftOf w = smallestOf (countingOf w) maxSegmentsLeft
 
 unfoldable pub limitOf : List ℕ → Limit
 limitOf w = limitBy (hEncapsOf w) (segmentsLeftOf w)

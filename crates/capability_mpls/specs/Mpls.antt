@@ -37,14 +37,14 @@ mplsWorthN = 2
 abbrev pub mplsWorthX : ℕ
 mplsWorthX = 1
 
-abbrev pub mplsFlagIn : ℕ → List ℕ → Bool
-mplsFlagIn worth w = eqb (octetOf w mplsFlagsAt / worth % 2) 1
+abbrev pub mplsFlagIn : List ℕ → ℕ → Bool
+mplsFlagIn w worth = eqb (octetOf w mplsFlagsAt / worth % 2) 1
 
 unfoldable pub mplsNOf : List ℕ → Bool
-mplsNOf w = mplsFlagIn mplsWorthN w
+mplsNOf w = mplsFlagIn w mplsWorthN
 
 unfoldable pub mplsXOf : List ℕ → Bool
-mplsXOf w = mplsFlagIn mplsWorthX w
+mplsXOf w = mplsFlagIn w mplsWorthX
 
 unfoldable pub depthOf : List ℕ → ℕ
 depthOf w = octetOf w depthAt
@@ -58,11 +58,11 @@ unfoldable pub mplsLimitOf : List ℕ → Limit
 mplsLimitOf w = cond (mplsXOf w) Free (Most (depthOf w))
 
 -- What the value of sub-TLV 26 adds to an answer where none of its rules is broken.
-abbrev pub mplsBeside : List ℕ → Opened → Opened
-mplsBeside w o = withMpls o (mplsNOf w) (mplsLimitOf w)
+abbrev pub mplsBeside : Opened → List ℕ → Opened
+mplsBeside o w = withMpls o (mplsNOf w) (mplsLimitOf w)
 
 -- What a side that lists type 1 announces by the value of sub-TLV 26, in the order 1, 3.
 unfoldable pub mplsAnnouncedOf : List ℕ → Opened
 mplsAnnouncedOf w =
     cond (not (mplsSizedOf w)) (openRefused openMalformed mplsSetup)
-    (cond (depthless w) (openRefused wrongMsd mplsSetup) (mplsBeside w withoutSrv6))
+    (cond (depthless w) (openRefused wrongMsd mplsSetup) (mplsBeside withoutSrv6 w))

@@ -7,7 +7,8 @@ use lib.Dec.{eqb}
 use lib.ListN.{length, getD}
 use native.Mathlib.Omega.{arith}
 use borrow.Author.Tests.{lt-ltb, le-ltb}
-use Rattle.words.specs.Words.{space, wordOf, sameOf}
+use Rattle.words.specs.Words.{space, wordOf}
+use Rattle.same_octets.specs.Same.{sameOctets}
 use Rattle.command_forms.specs.Forms.{theEro, verbOf, kindsOf, formed}
 use Rattle.command_forms.specs.declared.verb.Verb.{Verb}
 use Rattle.command_forms.specs.declared.verb.Verb.the-variants as v
@@ -40,7 +41,7 @@ module _ (l : List ℕ) where
   unfolding commandOf
   read-in-form e h f = rw (e, le-ltb longestLine (length l) h, f)
 
-  pub made : {verb : Verb} {ero : Bool} {one two three four : ℕ} → verb ≡ verbOf (wordOf space l 0) → ero ≡ sameOf (wordOf space l 1) theEro
+  pub made : {verb : Verb} {ero : Bool} {one two three four : ℕ} → verb ≡ verbOf (wordOf space l 0) → ero ≡ sameOctets (wordOf space l 1) theEro
       → one ≡ numberAt l 1 → two ≡ numberAt l 2 → three ≡ numberAt l 3 → four ≡ numberAt l 4
       → record { verb = verb; ero = ero; one = one; two = two; three = three; four = four } ≡ commanded l
   made a b c d e f = λ i. record { verb = a i; ero = b i; one = c i; two = d i; three = e i; four = f i }

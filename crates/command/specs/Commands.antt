@@ -4,7 +4,8 @@ use mathlib.Core.Bool.{Bool, true, false, cond}
 use mathlib.Core.List.{List, [], _∷_}
 use lib.Dec.{eqb, ltb}
 use lib.ListN.{length}
-use Rattle.words.specs.Words.{space, wordOf, sameOf}
+use Rattle.words.specs.Words.{space, wordOf}
+use Rattle.same_octets.specs.Same.{sameOctets}
 use Rattle.decimal.specs.Decimal.{decimalValue}
 use Rattle.command_forms.specs.Forms.{theEro, verbOf, kindsOf, formed}
 use Rattle.command_forms.specs.declared.verb.Verb.{Verb}
@@ -35,7 +36,7 @@ numberAt line i = decimalValue (wordOf space line i)
 abbrev pub commanded : List ℕ → Command
 commanded line = record {
   verb = verbOf (wordOf space line 0);
-  ero = sameOf (wordOf space line 1) theEro;
+  ero = sameOctets (wordOf space line 1) theEro;
   one = numberAt line 1;
   two = numberAt line 2;
   three = numberAt line 3;

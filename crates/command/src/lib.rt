@@ -15,8 +15,8 @@ use command_forms::is_formed;
 use command_forms::place_named;
 use command_forms::verb_at;
 use decimal::value;
+use same_octets::same;
 use words::SPACE;
-use words::same;
 use words::word;
 
 // `#`

@@ -10,7 +10,8 @@ use lib.Seq.{drop-cons}
 use native.Mathlib.Omega.{arith}
 use native.Mathlib.Numerals.{add-one}
 use borrow.Author.Tests.{eq-eqb, ne-eqb}
-use Rattle.words.specs.Words.{space, newline, untilMark, behindMark, wordOf, wordsIn, sameOf}
+use Rattle.words.specs.Words.{space, newline, untilMark, behindMark, wordOf, wordsIn}
+use Rattle.same_octets.specs.Same.{sameOctets}
 use Rattle.words.proofs.Laws.{laterWords, allWords, all-word}
 use Rattle.command_forms.specs.declared.verb.Verb.{Verb}
 use Rattle.command_forms.specs.declared.verb.Verb.the-variants as v
@@ -119,11 +120,11 @@ pub looking-start : (w : List ℕ) → Looking w 0
 looking-start w = record { within = omega arith; same = omega arith }
 
 module _ (w : List ℕ) (i : ℕ) (h : i < length rows) (l : Looking w i) where
-  pub looking-hit : sameOf w (rowAt i .name) ≡ true → i ≡ placeNamed rows w
+  pub looking-hit : sameOctets w (rowAt i .name) ≡ true → i ≡ placeNamed rows w
   unfolding placeNamed
   looking-hit e = let s : 0 + i ≡ placeNamed rows w = rw (drop-cons rows i none h, e) at (l .same) in omega arith
 
-  pub looking-miss : sameOf w (rowAt i .name) ≡ false → Looking w (i + 1)
+  pub looking-miss : sameOctets w (rowAt i .name) ≡ false → Looking w (i + 1)
   unfolding placeNamed
   looking-miss e =
       let s : suc (placeNamed (drop (suc i) rows) w) + i ≡ placeNamed rows w = rw (drop-cons rows i none h, e) at (l .same) in
@@ -137,7 +138,7 @@ looking-end w i h l = let s : 0 + i ≡ placeNamed rows w = rw (drop-of-length-l
 named : (rs : List CommandRow) (w : List ℕ) → verbIn rs (placeNamed rs w) ≡ verbNamed rs w
 unfolding placeNamed verbNamed
 named [] w = refl
-named (r ∷ rs) w = go (sameOf w (r .name)) (named rs w) where
+named (r ∷ rs) w = go (sameOctets w (r .name)) (named rs w) where
   go : (b : Bool) → verbIn rs (placeNamed rs w) ≡ verbNamed rs w
       → verbIn (r ∷ rs) (cond b 0 (suc (placeNamed rs w))) ≡ cond b (r .verb) (verbNamed rs w)
   go true e = refl

@@ -4,7 +4,8 @@ use mathlib.Core.Bool.{Bool, true, false, cond, not, _&&_, _||_}
 use mathlib.Core.List.{List, [], _∷_}
 use lib.Dec.{eqb}
 use lib.ListN.{length}
-use Rattle.words.specs.Words.{space, ascii, wordOf, wordsIn, sameOf}
+use Rattle.words.specs.Words.{space, ascii, wordOf, wordsIn}
+use Rattle.same_octets.specs.Same.{sameOctets}
 use Rattle.decimal.specs.Decimal.{mostOctet, mostTwoOctets, isNumber, isAtMost, isStructure}
 use Rattle.hexadecimal.specs.Hexadecimal.{isOctets, isSid, isNai}
 use Rattle.command_forms.specs.declared.verb.Verb.{Verb}
@@ -45,7 +46,7 @@ rows =
 -- The command of the first row that has this name; `Bad` where none has it.
 unfoldable pub verbNamed : List CommandRow → List ℕ → Verb
 verbNamed [] w = v.Bad
-verbNamed (r ∷ rs) w = cond (sameOf w (r .name)) (r .verb) (verbNamed rs w)
+verbNamed (r ∷ rs) w = cond (sameOctets w (r .name)) (r .verb) (verbNamed rs w)
 
 unfoldable pub verbOf : List ℕ → Verb
 verbOf w = verbNamed rows w
@@ -91,7 +92,7 @@ fits octet w = isAtMost mostOctet w
 fits twoOctets w = isAtMost mostTwoOctets w
 fits size w = isAtMost mostSize w
 fits octets w = isOctets w
-fits side w = sameOf w theEro || sameOf w theRro
+fits side w = sameOctets w theEro || sameOctets w theRro
 fits sid w = isSid w
 fits nai w = isNai w
 fits structure w = isStructure w

@@ -8,12 +8,12 @@ use Rattle.command_forms.specs.Forms.{CommandRow, rows, Kind, fits}
 use Rattle.command_forms.specs.Forms.Kind.{number, bit, octet, twoOctets, size, octets, side, sid, nai, structure}
 use Rattle.command_forms.specs.declared.verb.Verb.{Verb}
 use Rattle.command_forms.specs.declared.verb.Verb.the-variants as v
-use Rattle.words.specs.Words.{sameOf}
+use Rattle.same_octets.specs.Same.{sameOctets}
 
 -- the place of the first row that has this name; behind the last where none has it
 unfoldable pub placeNamed : List CommandRow → List ℕ → ℕ
 placeNamed [] w = 0
-placeNamed (r ∷ rs) w = cond (sameOf w (r .name)) 0 (suc (placeNamed rs w))
+placeNamed (r ∷ rs) w = cond (sameOctets w (r .name)) 0 (suc (placeNamed rs w))
 
 -- the command of the row at a place; `Bad` behind the last
 abbrev pub verbIn : List CommandRow → ℕ → Verb

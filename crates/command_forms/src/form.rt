@@ -14,10 +14,10 @@ use hexadecimal::is_nai;
 use hexadecimal::is_octets;
 use hexadecimal::is_sid;
 use octets::either;
+use same_octets::same;
 use words::NEWLINE;
 use words::SPACE;
 use words::count;
-use words::same;
 use words::word;
 
 // the most octets of a buffer

@@ -2,10 +2,10 @@
 ghost use mathlib.Core.Path.{_≡_};
 ghost use Rattle.command_forms.specs.Forms.{rows};
 ghost use Rattle.command_forms.specs.Rows.{placeNamed, verbAt};
+use same_octets::same;
 use words::NEWLINE;
 use words::SPACE;
 use words::count;
-use words::same;
 use words::word;
 
 pub enum Verb {

@@ -27,7 +27,7 @@ use Rattle.board_look_by_value.specs.ByValue.{bodyNumberByValue, bodyByValue, b
 use Rattle.printing.specs.Text.{spell, decimalOf, glyphOf, hexOf, octetsText, furtherText, listText}
 use Rattle.words.specs.Words.{newline, space, comma, ascii}
 use Rattle.console_lines.specs.Lines.{lineOf, acceptance, refusalLine, openRefusalLine, badLine, doneLine, oneLine, twoLine, octetsLine, formLine, listLine}
-use Rattle.console_line_ends.specs.Ends.{bitOf, limitText, depthText, mplsWords, strayWords, labelWords}
+use Rattle.console_line_ends.specs.Ends.{bit, limitText, depthText, mplsWords, strayWords, labelWords}
 use Rattle.console_fields.specs.Shown.{openLine, openedLine, structureText, segmentLine}
 use Rattle.command_forms.specs.declared.verb.Verb.{Verb}
 use Rattle.command_forms.specs.declared.verb.Verb.the-variants as v
@@ -183,14 +183,14 @@ form-one : (form : ℕ) (s : List ℕ) → OneLine (formLine form s)
 form-one form s = accepted-one (decimalOf form ∷ octetsText s ∷ []) (all-cons (decimalOf form) (octetsText s ∷ []) (clear-decimal form) (octets-clear s))
 
 mpls-clear : (o : Opened) → allClear (mplsWords o) ≡ true
-mpls-clear o = numbers-clear (bitOf (o .mpls)) (bitOf (o .mplsn)) _ (all-cons (limitText (o .mplslimit)) [] (clear-limit (o .mplslimit)) all-none)
+mpls-clear o = numbers-clear (bit (o .mpls)) (bit (o .mplsn)) _ (all-cons (limitText (o .mplslimit)) [] (clear-limit (o .mplslimit)) all-none)
 
 open-one : (o : Opened) → OneLine (openLine o)
 open-one o =
     let v = depthText (depthIn (o .v)) in
     let m = depthText (depthIn (o .m)) in
-    accepted-one _ (numbers-clear (bitOf (o .srv6)) (bitOf (o .n)) _ (all-cons (limitText (o .limit)) _ (clear-limit (o .limit))
-    (numbers-clear (bitOf (o .a)) (bitOf (o .r)) (v ∷ m ∷ mplsWords o) (all-cons v (m ∷ mplsWords o) (clear-depth (depthIn (o .v)))
+    accepted-one _ (numbers-clear (bit (o .srv6)) (bit (o .n)) _ (all-cons (limitText (o .limit)) _ (clear-limit (o .limit))
+    (numbers-clear (bit (o .a)) (bit (o .r)) (v ∷ m ∷ mplsWords o) (all-cons v (m ∷ mplsWords o) (clear-depth (depthIn (o .v)))
     (all-cons m (mplsWords o) (clear-depth (depthIn (o .m))) (mpls-clear o))))))
 
 open-refusal-one : (number form : ℕ) → OneLine (openRefusalLine number form)
@@ -204,9 +204,9 @@ opened-one o = go (eqb (o .number) 0) where
 
 label-clear : (m c : Bool) (x : Strays) → allClear (labelWords m c x) ≡ true
 label-clear m c x =
-    numbers-clear (bitOf m) (bitOf c) (strayWords x)
-    (numbers-clear (x .flags) (x .structure) (decimalOf (bitOf (x .reserved)) ∷ [])
-    (all-cons (decimalOf (bitOf (x .reserved))) [] (clear-decimal (bitOf (x .reserved))) all-none))
+    numbers-clear (bit m) (bit c) (strayWords x)
+    (numbers-clear (x .flags) (x .structure) (decimalOf (bit (x .reserved)) ∷ [])
+    (all-cons (decimalOf (bit (x .reserved))) [] (clear-decimal (bit (x .reserved))) all-none))
 
 segment-one : (form : Form) (g : Segment) (x : Strays) → OneLine (segmentLine form g x)
 segment-one form g x =
@@ -214,7 +214,7 @@ segment-one form g x =
     let nai = octetsText (take (naiLength form (g .nt)) (g .nai)) in
     let structure = structureText (g .structured) (g .structure) in
     let labels = labelWords (g .labelled) (g .complete) x in
-    accepted-one _ (numbers-clear (bitOf (g .loose)) (bitOf (g .verify)) _ (numbers-clear (g .nt) (g .behaviour) (sid ∷ nai ∷ structure ∷ labels)
+    accepted-one _ (numbers-clear (bit (g .loose)) (bit (g .verify)) _ (numbers-clear (g .nt) (g .behaviour) (sid ∷ nai ∷ structure ∷ labels)
     (all-cons sid (nai ∷ structure ∷ labels) (clear-octets (take (cond (g .hassid) (form .sid) 0) (g .sid)))
     (all-cons nai (structure ∷ labels) (clear-octets (take (naiLength form (g .nt)) (g .nai)))
     (all-cons structure labels (clear-structure (g .structured) (g .structure)) (label-clear (g .labelled) (g .complete) x))))))

@@ -11,7 +11,7 @@ use Rattle.subobject_strays.specs.declared.Strays.{Strays}
 use Rattle.forms.specs.declared.Form.{Form}
 use Rattle.forms.specs.Forms.{naiLength}
 use Rattle.printing.specs.Text.{decimalOf, octetsText}
-use Rattle.console_line_ends.specs.Ends.{bitOf, limitText, flagWords, labelWords}
+use Rattle.console_line_ends.specs.Ends.{bit, limitText, flagWords, labelWords}
 use Rattle.console_lines.specs.Lines.{acceptance, openRefusalLine}
 
 -- the octets that the line of an OPEN or of a segment takes at most
@@ -21,7 +21,7 @@ long = 512
 -- `0 0 SRV6 N LIMIT A R V M MPLS MN MLIMIT`
 abbrev pub openLine : Opened → List ℕ
 openLine o =
-    acceptance (decimalOf (bitOf (o .srv6)) ∷ decimalOf (bitOf (o .n)) ∷ limitText (o .limit) ∷ flagWords o)
+    acceptance (decimalOf (bit (o .srv6)) ∷ decimalOf (bit (o .n)) ∷ limitText (o .limit) ∷ flagWords o)
 
 -- An OPEN's answer, a refusal too: "a refusal is `NUMBER 0 FORM`".
 abbrev pub openedLine : Opened → List ℕ
@@ -37,6 +37,6 @@ structureText there bits =
 -- `0 0 L V NT BEHAVIOUR SID NAI STRUCTURE M C FLAGS SFLAGS RESERVED`, "SID and NAI as OCTETS of their own lengths, or `-`": the SID's is the form's
 abbrev pub segmentLine : Form → Segment → Strays → List ℕ
 segmentLine form g x =
-    acceptance (decimalOf (bitOf (g .loose)) ∷ decimalOf (bitOf (g .verify)) ∷ decimalOf (g .nt) ∷ decimalOf (g .behaviour)
+    acceptance (decimalOf (bit (g .loose)) ∷ decimalOf (bit (g .verify)) ∷ decimalOf (g .nt) ∷ decimalOf (g .behaviour)
     ∷ octetsText (take (cond (g .hassid) (form .sid) 0) (g .sid)) ∷ octetsText (take (naiLength form (g .nt)) (g .nai))
     ∷ structureText (g .structured) (g .structure) ∷ labelWords (g .labelled) (g .complete) x)

@@ -1,8 +1,10 @@
 -- How the lines of an OPEN and of a segment end (console.md, the table's last column).
 use Prim.Native.Nat.{ℕ}
-use mathlib.Core.Bool.{Bool, cond}
+use mathlib.Core.Bool.{Bool}
 use mathlib.Core.Option.{Option, none, some}
 use mathlib.Core.List.{List, [], _∷_}
+-- "0 or 1"
+pub use Rattle.octets.specs.Octets.{bit}
 use Rattle.words.specs.Words.{dash}
 use Rattle.msd.specs.Msd.{depthIn}
 use Rattle.session.specs.declared.Limit.{Limit}
@@ -10,10 +12,6 @@ use Rattle.session.specs.declared.Limit.the-variants.{Free, Most}
 use Rattle.session.specs.declared.Opened.{Opened}
 use Rattle.subobject_strays.specs.declared.Strays.{Strays}
 use Rattle.printing.specs.Text.{decimalOf}
-
--- "0 or 1"
-abbrev pub bitOf : Bool → ℕ
-bitOf b = cond b 1 0
 
 -- "a number or `-`"
 abbrev pub limitText : Limit → List ℕ
@@ -26,16 +24,16 @@ depthText (some v) = decimalOf v
 
 -- `MPLS MN MLIMIT`: "MPLS, its N and its limit behind"
 abbrev pub mplsWords : Opened → List (List ℕ)
-mplsWords o = decimalOf (bitOf (o .mpls)) ∷ decimalOf (bitOf (o .mplsn)) ∷ limitText (o .mplslimit) ∷ []
+mplsWords o = decimalOf (bit (o .mpls)) ∷ decimalOf (bit (o .mplsn)) ∷ limitText (o .mplslimit) ∷ []
 
 -- `A R V M`, "V and M numbers or `-`", and what is behind them
 abbrev pub flagWords : Opened → List (List ℕ)
-flagWords o = decimalOf (bitOf (o .a)) ∷ decimalOf (bitOf (o .r)) ∷ depthText (depthIn (o .v)) ∷ depthText (depthIn (o .m)) ∷ mplsWords o
+flagWords o = decimalOf (bit (o .a)) ∷ decimalOf (bit (o .r)) ∷ depthText (depthIn (o .v)) ∷ depthText (depthIn (o .m)) ∷ mplsWords o
 
 -- `FLAGS SFLAGS RESERVED`: "the 12 flag bits with the assigned ones 0, .. the structure's flag octet or 0, .. 1 if a reserved octet was not 0, else 0"
 abbrev pub strayWords : Strays → List (List ℕ)
-strayWords x = decimalOf (x .flags) ∷ decimalOf (x .structure) ∷ decimalOf (bitOf (x .reserved)) ∷ []
+strayWords x = decimalOf (x .flags) ∷ decimalOf (x .structure) ∷ decimalOf (bit (x .reserved)) ∷ []
 
 -- `M C FLAGS SFLAGS RESERVED`
 abbrev pub labelWords : Bool → Bool → Strays → List (List ℕ)
-labelWords m c x = decimalOf (bitOf m) ∷ decimalOf (bitOf c) ∷ strayWords x
+labelWords m c x = decimalOf (bit m) ∷ decimalOf (bit c) ∷ strayWords x

@@ -6,7 +6,7 @@ ghost use lib.ListN.{length};
 ghost use Rattle.printing.specs.Text.{Behind, fieldSize, spaced};
 ghost use Rattle.msd.specs.Msd.{depthIn};
 ghost use Rattle.console_lines.specs.Lines.{furtherWords};
-ghost use Rattle.console_line_ends.specs.Ends.{bitOf, limitText, depthText, mplsWords, flagWords, strayWords, labelWords};
+ghost use Rattle.console_line_ends.specs.Ends.{bit, limitText, depthText, mplsWords, flagWords, strayWords, labelWords};
 use console_lines::END;
 use msd::ABSENT;
 use session::Limit;
@@ -19,7 +19,7 @@ use words::SPACE;
 pub const NONE_FIELD: [u8; 2] = [SPACE, DASH];
 
 pub fn bit(b: bool) -> u64
-    ensures bit { λ r. ⌜ r ≡ bitOf b ⌝ }
+    ensures bit { λ r. ⌜ r ≡ bit b ⌝ }
 {
     if b { 1 } else { 0 }
 }

@@ -3,7 +3,8 @@ use Prim.Native.Nat.{ℕ, zero, suc, _+_, _-_, _*_, _%_}
 use mathlib.Core.Bool.{Bool, true, false, cond, not, _&&_, _||_}
 use mathlib.Core.List.{List, [], _∷_}
 use lib.Dec.{eqb, ltb, leb}
-use Rattle.words.specs.Words.{comma, dash, digitZero, digitNine, wordOf, wordsIn, sameOf}
+use Rattle.words.specs.Words.{comma, dash, digitZero, digitNine, wordOf, wordsIn}
+use Rattle.same_octets.specs.Same.{sameOctets}
 use Rattle.decimal.specs.declared.Number.{Number}
 
 -- ## Numbers: "decimal digits and nothing else, 0 to 2^64-1, leading zeros allowed"
@@ -44,7 +45,7 @@ isAtMost most w = isNumber w && leb (decimalValue w) most
 -- ## None: `-`
 
 unfoldable pub isNone : List ℕ → Bool
-isNone w = sameOf w (dash ∷ [])
+isNone w = sameOctets w (dash ∷ [])
 
 -- ## Structures: "four numbers of 0 to 255 joined by commas, or `-` for none"
 

@@ -104,7 +104,7 @@ pub fn at_most(word: &[u8], most: u64) -> bool
 pub fn is_none(word: &[u8]) -> bool
     ensures none { λ r. ⌜ r ≡ isNone (now (word .entry)) ⌝ }
 {
-    words::same(word, &NONE)
+    same_octets::same(word, &NONE)
 }
 
 // Is this four numbers of 0 to 255 joined by commas, or none?

@@ -23,7 +23,7 @@ equal-unusable p = rw (eq-eqb p p refl) (go (leb p 13))
     go false = refl
 
 -- Position 0 is the highest of the 16 flags, 13 the third from the low end.
-pub highest : (flagAt 0 32768 ≡ true) × (flagAt 0 1 ≡ false) × (flagAt 13 4 ≡ true)
+pub highest : (flagAt 32768 0 ≡ true) × (flagAt 1 0 ≡ false) × (flagAt 4 13 ≡ true)
 unfolding flagAt
 highest = (refl, refl, refl)
 
@@ -34,5 +34,5 @@ first_two-determined = determined
 pub usable-determined : (p : Setup) {x y : Bool} → x ≡ usableSetup p → y ≡ usableSetup p → x ≡ y
 usable-determined p = determined
 
-pub flag-determined : (flags p : ℕ) {x y : Bool} → x ≡ flagAt p flags → y ≡ flagAt p flags → x ≡ y
+pub flag-determined : (flags p : ℕ) {x y : Bool} → x ≡ flagAt flags p → y ≡ flagAt flags p → x ≡ y
 flag-determined flags p = determined

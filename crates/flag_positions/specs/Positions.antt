@@ -22,4 +22,4 @@ firstTwo = record { a = 0; r = 1 }
 
 -- Position p of the 16 flags, counted from the high end, is worth 2^(15-p).
 unfoldable pub flagAt : ℕ → ℕ → Bool
-flagAt p flags = leb p lowestPosition && eqb (flags / 2 ^ (lowestPosition - p) % 2) 1
+flagAt flags p = leb p lowestPosition && eqb (flags / 2 ^ (lowestPosition - p) % 2) 1

@@ -39,7 +39,7 @@ pub fn usable(p: Setup) -> bool
 
 // Whether the flag at a position is set in the 16 flags; none stands behind position 15.
 pub fn flag(flags: usize, p: u64) -> bool
-    ensures flag { λ x. ⌜ x ≡ flagAt p flags ⌝ }
+    ensures flag { λ x. ⌜ x ≡ flagAt flags p ⌝ }
 {
     if LOWEST_POSITION < p {
         return false;

@@ -1,5 +1,5 @@
--- Laws about checks in order, each by induction along the list: a check at its head is broken and answers, or is not and the rest answers. By rank the same is
--- said of the place in the list (`first-answer`, `answer-first`). Assumes nothing.
+-- Laws about checks in order: those of rules in order (answers/proofs/First) for a route's checks, and the same by rank, the place in the list (`first-answer`,
+-- `answer-first`). Assumes nothing.
 use Prim.Native.Nat.{ℕ, zero, suc, _+_, _≤_, _<_}
 use mathlib.Core.Path.{_≡_, refl, sym, _∙_, ap}
 use mathlib.Core.List.{List, [], _∷_, _++_}
@@ -8,48 +8,42 @@ use lib.ListN.{length, getD}
 use native.Mathlib.Omega.{arith}
 use Rattle.answers.specs.declared.verdict.Verdict.{Verdict}
 use Rattle.answers.specs.Verdicts.{refusedBy, acceptedWith}
+use Rattle.answers.proofs.First.{EachOf, NoneOf, each-append, each-split, first-of-append, none-first-of, first-of-none}
 use Rattle.frame.specs.Checks.{Check, check, firstBroken}
 
 -- one after the other ------------------------------------------------------------------------------------------
 
 pub first-append : (xs ys : List Check) (after : Verdict) → firstBroken (xs ++ ys) after ≡ firstBroken xs (firstBroken ys after)
-first-append [] ys after = refl
-first-append (c ∷ xs) ys after = rw (first-append xs ys after)
+first-append xs ys after = first-of-append (λ (c : Check). c .broken) (λ (c : Check). refusedBy (c .number) (c .place)) xs ys after
 
 -- No check of the list is broken.
 abbrev pub None : List Check → Type 0
-None [] = Unit {0}
-None (c ∷ cs) = (c .broken ≡ false) × None cs
+None cs = NoneOf (λ c. c .broken) cs
 
 -- Every check of the list has a number.
 abbrev pub Numbered : List Check → Type 0
-Numbered [] = Unit {0}
-Numbered (c ∷ cs) = (0 < c .number) × Numbered cs
+Numbered cs = EachOf (λ c. 0 < c .number) cs
 
 pub none-first : (cs : List Check) (after : Verdict) → None cs → firstBroken cs after ≡ after
-none-first [] after h = refl
-none-first (c ∷ cs) after h = rw (h .0) (none-first cs after (h .1))
+none-first cs after h = none-first-of (λ (c : Check). c .broken) (λ (c : Check). refusedBy (c .number) (c .place)) cs after h
 
 pub none-append : (xs ys : List Check) → None xs → None ys → None (xs ++ ys)
-none-append [] ys h k = k
-none-append (c ∷ xs) ys h k = (h .0, none-append xs ys (h .1) k)
+none-append xs ys h k = each-append (λ (c : Check). c .broken ≡ false) xs ys h k
 
 pub none-split : (xs ys : List Check) → None (xs ++ ys) → None xs × None ys
-none-split [] ys h = (tt, h)
-none-split (c ∷ xs) ys h = let r = none-split xs ys (h .1) in ((h .0, r .0), r .1)
+none-split xs ys h = each-split (λ (c : Check). c .broken ≡ false) xs ys h
 
 pub numbered-append : (xs ys : List Check) → Numbered xs → Numbered ys → Numbered (xs ++ ys)
-numbered-append [] ys h k = k
-numbered-append (c ∷ xs) ys h k = (h .0, numbered-append xs ys (h .1) k)
+numbered-append xs ys h k = each-append (λ (c : Check). 0 < c .number) xs ys h k
 
 -- An answer without a number: no check was broken.
 pub first-none : (cs : List Check) (after : Verdict) → Numbered cs → firstBroken cs after .number ≡ 0 → None cs
-first-none [] after h e = tt
-first-none (c ∷ cs) after h e = go (c .broken) refl (λ r. first-none cs after (h .1) r)
+first-none cs after h e =
+    first-of-none (λ (c : Check). c .broken) (λ (c : Check). refusedBy (c .number) (c .place)) (λ (v : Verdict). v .number ≡ 0) cs after (each cs h) e
   where
-    go : (b : Bool) → c .broken ≡ b → (firstBroken cs after .number ≡ 0 → None cs) → None (c ∷ cs)
-    go true k rest = let z : c .number ≡ 0 = rw k at e in absurd (omega (arith, h .0))
-    go false k rest = (k, rest (rw k at e))
+    each : (cs : List Check) → Numbered cs → EachOf (λ (c : Check). c .number ≡ 0 → ⊥) cs
+    each [] h = tt
+    each (c ∷ cs) h = ((λ z. omega (arith, h .0)), each cs (h .1))
 
 -- An answer with a number: what comes after plays no part.
 pub first-some : (cs : List Check) (a b : Verdict) → a .number ≡ 0 → (firstBroken cs a .number ≡ 0 → ⊥) → firstBroken cs a ≡ firstBroken cs b

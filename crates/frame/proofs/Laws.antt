@@ -152,37 +152,37 @@ joined kinds kind first g ps =
       whole = g .whole;
       count = g .count + length ps;
       any = g .any || anyOther kinds kind first ps;
-      other = cond (eqb (g .other) 0) (otherThan kinds first ps) (g .other);
+      other = cond (eqb (g .other) 0) (otherThan kinds ps first) (g .other);
     }
 
 abbrev pub lookRest : (ℕ → ℕ) → ℕ → ℕ → Facts → Apart → Facts
 lookRest kinds kind first g a = cond (a .whole) (joined kinds kind first g (a .places)) (noFacts false)
 
-first-mixed : (kinds : ℕ → ℕ) (f : ℕ) (s : List ℕ) (at : ℕ) → otherThan kinds (kinds at) (apart s at f .places) ≡ mixedAt kinds (apart s at f .places)
+first-mixed : (kinds : ℕ → ℕ) (f : ℕ) (s : List ℕ) (at : ℕ) → otherThan kinds (apart s at f .places) (kinds at) ≡ mixedAt kinds (apart s at f .places)
 unfolding apart
 first-mixed kinds zero s at = refl
 first-mixed kinds (suc f) s at = go (eqb at (length s)) (fitsIn (octetOf s (at + 1)) (length s - at))
   where
-    go : (x y : Bool) → otherThan kinds (kinds at) (cond x ended (cond y (from at (apart s (at + octetOf s (at + 1)) f)) unfilled) .places)
+    go : (x y : Bool) → otherThan kinds (cond x ended (cond y (from at (apart s (at + octetOf s (at + 1)) f)) unfilled) .places) (kinds at)
         ≡ mixedAt kinds (cond x ended (cond y (from at (apart s (at + octetOf s (at + 1)) f)) unfilled) .places)
     go true y = refl
     go false false = refl
     go false true = rw (eq-eqb (kinds at) (kinds at) refl)
 
 -- The first one's type is looked for once.
-unlike : (kinds : ℕ → ℕ) (kind first : ℕ) (ps : List ℕ) → eqb first kind ≡ false → anyOther kinds kind first ps ≡ anyIs kinds kind ps
+unlike : (kinds : ℕ → ℕ) (kind first : ℕ) (ps : List ℕ) → eqb first kind ≡ false → anyOther kinds kind first ps ≡ anyIs kinds ps kind
 unlike kinds kind first [] e = refl
 unlike kinds kind first (p ∷ ps) e = go (eqb (kinds p) first) refl (unlike kinds kind first ps e)
   where
-    go : (b : Bool) → eqb (kinds p) first ≡ b → anyOther kinds kind first ps ≡ anyIs kinds kind ps
-        → cond b (anyOther kinds kind first ps) (eqb (kinds p) kind || anyOther kinds kind first ps) ≡ (eqb (kinds p) kind || anyIs kinds kind ps)
+    go : (b : Bool) → eqb (kinds p) first ≡ b → anyOther kinds kind first ps ≡ anyIs kinds ps kind
+        → cond b (anyOther kinds kind first ps) (eqb (kinds p) kind || anyOther kinds kind first ps) ≡ (eqb (kinds p) kind || anyIs kinds ps kind)
     go true q r = rw (eqb-true (kinds p) first q, e) r
     go false q r = rw r
 
-first-once : (kinds : ℕ → ℕ) (kind first : ℕ) (ps : List ℕ) → (eqb first kind || anyOther kinds kind first ps) ≡ (eqb first kind || anyIs kinds kind ps)
+first-once : (kinds : ℕ → ℕ) (kind first : ℕ) (ps : List ℕ) → (eqb first kind || anyOther kinds kind first ps) ≡ (eqb first kind || anyIs kinds ps kind)
 first-once kinds kind first ps = go (eqb first kind) refl
   where
-    go : (b : Bool) → eqb first kind ≡ b → (b || anyOther kinds kind first ps) ≡ (b || anyIs kinds kind ps)
+    go : (b : Bool) → eqb first kind ≡ b → (b || anyOther kinds kind first ps) ≡ (b || anyIs kinds ps kind)
     go true e = refl
     go false e = unlike kinds kind first ps e
 
@@ -192,7 +192,7 @@ startFacts s kind first = record { whole = true; count = 0; any = not (eqb (leng
 
 first-any : (kinds : ℕ → ℕ) (kind f : ℕ) (s : List ℕ) → apart s header f .whole ≡ true
     → ((not (eqb (length s) header) && eqb (kinds header) kind) || anyOther kinds kind (kinds header) (apart s header f .places))
-    ≡ anyIs kinds kind (apart s header f .places)
+    ≡ anyIs kinds (apart s header f .places) kind
 unfolding apart
 first-any kinds kind zero s w = absurd (let z : _≡_ {A = ℕ} 0 1 = cc in omega arith)
 first-any kinds kind (suc f) s w = go (eqb header (length s)) refl (fitsIn (octetOf s (header + 1)) (length s - header)) w
@@ -200,7 +200,7 @@ first-any kinds kind (suc f) s w = go (eqb header (length s)) refl (fitsIn (octe
     go : (x : Bool) → eqb header (length s) ≡ x → (y : Bool) → cond x ended (cond y (from header (apart s (header + octetOf s (header + 1)) f)) unfilled) .whole ≡ true
         → ((not (eqb (length s) header) && eqb (kinds header) kind)
         || anyOther kinds kind (kinds header) (cond x ended (cond y (from header (apart s (header + octetOf s (header + 1)) f)) unfilled) .places))
-        ≡ anyIs kinds kind (cond x ended (cond y (from header (apart s (header + octetOf s (header + 1)) f)) unfilled) .places)
+        ≡ anyIs kinds (cond x ended (cond y (from header (apart s (header + octetOf s (header + 1)) f)) unfilled) .places) kind
     go true e y v = rw (eq-eqb (length s) header (sym (eqb-true header (length s) e)))
     go false e false v = absurd (let z : _≡_ {A = ℕ} 0 1 = cc in omega arith)
     go false e true v =
@@ -213,12 +213,12 @@ unfolding factsOf apartOf
 rest-starts s ero kind first e = record { fuel = suc (length s); enough = omega arith; same = go (apart s header (suc (length s)) .whole) refl }
   where
     go : (b : Bool) → apart s header (suc (length s)) .whole ≡ b
-        → lookRest (kindAt s ero) kind first (startFacts s kind first) (apart s header (suc (length s))) ≡ factsIn (kindAt s ero) kind (apart s header (suc (length s)))
+        → lookRest (kindAt s ero) kind first (startFacts s kind first) (apart s header (suc (length s))) ≡ factsIn (kindAt s ero) (apart s header (suc (length s))) kind
     go false w = rw w
     go true w =
         let ps : List ℕ = apart s header (suc (length s)) .places in
-        let o : otherThan (kindAt s ero) first ps ≡ mixedAt (kindAt s ero) ps = rw e (first-mixed (kindAt s ero) (suc (length s)) s header) in
-        let a : ((not (eqb (length s) header) && eqb first kind) || anyOther (kindAt s ero) kind first ps) ≡ anyIs (kindAt s ero) kind ps =
+        let o : otherThan (kindAt s ero) ps first ≡ mixedAt (kindAt s ero) ps = rw e (first-mixed (kindAt s ero) (suc (length s)) s header) in
+        let a : ((not (eqb (length s) header) && eqb first kind) || anyOther (kindAt s ero) kind first ps) ≡ anyIs (kindAt s ero) ps kind =
         rw e (first-any (kindAt s ero) kind (suc (length s)) s w) in
         rw w (λ i. record { whole = true; count = zero-add (length ps) i; any = a i; other = o i })
 
@@ -252,15 +252,15 @@ joined-next kinds kind first p g ps h = go (eqb (kinds p) first)
     a : (g .any || (eqb (kinds p) kind || anyOther kinds kind first ps)) ≡ ((g .any || eqb (kinds p) kind) || anyOther kinds kind first ps)
     a = or-assoc (g .any) (eqb (kinds p) kind) (anyOther kinds kind first ps)
 
-    o : cond (eqb (g .other) 0) p (g .other) ≡ cond (eqb (cond (eqb (g .other) 0) p (g .other)) 0) (otherThan kinds first ps) (cond (eqb (g .other) 0) p (g .other))
-    o = found-next (g .other) p (otherThan kinds first ps) h
+    o : cond (eqb (g .other) 0) p (g .other) ≡ cond (eqb (cond (eqb (g .other) 0) p (g .other)) 0) (otherThan kinds ps first) (cond (eqb (g .other) 0) p (g .other))
+    o = found-next (g .other) p (otherThan kinds ps first) h
 
     go : (y : Bool) → _≡_ {A = Facts}
         (record {
           whole = g .whole;
           count = g .count + suc (length ps);
           any = g .any || cond y (anyOther kinds kind first ps) (eqb (kinds p) kind || anyOther kinds kind first ps);
-          other = cond (eqb (g .other) 0) (cond y (otherThan kinds first ps) p) (g .other);
+          other = cond (eqb (g .other) 0) (cond y (otherThan kinds ps first) p) (g .other);
         })
         (joined kinds kind first
         (cond y (record { whole = g .whole; count = g .count + 1; any = g .any; other = g .other })
@@ -271,7 +271,7 @@ joined-next kinds kind first p g ps h = go (eqb (kinds p) first)
           whole = g .whole;
           count = n i;
           any = g .any || anyOther kinds kind first ps;
-          other = cond (eqb (g .other) 0) (otherThan kinds first ps) (g .other);
+          other = cond (eqb (g .other) 0) (otherThan kinds ps first) (g .other);
         }
     go false = λ i. record { whole = g .whole; count = n i; any = a i; other = o i }
 

@@ -1,4 +1,4 @@
-pub mod Chains
+pub mod Fills
 pub mod Checks
 pub mod Determined
 pub mod Laws

@@ -45,7 +45,7 @@ abbrev pub from : ℕ → Apart → Apart
 from at rest = record { whole = rest .whole; places = at ∷ rest .places }
 
 -- The frame from a place on. The number bounds how many subobjects are looked at: each has octets, so that no object has more of them than octets,
--- and one more is never reached. `Chains` says the same without a bound.
+-- and one more is never reached. `Fills` says the same without a bound.
 unfoldable pub apart : List ℕ → ℕ → ℕ → Apart
 apart s at zero = unfilled
 apart s at (suc f) =
@@ -66,19 +66,19 @@ abbrev pub kindAt : List ℕ → Bool → ℕ → ℕ
 kindAt s ero at = kindOf (octetOf s at) ero
 
 -- Whether a subobject of the type is present.
-abbrev pub anyIs : (ℕ → ℕ) → ℕ → List ℕ → Bool
-anyIs kinds kind [] = false
-anyIs kinds kind (p ∷ ps) = eqb (kinds p) kind || anyIs kinds kind ps
+abbrev pub anyIs : (ℕ → ℕ) → List ℕ → ℕ → Bool
+anyIs kinds [] kind = false
+anyIs kinds (p ∷ ps) kind = eqb (kinds p) kind || anyIs kinds ps kind
 
 -- The first place whose type isn't this one; 0 if there is none.
-abbrev pub otherThan : (ℕ → ℕ) → ℕ → List ℕ → ℕ
-otherThan kinds kind [] = 0
-otherThan kinds kind (p ∷ ps) = cond (eqb (kinds p) kind) (otherThan kinds kind ps) p
+abbrev pub otherThan : (ℕ → ℕ) → List ℕ → ℕ → ℕ
+otherThan kinds [] kind = 0
+otherThan kinds (p ∷ ps) kind = cond (eqb (kinds p) kind) (otherThan kinds ps kind) p
 
 -- "The first subobject whose type differs from the first one's"; 0 if there is none.
 abbrev pub mixedAt : (ℕ → ℕ) → List ℕ → ℕ
 mixedAt kinds [] = 0
-mixedAt kinds (p ∷ ps) = otherThan kinds (kinds p) ps
+mixedAt kinds (p ∷ ps) = otherThan kinds ps (kinds p)
 
 -- the rules ----------------------------------------------------------------------------------------------------
 
@@ -95,11 +95,11 @@ unfoldable pub rule6Place : List ℕ → Bool → ℕ
 rule6Place s ero = mixedAt (kindAt s ero) (placesOf s)
 
 unfoldable pub rule6 : List ℕ → Bool → ℕ → Bool
-rule6 s ero kind = anyIs (kindAt s ero) kind (placesOf s) && not (eqb (rule6Place s ero) 0)
+rule6 s ero kind = anyIs (kindAt s ero) (placesOf s) kind && not (eqb (rule6Place s ero) 0)
 
 -- 14: "none is type 40".
 unfoldable pub rule14 : List ℕ → Bool → ℕ → Bool
-rule14 s ero kind = not (anyIs (kindAt s ero) kind (placesOf s))
+rule14 s ero kind = not (anyIs (kindAt s ero) (placesOf s) kind)
 
 -- "Checks on the whole, in order": 4, 5, 6, 14.
 abbrev pub frameChecks : List ℕ → Bool → ℕ → List Check

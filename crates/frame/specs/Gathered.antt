@@ -27,13 +27,13 @@ seenOf g at k kind first =
     (record { whole = g .whole; count = g .count + 1; any = g .any || eqb k kind; other = cond (eqb (g .other) 0) at (g .other) })
 
 -- What a frame holds that was taken apart.
-abbrev pub factsIn : (ℕ → ℕ) → ℕ → Apart → Facts
-factsIn kinds kind a =
-    cond (a .whole) (record { whole = true; count = length (a .places); any = anyIs kinds kind (a .places); other = mixedAt kinds (a .places) })
+abbrev pub factsIn : (ℕ → ℕ) → Apart → ℕ → Facts
+factsIn kinds a kind =
+    cond (a .whole) (record { whole = true; count = length (a .places); any = anyIs kinds (a .places) kind; other = mixedAt kinds (a .places) })
     (noFacts false)
 
 unfoldable pub factsOf : List ℕ → Bool → ℕ → Facts
-factsOf s ero kind = factsIn (kindAt s ero) kind (apartOf s)
+factsOf s ero kind = factsIn (kindAt s ero) (apartOf s) kind
 
 -- The frame's answer: the first broken check, or the number of subobjects.
 unfoldable pub frameOf : List ℕ → Bool → ℕ → Verdict

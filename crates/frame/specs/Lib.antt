@@ -1,5 +1,5 @@
-pub mod Chains
+pub mod Fills
 pub mod Checks
 pub mod Frames
 pub mod Gathered
-pub mod Rows
+pub mod RuleChecks

@@ -2,7 +2,8 @@
 //
 // A list that isn't a multiple of 16 octets: 28.
 ghost use mathlib.Core.Path.{_≡_};
-ghost use Rattle.head_end.specs.Addresses.{usableList, sameOctets, hasAddress};
+ghost use Rattle.head_end.specs.Addresses.{usableList, hasAddress};
+use same_octets::same;
 
 // The octets of an address.
 pub const ADDRESS_SIZE: usize = 16;
@@ -14,26 +15,9 @@ pub fn usable(addresses: &[u8]) -> bool
     addresses.len() % ADDRESS_SIZE == 0
 }
 
-// Whether the octets are the same.
-fn same(x: &[u8], y: &[u8]) -> bool
-    ensures same { λ r. ⌜ r ≡ sameOctets (now (x .entry)) (now (y .entry)) ⌝ }
-{
-    if x.len() != y.len() {
-        return false;
-    }
-    let mut i = 0;
-    while i < x.len() {
-        if x[i] != y[i] {
-            return false;
-        }
-        i = i + 1;
-    }
-    true
-}
-
 // Whether one of the addresses is x.
 pub fn has(addresses: &[u8], x: &[u8]) -> bool
-    ensures found { λ r. ⌜ r ≡ hasAddress (now (x .entry)) (now (addresses .entry)) ⌝ }
+    ensures found { λ r. ⌜ r ≡ hasAddress (now (addresses .entry)) (now (x .entry)) ⌝ }
 {
     let mut left = addresses.len() / ADDRESS_SIZE;
     while 0 < left {

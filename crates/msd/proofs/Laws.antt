@@ -48,7 +48,7 @@ least-smaller (some m) none v = ap some (min-comm v m)
 least-smaller (some m) (some n) v = ap some (omega arith)
 
 -- A pair more on the one side or on the other.
-least-with : (wanted : ℕ) (p : Pair) (got d : Option ℕ) → least (withPair wanted p got) d ≡ least got (withPair wanted p d)
+least-with : (wanted : ℕ) (p : Pair) (got d : Option ℕ) → least (withPair p got wanted) d ≡ least got (withPair p d wanted)
 least-with wanted p got d = go (eqb (p .kind) wanted)
   where
     go : (b : Bool) → least (cond b (smaller (p .value) got) got) d ≡ least got (cond b (smaller (p .value) d) d)
@@ -56,9 +56,9 @@ least-with wanted p got d = go (eqb (p .kind) wanted)
     go false = refl
 
 -- One turn of the loop, and its end: what was met so far and what is left make all of it.
-module _ (wanted : ℕ) (p : List ℕ) (i : ℕ) (got : Option ℕ) {all : Option ℕ} (e : least got (smallestOf wanted (pairsIn (drop i p))) ≡ all) where
+module _ (wanted : ℕ) (p : List ℕ) (i : ℕ) (got : Option ℕ) {all : Option ℕ} (e : least got (smallestOf (pairsIn (drop i p)) wanted) ≡ all) where
   pub depth-next : i + 1 < length p
-      → {d : Option ℕ} → d ≡ withPair wanted (record { kind = getD p i 0; value = getD p (i + 1) 0 }) got → least d (smallestOf wanted (pairsIn (drop (i + 2) p))) ≡ all
+      → {d : Option ℕ} → d ≡ withPair (record { kind = getD p i 0; value = getD p (i + 1) 0 }) got wanted → least d (smallestOf (pairsIn (drop (i + 2) p)) wanted) ≡ all
   depth-next h f = rw f (least-with wanted _ got _ ∙ sym (rw (pairs-next p i h)) ∙ e)
 
   pub depth-end : length p ≤ i + 1 → got ≡ all
@@ -99,8 +99,8 @@ pub record Passing (p : List ℕ) (i v m : ℕ) : Type 0 where
   pub encaps-most : v ≤ absent
   pub left-most : m ≤ absent
   pub right : wrongPairs (pairsIn (drop i p)) ≡ wrongPairs (pairsIn p)
-  pub encaps : least (depthIn v) (smallestOf maxHEncaps (pairsIn (drop i p))) ≡ smallestOf maxHEncaps (pairsIn p)
-  pub left : least (depthIn m) (smallestOf maxSegmentsLeft (pairsIn (drop i p))) ≡ smallestOf maxSegmentsLeft (pairsIn p)
+  pub encaps : least (depthIn v) (smallestOf (pairsIn (drop i p)) maxHEncaps) ≡ smallestOf (pairsIn p) maxHEncaps
+  pub left : least (depthIn m) (smallestOf (pairsIn (drop i p)) maxSegmentsLeft) ≡ smallestOf (pairsIn p) maxSegmentsLeft
 
 pub passing-start : (p : List ℕ) → Passing p 0 absent absent
 passing-start p = record {
@@ -115,8 +115,8 @@ passing-start p = record {
 module _ (p : List ℕ) (i v m : ℕ) (s : Passing p i v m) (h : i + 1 < length p) where
   -- A pair of a known type, and what it makes of the two numbers.
   passing-next : (a b : ℕ) → a ≤ absent → b ≤ absent → knownMsd (getD p i 0) ≡ true
-      → depthIn a ≡ withPair maxHEncaps (record { kind = getD p i 0; value = getD p (i + 1) 0 }) (depthIn v)
-      → depthIn b ≡ withPair maxSegmentsLeft (record { kind = getD p i 0; value = getD p (i + 1) 0 }) (depthIn m) → Passing p (i + 2) a b
+      → depthIn a ≡ withPair (record { kind = getD p i 0; value = getD p (i + 1) 0 }) (depthIn v) maxHEncaps
+      → depthIn b ≡ withPair (record { kind = getD p i 0; value = getD p (i + 1) 0 }) (depthIn m) maxSegmentsLeft → Passing p (i + 2) a b
   passing-next a b la lb k e f = record {
     inside = omega arith;
     encaps-most = la;
@@ -157,7 +157,7 @@ made : {v m a b : ℕ} → v ≡ a → m ≡ b → _≡_ {A = Gathered} (record 
 made e f = rw (e, f)
 
 module _ (p : List ℕ) (i v m : ℕ) (s : Passing p i v m) (h : length p ≤ i + 1) where
-  pub passed-stands : Stands v m (pairsIn p)
+  pub passed-stands : Stands (pairsIn p) v m
   passed-stands = (depth-end maxHEncaps p i (depthIn v) (s .encaps) h, depth-end maxSegmentsLeft p i (depthIn m) (s .left) h)
 
   pub passed : record { wrong = false; encaps = v; left = m } ≡ gatheredOf (pairsIn p)

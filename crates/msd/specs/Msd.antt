@@ -43,13 +43,13 @@ abbrev pub smaller : ℕ → Option ℕ → Option ℕ
 smaller v none = some v
 smaller v (some m) = some (min v m)
 
-abbrev pub withPair : ℕ → Pair → Option ℕ → Option ℕ
-withPair wanted p d = cond (eqb (p .kind) wanted) (smaller (p .value) d) d
+abbrev pub withPair : Pair → Option ℕ → ℕ → Option ℕ
+withPair p d wanted = cond (eqb (p .kind) wanted) (smaller (p .value) d) d
 
 -- "of a repeated type the smallest value is used"
-abbrev pub smallestOf : ℕ → List Pair → Option ℕ
-smallestOf wanted [] = none
-smallestOf wanted (p ∷ ps) = withPair wanted p (smallestOf wanted ps)
+abbrev pub smallestOf : List Pair → ℕ → Option ℕ
+smallestOf [] wanted = none
+smallestOf (p ∷ ps) wanted = withPair p (smallestOf ps wanted) wanted
 
 -- The number that stands for a smallest value: itself, or 256 where no pair has the type, since no octet is 256.
 abbrev pub absent : ℕ
@@ -67,4 +67,4 @@ depthIn n = cond (ltb n absent) (some n) none
 abbrev pub gatheredOf : List Pair → Gathered
 gatheredOf ps =
     cond (wrongPairs ps) (record { wrong = true; encaps = absent; left = absent })
-    (record { wrong = false; encaps = depthNumber (smallestOf maxHEncaps ps); left = depthNumber (smallestOf maxSegmentsLeft ps) })
+    (record { wrong = false; encaps = depthNumber (smallestOf ps maxHEncaps); left = depthNumber (smallestOf ps maxSegmentsLeft) })

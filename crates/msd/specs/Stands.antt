@@ -5,5 +5,5 @@ use mathlib.Core.List.{List}
 use Rattle.msd.specs.Msd.{Pair, maxSegmentsLeft, maxHEncaps, smallestOf, depthIn}
 
 -- The numbers v and m stand for the smallest values of H.Encaps and of Segments Left.
-abbrev pub Stands : ℕ → ℕ → List Pair → Type 0
-Stands v m ps = (depthIn v ≡ smallestOf maxHEncaps ps) × (depthIn m ≡ smallestOf maxSegmentsLeft ps)
+abbrev pub Stands : List Pair → ℕ → ℕ → Type 0
+Stands ps v m = (depthIn v ≡ smallestOf ps maxHEncaps) × (depthIn m ≡ smallestOf ps maxSegmentsLeft)

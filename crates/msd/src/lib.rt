@@ -38,7 +38,7 @@ fn smaller(got: usize, value: usize) -> usize
 pub fn gather(p: &[u8]) -> Gathered
     ensures gathered { λ r. ⌜ r ≡ gatheredOf (pairsIn (now (p .entry))) ⌝ }
     ensures wrong { λ r. ⌜ r .wrong ≡ wrongPairs (pairsIn (now (p .entry))) ⌝ }
-    ensures stands { λ r. ⌜ (r .wrong ≡ false → Stands (r .encaps) (r .left) (pairsIn (now (p .entry)))) ⌝ }
+    ensures stands { λ r. ⌜ (r .wrong ≡ false → Stands (pairsIn (now (p .entry))) (r .encaps) (r .left)) ⌝ }
 {
     let mut v = ABSENT;
     let mut m = ABSENT;

@@ -19,9 +19,9 @@ use Rattle.msd_limit.specs.Limits.{hEncapsPermits, segmentsLeftPermits, 
 -- no limit -----------------------------------------------------------------------------------------------------
 
 -- A type has no smallest value exactly if no pair has it.
-absent-exactly : (kind : ℕ) (ps : List Pair) → (smallestOf kind ps ≡ none) ↔ (present kind ps ≡ false)
+absent-exactly : (kind : ℕ) (ps : List Pair) → (smallestOf ps kind ≡ none) ↔ (present ps kind ≡ false)
 absent-exactly kind [] = (λ e. refl, λ e. refl)
-absent-exactly kind (p ∷ ps) = go (eqb (p .kind) kind) (smallestOf kind ps) (present kind ps) (absent-exactly kind ps)
+absent-exactly kind (p ∷ ps) = go (eqb (p .kind) kind) (smallestOf ps kind) (present ps kind) (absent-exactly kind ps)
   where
     there : (d : Option ℕ) → smaller (p .value) d ≡ none → true ≡ false
     there none e = cc
@@ -38,8 +38,8 @@ free-by (some v) none = (λ e. (cc, cc), λ h. cc)
 free-by (some v) (some m) = (λ e. (cc, cc), λ h. cc)
 
 -- There is no limit exactly if neither type is present.
-pub free-exactly : (ps : List Pair) → (limitOfPairs ps ≡ Free) ↔ ((present maxHEncaps ps ≡ false) × (present maxSegmentsLeft ps ≡ false))
-free-exactly ps = let f = free-by (smallestOf maxHEncaps ps) (smallestOf maxSegmentsLeft ps) in (
+pub free-exactly : (ps : List Pair) → (limitOfPairs ps ≡ Free) ↔ ((present ps maxHEncaps ≡ false) × (present ps maxSegmentsLeft ≡ false))
+free-exactly ps = let f = free-by (smallestOf ps maxHEncaps) (smallestOf ps maxSegmentsLeft) in (
   λ e. (absent-exactly maxHEncaps ps .0 (f .0 e .0), absent-exactly maxSegmentsLeft ps .0 (f .0 e .1)),
   λ h. f .1 (absent-exactly maxHEncaps ps .1 (h .0), absent-exactly maxSegmentsLeft ps .1 (h .1)),
 )
@@ -63,13 +63,13 @@ end-left p = end-kind p maxSegmentsLeft (λ e. omega (arith, e)) (λ e. omega (a
 
 -- A pair put anywhere among others: of another type it counts for nothing, of the type it is one value more.
 module _ (kind : ℕ) (p : Pair) (ps : List Pair) where
-  more-other : (qs : List Pair) → eqb (p .kind) kind ≡ false → smallestOf kind (qs ++ (p ∷ ps)) ≡ smallestOf kind (qs ++ ps)
+  more-other : (qs : List Pair) → eqb (p .kind) kind ≡ false → smallestOf (qs ++ (p ∷ ps)) kind ≡ smallestOf (qs ++ ps) kind
   more-other [] e = rw e
-  more-other (q ∷ qs) e = ap (withPair kind q) (more-other qs e)
+  more-other (q ∷ qs) e = ap (λ (d : Option ℕ). withPair q d kind) (more-other qs e)
 
-  more-same : (qs : List Pair) → eqb (p .kind) kind ≡ true → smallestOf kind (qs ++ (p ∷ ps)) ≡ smaller (p .value) (smallestOf kind (qs ++ ps))
+  more-same : (qs : List Pair) → eqb (p .kind) kind ≡ true → smallestOf (qs ++ (p ∷ ps)) kind ≡ smaller (p .value) (smallestOf (qs ++ ps) kind)
   more-same [] e = rw e
-  more-same (q ∷ qs) e = ap (withPair kind q) (more-same qs e) ∙ go (eqb (q .kind) kind) (smallestOf kind (qs ++ ps))
+  more-same (q ∷ qs) e = ap (λ (d : Option ℕ). withPair q d kind) (more-same qs e) ∙ go (eqb (q .kind) kind) (smallestOf (qs ++ ps) kind)
     where
       swap : (d : Option ℕ) → smaller (q .value) (smaller (p .value) d) ≡ smaller (p .value) (smaller (q .value) d)
       swap none = ap some (omega arith)
@@ -90,52 +90,52 @@ only-ends-limit-nothing (p ∷ ps) e =
     one-more-end-changes-nothing [] ps p (both-true (isEnd p) (onlyEnds ps) e .0) ∙ only-ends-limit-nothing ps (both-true (isEnd p) (onlyEnds ps) e .1)
 
 -- A limit of two depths, with one value more on either side, permits nothing more.
-encaps-more : (n x : ℕ) (v m : Option ℕ) → within n (limitBy (smaller x v) m) → within n (limitBy v m)
+encaps-more : (n x : ℕ) (v m : Option ℕ) → within (limitBy (smaller x v) m) n → within (limitBy v m) n
 encaps-more n x none none h = tt
 encaps-more n x none (some m) h = omega (arith, h)
 encaps-more n x (some v) none h = omega (arith, h)
 encaps-more n x (some v) (some m) h = omega (arith, h)
 
-left-more : (n x : ℕ) (v m : Option ℕ) → within n (limitBy v (smaller x m)) → within n (limitBy v m)
+left-more : (n x : ℕ) (v m : Option ℕ) → within (limitBy v (smaller x m)) n → within (limitBy v m) n
 left-more n x none none h = tt
 left-more n x none (some m) h = omega (arith, h)
 left-more n x (some v) none h = omega (arith, h)
 left-more n x (some v) (some m) h = omega (arith, h)
 
 -- What one type's depth becomes by one more pair: what it was, or with one value more.
-either-way : (kind : ℕ) (qs ps : List Pair) (p : Pair) → (P : Option ℕ → Type 0) → P (smallestOf kind (qs ++ (p ∷ ps)))
-    → (P (smaller (p .value) (smallestOf kind (qs ++ ps))) → P (smallestOf kind (qs ++ ps))) → P (smallestOf kind (qs ++ ps))
+either-way : (kind : ℕ) (qs ps : List Pair) (p : Pair) → (P : Option ℕ → Type 0) → P (smallestOf (qs ++ (p ∷ ps)) kind)
+    → (P (smaller (p .value) (smallestOf (qs ++ ps) kind)) → P (smallestOf (qs ++ ps) kind)) → P (smallestOf (qs ++ ps) kind)
 either-way kind qs ps p P h k = go (eqb (p .kind) kind) refl
   where
-    go : (b : Bool) → eqb (p .kind) kind ≡ b → P (smallestOf kind (qs ++ ps))
+    go : (b : Bool) → eqb (p .kind) kind ≡ b → P (smallestOf (qs ++ ps) kind)
     go true e = k (subst P (more-same kind p ps qs e) h)
     go false e = subst P (more-other kind p ps qs e) h
 
 -- One more pair of any type, wherever it stands, never raises the limit: what is within the limit with it is within the limit without.
-pub one-more-never-raises : (n : ℕ) (qs ps : List Pair) (p : Pair) → within n (limitOfPairs (qs ++ (p ∷ ps))) → within n (limitOfPairs (qs ++ ps))
+pub one-more-never-raises : (n : ℕ) (qs ps : List Pair) (p : Pair) → within (limitOfPairs (qs ++ (p ∷ ps))) n → within (limitOfPairs (qs ++ ps)) n
 one-more-never-raises n qs ps p h =
-    let v = smallestOf maxHEncaps (qs ++ ps) in
-    let m = smallestOf maxSegmentsLeft (qs ++ (p ∷ ps)) in
-    let h1 = either-way maxHEncaps qs ps p (λ d. within n (limitBy d m)) h (encaps-more n (p .value) v m) in
-    either-way maxSegmentsLeft qs ps p (λ d. within n (limitBy v d)) h1 (left-more n (p .value) v (smallestOf maxSegmentsLeft (qs ++ ps)))
+    let v = smallestOf (qs ++ ps) maxHEncaps in
+    let m = smallestOf (qs ++ (p ∷ ps)) maxSegmentsLeft in
+    let h1 = either-way maxHEncaps qs ps p (λ d. within (limitBy d m) n) h (encaps-more n (p .value) v m) in
+    either-way maxSegmentsLeft qs ps p (λ d. within (limitBy v d) n) h1 (left-more n (p .value) v (smallestOf (qs ++ ps) maxSegmentsLeft))
 
 -- one segment more ---------------------------------------------------------------------------------------------
 
 -- What is within the limit of v and m is within it with one segment more.
-pub one-more-keeps : (n : ℕ) (v m : Option ℕ) → within n (limitBy v m) → within n (oneMoreBy (limitBy v m) v m)
+pub one-more-keeps : (n : ℕ) (v m : Option ℕ) → within (limitBy v m) n → within (oneMoreBy (limitBy v m) v m) n
 one-more-keeps n none m h = h
 one-more-keeps n (some v) none h = omega (arith, h)
 one-more-keeps n (some v) (some m) h = omega (arith, h)
 
 -- It is one segment at most: of what is within it, one segment less is within the limit of v and m, or it is the first.
-pub one-more-at-most : (n : ℕ) (v m : Option ℕ) → within (n + 1) (oneMoreBy (limitBy v m) v m) → within (max 1 n) (limitBy v m)
+pub one-more-at-most : (n : ℕ) (v m : Option ℕ) → within (oneMoreBy (limitBy v m) v m) (n + 1) → within (limitBy v m) (max 1 n)
 one-more-at-most n none none h = tt
 one-more-at-most n none (some m) h = omega (arith, h)
 one-more-at-most n (some v) none h = omega (arith, h)
 one-more-at-most n (some v) (some m) h = omega (arith, h)
 
 -- Segments Left is untouched: it binds as before.
-pub left-untouched : (n m : ℕ) (v : Option ℕ) → within n (oneMoreBy (limitBy v (some m)) v (some m)) → within n (segmentsLeftPermits (some m))
+pub left-untouched : (n m : ℕ) (v : Option ℕ) → within (oneMoreBy (limitBy v (some m)) v (some m)) n → within (segmentsLeftPermits (some m)) n
 left-untouched n m none h = h
 left-untouched n m (some v) h = omega (arith, h)
 
@@ -146,10 +146,10 @@ zero-more = refl
 -- bounds -------------------------------------------------------------------------------------------------------
 
 -- A route of one segment is within every limit.
-pub one-is-within : (ps : List Pair) → within 1 (limitOfPairs ps)
-one-is-within ps = go (smallestOf maxHEncaps ps) (smallestOf maxSegmentsLeft ps)
+pub one-is-within : (ps : List Pair) → within (limitOfPairs ps) 1
+one-is-within ps = go (smallestOf ps maxHEncaps) (smallestOf ps maxSegmentsLeft)
   where
-    go : (v m : Option ℕ) → within 1 (limitBy v m)
+    go : (v m : Option ℕ) → within (limitBy v m) 1
     go none none = tt
     go none (some m) = omega arith
     go (some v) none = omega arith

@@ -29,7 +29,7 @@ abbrev pub limitBy : Option ℕ → Option ℕ → Limit
 limitBy v m = lower (hEncapsPermits v) (segmentsLeftPermits m)
 
 abbrev pub limitOfPairs : List Pair → Limit
-limitOfPairs ps = limitBy (smallestOf maxHEncaps ps) (smallestOf maxSegmentsLeft ps)
+limitOfPairs ps = limitBy (smallestOf ps maxHEncaps) (smallestOf ps maxSegmentsLeft)
 
 -- The first segment stays off the header: "then H.Encaps v permits v + 1; Segments Left is untouched" (document 02, C-15). Without H.Encaps the limit stays.
 abbrev pub oneMoreBy : Limit → Option ℕ → Option ℕ → Limit
@@ -39,9 +39,9 @@ oneMoreBy limit (some v) m = lower (Most (v + 1)) (segmentsLeftPermits m)
 -- words of the theorems ----------------------------------------------------------------------------------------
 
 -- A pair of the type is there.
-abbrev pub present : ℕ → List Pair → Bool
-present kind [] = false
-present kind (p ∷ ps) = eqb (p .kind) kind || present kind ps
+abbrev pub present : List Pair → ℕ → Bool
+present [] kind = false
+present (p ∷ ps) kind = eqb (p .kind) kind || present ps kind
 
 -- End Pop (42) and End D (45).
 unfoldable pub isEnd : Pair → Bool
@@ -52,6 +52,6 @@ onlyEnds [] = true
 onlyEnds (p ∷ ps) = isEnd p && onlyEnds ps
 
 -- A route of n segments is within a limit.
-abbrev pub within : ℕ → Limit → Type 0
-within n Free = Unit {0}
-within n (Most m) = n ≤ m
+abbrev pub within : Limit → ℕ → Type 0
+within Free n = Unit {0}
+within (Most m) n = n ≤ m

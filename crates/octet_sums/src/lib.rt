@@ -12,16 +12,24 @@ pub fn sum_three(s: &[u8], at: usize) -> usize
     octets::wide(s[at]) + octets::wide(s[at + 1]) + octets::wide(s[at + 2])
 }
 
+// The sum of four octets that are all there.
+pub fn sum_four_in(s: &[u8], at: usize) -> usize
+    requires { ⌜ at + 4 ≤ length (now s) ⌝ }
+    ensures sum { λ r. ⌜ (r ≡ sumAt (now (s .entry)) at) × (r < 1024) ⌝ }
+{
+    octets::wide(s[at])
+        + octets::wide(s[at + 1])
+        + octets::wide(s[at + 2])
+        + octets::wide(s[at + 3])
+}
+
 // The sum of four octets; past the end they are 0.
 pub fn sum_four(s: &[u8], at: usize) -> usize
     requires { ⌜ at < length (now s) + 128 ⌝ }
     ensures sum { λ r. ⌜ (r ≡ sumAt (now (s .entry)) at) × (r < 1024) ⌝ }
 {
     if at + 4 <= s.len() {
-        return octets::wide(s[at])
-            + octets::wide(s[at + 1])
-            + octets::wide(s[at + 2])
-            + octets::wide(s[at + 3]);
+        return sum_four_in(s, at);
     }
     octets::octet(s, at)
         + octets::octet(s, at + 1)

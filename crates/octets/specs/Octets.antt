@@ -1,7 +1,12 @@
 -- Octet strings are lists of numbers below 256. All numbers are big-endian (document 01, "The OPEN object").
 use Prim.Native.Nat.{ℕ, _+_, _*_, _/_, _%_}
+use mathlib.Core.Bool.{Bool, cond}
 use mathlib.Core.List.{List, _++_}
 use lib.ListN.{length, getD, take, drop, replicate}
+
+-- A yes as 1, a no as 0.
+abbrev pub bit : Bool → ℕ
+bit b = cond b 1 0
 
 -- reading ------------------------------------------------------------------------------------------------------
 

@@ -13,6 +13,7 @@ use borrow.Author.Tests.{eq-eqb, eqb-true, not-true}
 use Rattle.octets.proofs.Said.{both-true}
 use Rattle.objects.specs.Objects.{mplsSetup, srv6Setup}
 use Rattle.answers.specs.Numbers.{openMalformed, capabilityMissing, wrongMsd, notUsable}
+use Rattle.answers.proofs.First.{EachOf, NoneOf, none-first-of, first-of-none, first-of-keeps}
 use Rattle.answers.proofs.Determined.{determined}
 use Rattle.flag_positions.specs.declared.Setup.{Setup}
 use Rattle.session.specs.declared.Limit.the-variants.{Free}
@@ -58,8 +59,7 @@ use Rattle.open.specs.Open.{
 
 -- No rule is broken.
 abbrev Unbroken : List Rule → Type 0
-Unbroken [] = Unit {0}
-Unbroken (r ∷ rs) = (r .broken ≡ false) × Unbroken rs
+Unbroken rs = NoneOf (λ r. r .broken) rs
 
 -- The rule at a place is broken, and none before it.
 abbrev Breaks : List Rule → ℕ → Type 0
@@ -121,16 +121,10 @@ module _ (k f : ℕ) (refusal : eqb k 0 ≡ false) (o : Opened) (accepted : o .n
 
 -- What holds of every refusal and of an answer holds of the first broken one, or that answer.
 first-keeps : (P : Opened → Type 0) → ((k f : ℕ) → P (openRefused k f)) → (rs : List Rule) {o : Opened} → P o → P (firstRule rs o)
-first-keeps P h [] x = x
-first-keeps P h (r ∷ rs) {o} x = go (r .broken) (first-keeps P h rs x)
-  where
-    go : (b : Bool) → P (firstRule rs o) → P (cond b (openRefused (r .number) (r .form)) (firstRule rs o))
-    go true y = h (r .number) (r .form)
-    go false y = y
+first-keeps P h rs x = first-of-keeps (λ (r : Rule). r .broken) (λ (r : Rule). openRefused (r .number) (r .form)) P (λ r. h (r .number) (r .form)) rs x
 
 first-unbroken : (rs : List Rule) (o : Opened) → Unbroken rs → firstRule rs o ≡ o
-first-unbroken [] o h = refl
-first-unbroken (r ∷ rs) o h = rw (h .0) (first-unbroken rs o (h .1))
+first-unbroken rs o h = none-first-of (λ (r : Rule). r .broken) (λ (r : Rule). openRefused (r .number) (r .form)) rs o h
 
 -- If every rule refuses by a number above 0, what is accepted broke none.
 abbrev refusing : List Rule → Bool
@@ -138,22 +132,24 @@ refusing [] = true
 refusing (r ∷ rs) = not (eqb (r .number) 0) && refusing rs
 
 accepted-unbroken : (rs : List Rule) (o : Opened) → refusing rs ≡ true → firstRule rs o .number ≡ 0 → Unbroken rs
-accepted-unbroken [] o h e = tt
-accepted-unbroken (r ∷ rs) o h e = go (r .broken) refl (accepted-unbroken rs o (both-true (not (eqb (r .number) 0)) (refusing rs) h .1)) e
+accepted-unbroken rs o h e =
+    first-of-none (λ (r : Rule). r .broken) (λ (r : Rule). openRefused (r .number) (r .form)) (λ (o : Opened). o .number ≡ 0) rs o (each rs h) e
   where
-    go : (b : Bool) → r .broken ≡ b → (firstRule rs o .number ≡ 0 → Unbroken rs) → cond b (openRefused (r .number) (r .form)) (firstRule rs o) .number ≡ 0 → (r .broken ≡ false) × Unbroken rs
-    go true q on e = absurd (false≢true (sym (not-true (eqb (r .number) 0) (both-true (not (eqb (r .number) 0)) (refusing rs) h .0)) ∙ eq-eqb (r .number) 0 e))
-    go false q on e = (q, on e)
+    each : (rs : List Rule) → refusing rs ≡ true → EachOf (λ (r : Rule). r .number ≡ 0 → ⊥) rs
+    each [] h = tt
+    each (r ∷ rs) h =
+        let t = both-true (not (eqb (r .number) 0)) (refusing rs) h in
+        ((λ z. false≢true (sym (not-true (eqb (r .number) 0) (t .0)) ∙ eq-eqb (r .number) 0 z)), each rs (t .1))
 
 -- the answer ---------------------------------------------------------------------------------------------------
 
-beside-zero : (l : Bool) (sub : Option (List ℕ)) (o : Opened) → o .number ≡ 0 → besideBy l sub o .number ≡ 0
+beside-zero : (l : Bool) (sub : Option (List ℕ)) (o : Opened) → o .number ≡ 0 → besideBy o sub l .number ≡ 0
 beside-zero false sub o e = e
 beside-zero true none o e = e
 beside-zero true (some w) o e = e
 
 -- What MPLS adds leaves SRv6's limit.
-beside-limit : (l : Bool) (sub : Option (List ℕ)) (o : Opened) → besideBy l sub o .limit ≡ o .limit
+beside-limit : (l : Bool) (sub : Option (List ℕ)) (o : Opened) → besideBy o sub l .limit ≡ o .limit
 beside-limit false sub o = refl
 beside-limit true none o = refl
 beside-limit true (some w) o = refl
@@ -268,7 +264,7 @@ module _ (p : Setup) (s : List ℕ) where
       one true true true true true = refl
 
       said : (b : Bool) (o : Option (List ℕ)) (l : Bool) (sub : Option (List ℕ))
-          → srv6Half (besideBy l sub (cond b (saidBy p o) withoutSrv6)) ≡ cond b (saidBy p o) withoutSrv6
+          → srv6Half (besideBy (cond b (saidBy p o) withoutSrv6) sub l) ≡ cond b (saidBy p o) withoutSrv6
       said false o false sub = refl
       said false o true none = refl
       said false o true (some w) = refl
@@ -281,8 +277,8 @@ module _ (p : Setup) (s : List ℕ) where
 
       go : (z a a′ b c l : Bool) (sub : Option (List ℕ))
           → srv6Half (firstRule (
-          rule z notUsable noForm ∷ rule a openMalformed noForm ∷ rule a′ openMalformed srv6Setup ∷ rule b capabilityMissing srv6Setup ∷ rule c wrongMsd srv6Setup ∷ []
-          ) (besideBy l sub (srv6Carried p s)))
+          rule notUsable noForm z ∷ rule openMalformed noForm a ∷ rule openMalformed srv6Setup a′ ∷ rule capabilityMissing srv6Setup b ∷ rule wrongMsd srv6Setup c ∷ []
+          ) (besideBy (srv6Carried p s) sub l))
           ≡ cond z (openRefused notUsable noForm)
           (cond (a || a′) (openRefused openMalformed noForm) (cond b (openRefused capabilityMissing noForm) (cond c (openRefused wrongMsd noForm) (srv6Carried p s))))
       go true a a′ b c l sub = refl
@@ -319,7 +315,7 @@ module _ (p : Setup) (s : List ℕ) where
 
   -- so there is none exactly if X is set or neither H.Encaps nor Segments Left is present;
   pub unlimited-exactly : (w : List ℕ) → openOf p s .number ≡ 0 → listed s ≡ true → srv6Of s ≡ some w
-      → (openOf p s .limit ≡ Free) ↔ ((xOf w ≡ true) ⊎ ((present maxHEncaps (pairsOf w) ≡ false) × (present maxSegmentsLeft (pairsOf w) ≡ false)))
+      → (openOf p s .limit ≡ Free) ↔ ((xOf w ≡ true) ⊎ ((present (pairsOf w) maxHEncaps ≡ false) × (present (pairsOf w) maxSegmentsLeft ≡ false)))
   unlimited-exactly w e f g = rw (accepted-limit w e f g) (no-limit-exactly w)
 
   -- and an OPEN whose pairs are only End Pop and End D limits nothing.
@@ -345,12 +341,12 @@ module _ (p : Setup) (s : List ℕ) where
       )
     where
       counting : (x : Bool) (w : List ℕ) → ((i : ℕ) → getD w i 0 < 256)
-          → (let ps = cond x [] (pairsOf w) in limitOfPairs ps ≡ limitBy (depthIn (depthNumber (smallestOf maxHEncaps ps))) (depthIn (depthNumber (smallestOf maxSegmentsLeft ps))))
+          → (let ps = cond x [] (pairsOf w) in limitOfPairs ps ≡ limitBy (depthIn (depthNumber (smallestOf ps maxHEncaps))) (depthIn (depthNumber (smallestOf ps maxSegmentsLeft))))
       counting true w h = refl
       counting false w h =
           rw (
-            depth-back (smallestOf maxHEncaps (pairsOf w)) (small-smallest maxHEncaps (drop pairsAt w) (small-drop pairsAt w h)),
-            depth-back (smallestOf maxSegmentsLeft (pairsOf w)) (small-smallest maxSegmentsLeft (drop pairsAt w) (small-drop pairsAt w h)),
+            depth-back (smallestOf (pairsOf w) maxHEncaps) (small-smallest maxHEncaps (drop pairsAt w) (small-drop pairsAt w h)),
+            depth-back (smallestOf (pairsOf w) maxSegmentsLeft) (small-smallest maxSegmentsLeft (drop pairsAt w) (small-drop pairsAt w h)),
           )
 
       said : (b : Bool) (o : Option (List ℕ)) → Value o
@@ -360,7 +356,7 @@ module _ (p : Setup) (s : List ℕ) where
       said false o h = refl
 
       beside : (l : Bool) (sub : Option (List ℕ)) (x : Opened) → x .limit ≡ limitBy (depthIn (x .v)) (depthIn (x .m))
-          → (let y = besideBy l sub x in y .limit ≡ limitBy (depthIn (y .v)) (depthIn (y .m)))
+          → (let y = besideBy x sub l in y .limit ≡ limitBy (depthIn (y .v)) (depthIn (y .m)))
       beside false sub x e = e
       beside true none x e = e
       beside true (some w) x e = e

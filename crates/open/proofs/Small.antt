@@ -44,22 +44,22 @@ Values tlvsEnd = Unit {0}
 Values tlvsCut = Unit {0}
 Values (tlv kind value rest) = ((i : ℕ) → getD value i 0 < 256) × Values rest
 
-small-tlvs : (n : ℕ) (short : Bool) (s : List ℕ) → ((i : ℕ) → getD s i 0 < 256) → Values (tlvsIn n short s)
+small-tlvs : (n : ℕ) (short : Bool) (s : List ℕ) → ((i : ℕ) → getD s i 0 < 256) → Values (tlvsIn s short n)
 unfolding tlvsIn
 small-tlvs zero short s h = tt
-small-tlvs (suc n) short s h = go (eqb (length s) 0) (tlvFits short s) (small-tlvs n short (tlvBehind s) (small-drop (tlvHead + pad4 (tlvLength s)) s h))
+small-tlvs (suc n) short s h = go (eqb (length s) 0) (tlvFits s short) (small-tlvs n short (tlvBehind s) (small-drop (tlvHead + pad4 (tlvLength s)) s h))
   where
-    go : (b c : Bool) → Values (tlvsIn n short (tlvBehind s)) → Values (tlvTurn b c s (λ rest. tlvsIn n short rest))
+    go : (b c : Bool) → Values (tlvsIn (tlvBehind s) short n) → Values (tlvTurn s b c (λ rest. tlvsIn rest short n))
     go true c k = tt
     go false false k = tt
     go false true k = (small-part s tlvHead (tlvLength s) h, k)
 
-small-first : (want : ℕ) (t : Tlvs) → Values t → Value (firstTlv want t)
+small-first : (want : ℕ) (t : Tlvs) → Values t → Value (firstTlv t want)
 small-first want tlvsEnd h = tt
 small-first want tlvsCut h = tt
 small-first want (tlv kind value rest) h = go (eqb kind want) (small-first want rest (h .1))
   where
-    go : (b : Bool) → Value (firstTlv want rest) → Value (cond b (some value) (firstTlv want rest))
+    go : (b : Bool) → Value (firstTlv rest want) → Value (cond b (some value) (firstTlv rest want))
     go true k = h .0
     go false k = k
 
@@ -72,7 +72,7 @@ module _ (s : List ℕ) (h : (i : ℕ) → getD s i 0 < 256) where
   unfolding srv6Of tlvsOf
   srv6-small = go (setupOf s) setup-small
     where
-      go : (o : Option (List ℕ)) → Value o → Value (subIn srv6Capability o)
+      go : (o : Option (List ℕ)) → Value o → Value (subIn o srv6Capability)
       go none k = tt
       go (some v) k = small-first srv6Capability (subsOf v) (small-tlvs _ true (drop (listSize v) v) (small-drop (listSize v) v k))
 
@@ -83,10 +83,10 @@ abbrev Small : Option ℕ → Type 0
 Small none = Unit {0}
 Small (some v) = v < 256
 
-pub small-smallest : (kind : ℕ) (w : List ℕ) → ((i : ℕ) → getD w i 0 < 256) → Small (smallestOf kind (pairsIn w))
+pub small-smallest : (kind : ℕ) (w : List ℕ) → ((i : ℕ) → getD w i 0 < 256) → Small (smallestOf (pairsIn w) kind)
 small-smallest kind [] h = tt
 small-smallest kind (a ∷ []) h = tt
-small-smallest kind (a ∷ b ∷ rest) h = go (eqb a kind) (smallestOf kind (pairsIn rest)) (small-smallest kind rest (λ i. h (suc (suc i))))
+small-smallest kind (a ∷ b ∷ rest) h = go (eqb a kind) (smallestOf (pairsIn rest) kind) (small-smallest kind rest (λ i. h (suc (suc i))))
   where
     go : (x : Bool) (d : Option ℕ) → Small d → Small (cond x (smaller b d) d)
     go true none k = h 1

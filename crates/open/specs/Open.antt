@@ -6,6 +6,7 @@ use mathlib.Core.Option.{Option, none, some}
 use lib.ListN.{drop}
 use Rattle.objects.specs.Objects.{mplsSetup, srv6Setup}
 use Rattle.answers.specs.Numbers.{openMalformed, capabilityMissing, wrongMsd, notUsable}
+use Rattle.answers.specs.First.{firstOf}
 use Rattle.flag_positions.specs.declared.Setup.{Setup}
 use Rattle.flag_positions.specs.Positions.{usableSetup}
 use Rattle.session.specs.declared.Opened.{Opened}
@@ -20,28 +21,28 @@ pub use Rattle.open_frame.specs.Framed.{openVersion, versionPlace, versionWorth
 -- the object ---------------------------------------------------------------------------------------------------
 
 abbrev pub openTlvs : List ℕ → Tlvs
-openTlvs s = tlvsOf false (drop tlvsAt s)
+openTlvs s = tlvsOf (drop tlvsAt s) false
 
 -- "Of several TLVs 34, or sub-TLVs 27, the first is used and the others are only walked." So it is with sub-TLVs 26.
 unfoldable pub setupOf : List ℕ → Option (List ℕ)
-setupOf s = firstTlv pathSetup (openTlvs s)
+setupOf s = firstTlv (openTlvs s) pathSetup
 
-abbrev pub subIn : ℕ → Option (List ℕ) → Option (List ℕ)
-subIn want none = none
-subIn want (some v) = firstTlv want (subsOf v)
+abbrev pub subIn : Option (List ℕ) → ℕ → Option (List ℕ)
+subIn none want = none
+subIn (some v) want = firstTlv (subsOf v) want
 
 unfoldable pub mplsOf : List ℕ → Option (List ℕ)
-mplsOf s = subIn mplsCapability (setupOf s)
+mplsOf s = subIn (setupOf s) mplsCapability
 
 unfoldable pub srv6Of : List ℕ → Option (List ℕ)
-srv6Of s = subIn srv6Capability (setupOf s)
+srv6Of s = subIn (setupOf s) srv6Capability
 
 -- A setup type is listed: type 1, type 3.
 unfoldable pub mplsListed : List ℕ → Bool
-mplsListed s = listedIn mplsSetup (setupOf s)
+mplsListed s = listedIn (setupOf s) mplsSetup
 
 unfoldable pub listed : List ℕ → Bool
-listed s = listedIn srv6Setup (setupOf s)
+listed s = listedIn (setupOf s) srv6Setup
 
 -- rule 28 ------------------------------------------------------------------------------------------------------
 
@@ -123,40 +124,39 @@ saidBy p (some w) = carriesBy p w
 unfoldable pub srv6Carried : Setup → List ℕ → Opened
 srv6Carried p s = cond (listed s) (saidBy p (srv6Of s)) withoutSrv6
 
-abbrev pub besideBy : Bool → Option (List ℕ) → Opened → Opened
-besideBy false sub o = o
-besideBy true none o = o
-besideBy true (some w) o = mplsBeside w o
+abbrev pub besideBy : Opened → Option (List ℕ) → Bool → Opened
+besideBy o sub false = o
+besideBy o none true = o
+besideBy o (some w) true = mplsBeside o w
 
 -- MPLS is carried beside it where type 1 is listed, as sub-TLV 26 says.
 unfoldable pub carriesOf : Setup → List ℕ → Opened
-carriesOf p s = besideBy (mplsListed s) (mplsOf s) (srv6Carried p s)
+carriesOf p s = besideBy (srv6Carried p s) (mplsOf s) (mplsListed s)
 
--- A rule: whether it is broken, the number that it refuses by, and the form at fault.
+-- A rule: the number that it refuses by, the form at fault, and whether it is broken.
 pub record Rule : Type 0 where
-  pub broken : Bool
   pub number : ℕ
   pub form : ℕ
+  pub broken : Bool
 
-abbrev pub rule : Bool → ℕ → ℕ → Rule
-rule broken number form = record { broken = broken; number = number; form = form }
+abbrev pub rule : ℕ → ℕ → Bool → Rule
+rule number form broken = record { number = number; form = form; broken = broken }
 
 -- The first broken one refuses.
 abbrev pub firstRule : List Rule → Opened → Opened
-firstRule [] o = o
-firstRule (r ∷ rs) o = cond (r .broken) (openRefused (r .number) (r .form)) (firstRule rs o)
+firstRule rs o = firstOf (λ r. r .broken) (λ r. openRefused (r .number) (r .form)) rs o
 
 -- 28 "before all others". "Order: 1, 2, 3.", and of each 26's "tested before 27's".
 abbrev pub openRules : Setup → List ℕ → List Rule
 openRules p s =
-    rule (breaks28 p) notUsable noForm
-    ∷ rule (breaks1 s) openMalformed noForm
-    ∷ rule (breaks1Mpls s) openMalformed mplsSetup
-    ∷ rule (breaks1Srv6 s) openMalformed srv6Setup
-    ∷ rule (breaks2Mpls s) capabilityMissing mplsSetup
-    ∷ rule (breaks2Srv6 s) capabilityMissing srv6Setup
-    ∷ rule (breaks3Mpls s) wrongMsd mplsSetup
-    ∷ rule (breaks3Srv6 s) wrongMsd srv6Setup
+    rule notUsable noForm (breaks28 p)
+    ∷ rule openMalformed noForm (breaks1 s)
+    ∷ rule openMalformed mplsSetup (breaks1Mpls s)
+    ∷ rule openMalformed srv6Setup (breaks1Srv6 s)
+    ∷ rule capabilityMissing mplsSetup (breaks2Mpls s)
+    ∷ rule capabilityMissing srv6Setup (breaks2Srv6 s)
+    ∷ rule wrongMsd mplsSetup (breaks3Mpls s)
+    ∷ rule wrongMsd srv6Setup (breaks3Srv6 s)
     ∷ []
 
 -- "Otherwise accepted."

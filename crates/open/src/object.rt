@@ -34,14 +34,14 @@ pub fn read_open(p: Setup, s: &[u8]) -> Opened
     if !is_framed(s) {
         return session::refused_open(OPEN_MALFORMED, session::NO_FORM);
     }
-    match open_walk::walk(s, TLVS_AT, s.len(), false, SRV6_CAPABILITY) {
+    match open_walk::walk(s, false, SRV6_CAPABILITY, TLVS_AT, s.len()) {
         Found::Cut => session::refused_open(OPEN_MALFORMED, session::NO_FORM),
         Found::Values(list, sub) => {
             let srv6 = srv6_by(p, s, list, sub);
             if !listed(s, list, MPLS) {
                 return srv6;
             }
-            match open_walk::walk(s, TLVS_AT, s.len(), false, MPLS_CAPABILITY) {
+            match open_walk::walk(s, false, MPLS_CAPABILITY, TLVS_AT, s.len()) {
                 Found::Cut => session::refused_open(OPEN_MALFORMED, session::NO_FORM),
                 Found::Values(again, beside) => joined(mpls_by(s, beside), srv6),
             }

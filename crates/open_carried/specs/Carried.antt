@@ -20,7 +20,7 @@ announcedBy p none = openRefused capabilityMissing srv6Setup
 announcedBy p (some w) = announcedOf p w
 
 abbrev pub srv6By : Setup → Option (List ℕ) → Option (List ℕ) → Opened
-srv6By p v sub = cond (listedIn srv6Setup v) (announcedBy p sub) withoutSrv6
+srv6By p v sub = cond (listedIn v srv6Setup) (announcedBy p sub) withoutSrv6
 
 -- MPLS's half, of the values of TLV 34 and of sub-TLV 26.
 abbrev pub mplsAnnouncedBy : Option (List ℕ) → Opened
@@ -28,7 +28,7 @@ mplsAnnouncedBy none = openRefused capabilityMissing mplsSetup
 mplsAnnouncedBy (some w) = mplsAnnouncedOf w
 
 abbrev pub mplsBy : Option (List ℕ) → Option (List ℕ) → Opened
-mplsBy v sub = cond (listedIn mplsSetup v) (mplsAnnouncedBy sub) withoutSrv6
+mplsBy v sub = cond (listedIn v mplsSetup) (mplsAnnouncedBy sub) withoutSrv6
 
 -- Both in one answer: of two refusals that by the smaller number, MPLS's where they are equal.
 abbrev pub goesFirst : Opened → Opened → Bool

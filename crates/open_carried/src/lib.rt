@@ -24,7 +24,7 @@ const SRV6: u8 = SRV6_SETUP as u8;
 // Whether a setup type is listed.
 pub fn listed(s: &[u8], list: Span, kind: u8) -> bool
     requires { ⌜ Listed (now s) list ⌝ }
-    ensures listed { λ r. ⌜ r ≡ listedIn kind (valueAt (now (s .entry)) list) ⌝ }
+    ensures listed { λ r. ⌜ r ≡ listedIn (valueAt (now (s .entry)) list) kind ⌝ }
 {
     if list.from == NOWHERE {
         return false;
@@ -36,7 +36,7 @@ pub fn listed(s: &[u8], list: Span, kind: u8) -> bool
 
 // What the value found carries of MPLS, setup type 1 being listed.
 pub fn mpls_by(s: &[u8], sub: Span) -> Opened
-    requires { ⌜ Inside (length (now s)) sub ⌝ }
+    requires { ⌜ Inside sub (length (now s)) ⌝ }
     ensures carried { λ r. ⌜ r ≡ mplsAnnouncedBy (valueAt (now (s .entry)) sub) ⌝ }
 {
     if sub.from == NOWHERE {
@@ -49,7 +49,7 @@ pub fn mpls_by(s: &[u8], sub: Span) -> Opened
 
 // What the values found carry of SRv6: nothing unless setup type 3 is listed.
 pub fn srv6_by(p: Setup, s: &[u8], list: Span, sub: Span) -> Opened
-    requires { ⌜ Listed (now s) list × Inside (length (now s)) sub ⌝ }
+    requires { ⌜ Listed (now s) list × Inside sub (length (now s)) ⌝ }
     ensures carried { λ r. ⌜ r ≡ srv6By p (valueAt (now (s .entry)) list) (valueAt (now (s .entry)) sub) ⌝ }
 {
     if !listed(s, list, SRV6) {

@@ -25,7 +25,7 @@ same-either : {A : Type 0} (b : Bool) (x : A) → cond b x x ≡ x
 same-either true x = refl
 same-either false x = refl
 
-pub onward-end : (inner : Bool) (want : ℕ) (list sub : Option (List ℕ)) → openOnward inner want list sub tlvsEnd ≡ seen list sub
+pub onward-end : (inner : Bool) (want : ℕ) (list sub : Option (List ℕ)) → openOnward list sub tlvsEnd inner want ≡ seen list sub
 onward-end true want list none = refl
 onward-end true want list (some w) = refl
 onward-end false want none sub = refl
@@ -34,22 +34,22 @@ onward-end false want (some v) sub = refl
 module _ (want kind : ℕ) (v : List ℕ) (rest : Tlvs) where
   -- among sub-TLVs, the first wanted one is kept
   pub onward-inner : (list sub : Option (List ℕ))
-      → openOnward true want list sub (tlv kind v rest) ≡ openOnward true want list (orElse sub (cond (eqb kind want) (some v) none)) rest
+      → openOnward list sub (tlv kind v rest) true want ≡ openOnward list (orElse sub (cond (eqb kind want) (some v) none)) rest true want
   onward-inner list (some w) = refl
   onward-inner list none = go (eqb kind want) refl
     where
-      go : (hit : Bool) → eqb kind want ≡ hit → openOnward true want list none (tlv kind v rest) ≡ openOnward true want list (orElse none (cond (eqb kind want) (some v) none)) rest
+      go : (hit : Bool) → eqb kind want ≡ hit → openOnward list none (tlv kind v rest) true want ≡ openOnward list (orElse none (cond (eqb kind want) (some v) none)) rest true want
       go true e = rw e
       go false e = rw e
 
   -- an outer TLV that is not the first TLV 34 is passed over
-  pub onward-past : (list sub : Option (List ℕ)) → (notThere list && eqb kind pathSetup) ≡ false → openOnward false want list sub (tlv kind v rest) ≡ openOnward false want list sub rest
+  pub onward-past : (list sub : Option (List ℕ)) → (notThere list && eqb kind pathSetup) ≡ false → openOnward list sub (tlv kind v rest) false want ≡ openOnward list sub rest false want
   onward-past none sub e = rw e
   onward-past (some w) sub e = refl
 
   -- and the first TLV 34 is looked into
   pub onward-enter : (list sub : Option (List ℕ)) → list ≡ none → eqb kind pathSetup ≡ true
-      → openOnward false want list sub (tlv kind v rest) ≡ cond (tlvsWhole rest) (insideOf want sub (some v)) torn
+      → openOnward list sub (tlv kind v rest) false want ≡ cond (tlvsWhole rest) (insideOf sub (some v) want) torn
   onward-enter list sub n e = rw (n, e)
 
 -- the first TLV 34 ---------------------------------------------------------------------------------------------
@@ -58,29 +58,29 @@ abbrev pub entered : List ℕ → Sight → Sight
 entered v torn = torn
 entered v (seen list sub) = seen (some v) sub
 
-pub inside-unheld : (want : ℕ) (sub : Option (List ℕ)) (v : List ℕ) (b : Bool) → holdsList v ≡ false → cond b (insideOf want sub (some v)) torn ≡ torn
+pub inside-unheld : (want : ℕ) (sub : Option (List ℕ)) (v : List ℕ) (b : Bool) → holdsList v ≡ false → cond b (insideOf sub (some v) want) torn ≡ torn
 inside-unheld want sub v b e = rw e (same-either b torn)
 
 pub inside-walked : (want : ℕ) (sub : Option (List ℕ)) (v : List ℕ) → holdsList v ≡ true
-    → insideOf want sub (some v) ≡ entered v (openWalk true want (drop (listSize v) v))
+    → insideOf sub (some v) want ≡ entered v (openWalk (drop (listSize v) v) true want)
 unfolding openWalk
 inside-walked want sub v e = rw e (go (tlvsWhole (subsOf v)) refl)
   where
     go : (b : Bool) → tlvsWhole (subsOf v) ≡ b
-        → cond (tlvsWhole (subsOf v)) (seen (some v) (firstTlv want (subsOf v))) torn ≡ entered v (openOnward true want none none (subsOf v))
+        → cond (tlvsWhole (subsOf v)) (seen (some v) (firstTlv (subsOf v) want)) torn ≡ entered v (openOnward none none (subsOf v) true want)
     go true f = rw f
     go false f = rw f
 
-pub inside-torn : (want : ℕ) (sub : Option (List ℕ)) (v : List ℕ) (b : Bool) → holdsList v ≡ true → torn ≡ openWalk true want (drop (listSize v) v)
-    → cond b (insideOf want sub (some v)) torn ≡ torn
+pub inside-torn : (want : ℕ) (sub : Option (List ℕ)) (v : List ℕ) (b : Bool) → holdsList v ≡ true → torn ≡ openWalk (drop (listSize v) v) true want
+    → cond b (insideOf sub (some v) want) torn ≡ torn
 inside-torn want sub v b e w = rw (inside-walked want sub v e, ← w) (same-either b torn)
 
 pub inside-seen : (want : ℕ) (sub : Option (List ℕ)) (v : List ℕ) (b : Bool) {outer inside : Option (List ℕ)} → holdsList v ≡ true
-    → seen outer inside ≡ openWalk true want (drop (listSize v) v) → cond b (insideOf want sub (some v)) torn ≡ cond b (seen (some v) inside) torn
+    → seen outer inside ≡ openWalk (drop (listSize v) v) true want → cond b (insideOf sub (some v) want) torn ≡ cond b (seen (some v) inside) torn
 inside-seen want sub v b e w = rw (inside-walked want sub v e, ← w)
 
 pub onward-found : (inner : Bool) (want : ℕ) (v : List ℕ) (sub : Option (List ℕ)) (rest : Tlvs) → inner ≡ false
-    → cond (tlvsWhole rest) (seen (some v) sub) torn ≡ openOnward inner want (some v) sub rest
+    → cond (tlvsWhole rest) (seen (some v) sub) torn ≡ openOnward (some v) sub rest inner want
 onward-found inner want v sub rest e = rw e
 
 -- Where the sub-TLVs lie in the whole.
@@ -91,8 +91,8 @@ subs-part s from len size e h k =
     rw (m, ← e) (sym (drop-part s from len size k))
 
 pub inside-found : (s : List ℕ) (want from len size : ℕ) {found : Sight} → size ≡ listSize (part s from len) → size ≤ len → from + len ≤ length s
-    → found ≡ openWalk true want (part s (from + size) (from + len - (from + size)))
-    → found ≡ openWalk true want (drop (listSize (part s from len)) (part s from len))
+    → found ≡ openWalk (part s (from + size) (from + len - (from + size))) true want
+    → found ≡ openWalk (drop (listSize (part s from len)) (part s from len)) true want
 inside-found s want from len size e h k w = rw (subs-part s from len size e h k) at w
 
 -- the walk -----------------------------------------------------------------------------------------------------
@@ -101,10 +101,10 @@ inside-found s want from len size e h k w = rw (subs-part s from len size e h k)
 pub record Left (inner : Bool) (want : ℕ) (s : List ℕ) (at stop : ℕ) (list sub : Option (List ℕ)) (whole : Sight) : Type 0 where
   pub fuel : ℕ
   pub enough : stop - at < fuel
-  pub same : openOnward inner want list sub (tlvsIn fuel inner (part s at (stop - at))) ≡ whole
+  pub same : openOnward list sub (tlvsIn (part s at (stop - at)) inner fuel) inner want ≡ whole
 
 pub left-start : (inner : Bool) (want : ℕ) (s : List ℕ) (at stop : ℕ) → at ≤ stop → stop ≤ length s
-    → Left inner want s at stop none none (openWalk inner want (part s at (stop - at)))
+    → Left inner want s at stop none none (openWalk (part s at (stop - at)) inner want)
 unfolding openWalk tlvsOf
 left-start inner want s at stop h k = record {
   fuel = suc (length (part s at (stop - at)));
@@ -117,23 +117,23 @@ module _ {inner : Bool} {want : ℕ} {s : List ℕ} {at stop : ℕ} {list sub : 
   left-end e = sym (rw (items-end (l .fuel) inner s at stop (omega arith) e) (onward-end inner want list sub)) ∙ l .same
 
   module _ (h : at < stop) (k : stop ≤ length s) where
-    pub left-broken : itemAt inner s at stop ≡ Broken → torn ≡ whole
+    pub left-broken : itemAt s inner at stop ≡ Broken → torn ≡ whole
     left-broken e = sym (rw (items-turn (l .fuel) inner s at stop (omega arith) h k, e)) ∙ l .same
 
-    pub left-torn : {kind from len next : ℕ} → itemAt inner s at stop ≡ One kind from len next
-        → ((rest : Tlvs) → openOnward inner want list sub (tlv kind (part s from len) rest) ≡ torn) → torn ≡ whole
+    pub left-torn : {kind from len next : ℕ} → itemAt s inner at stop ≡ One kind from len next
+        → ((rest : Tlvs) → openOnward list sub (tlv kind (part s from len) rest) inner want ≡ torn) → torn ≡ whole
     left-torn {kind} {from} {len} {next} e f =
-        sym (rw (items-turn (l .fuel) inner s at stop (omega arith) h k, e) (f (tlvsIn (pred (l .fuel)) inner (part s next (stop - next))))) ∙ l .same
+        sym (rw (items-turn (l .fuel) inner s at stop (omega arith) h k, e) (f (tlvsIn (part s next (stop - next)) inner (pred (l .fuel))))) ∙ l .same
 
-    pub left-next : {kind from len next : ℕ} {list′ sub′ : Option (List ℕ)} → itemAt inner s at stop ≡ One kind from len next → at < next
-        → ((rest : Tlvs) → openOnward inner want list sub (tlv kind (part s from len) rest) ≡ openOnward inner want list′ sub′ rest)
+    pub left-next : {kind from len next : ℕ} {list′ sub′ : Option (List ℕ)} → itemAt s inner at stop ≡ One kind from len next → at < next
+        → ((rest : Tlvs) → openOnward list sub (tlv kind (part s from len) rest) inner want ≡ openOnward list′ sub′ rest inner want)
         → Left inner want s next stop list′ sub′ whole
     left-next {kind} {from} {len} {next} e g f = record {
       fuel = pred (l .fuel);
       enough = omega arith;
-      same = sym (rw (items-turn (l .fuel) inner s at stop (omega arith) h k, e) (f (tlvsIn (pred (l .fuel)) inner (part s next (stop - next))))) ∙ l .same;
+      same = sym (rw (items-turn (l .fuel) inner s at stop (omega arith) h k, e) (f (tlvsIn (part s next (stop - next)) inner (pred (l .fuel))))) ∙ l .same;
     }
 
 -- Any two walks that fit the contract of `walk` found the same values.
-pub walk-determined : (inner : Bool) (want : ℕ) (s : List ℕ) {x y : Sight} → x ≡ openWalk inner want s → y ≡ openWalk inner want s → x ≡ y
+pub walk-determined : (inner : Bool) (want : ℕ) (s : List ℕ) {x y : Sight} → x ≡ openWalk s inner want → y ≡ openWalk s inner want → x ≡ y
 walk-determined inner want s = determined

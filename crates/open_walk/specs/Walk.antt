@@ -16,11 +16,11 @@ use Rattle.open_walk.specs.declared.Found.the-variants.{Cut, Values}
 
 -- The span of TLV 34 lies within the octets, and holds its padded list.
 abbrev pub Listed : List ℕ → Span → Type 0
-Listed s p = Inside (length s) p × (missingOf p ≡ false → listSize (part s (p .from) (p .len)) ≤ p .len)
+Listed s p = Inside p (length s) × (missingOf p ≡ false → listSize (part s (p .from) (p .len)) ≤ p .len)
 
 abbrev pub Bounds : List ℕ → Found → Type 0
 Bounds s Cut = Unit
-Bounds s (Values list sub) = Listed s list × Inside (length s) sub
+Bounds s (Values list sub) = Listed s list × Inside sub (length s)
 
 -- values -------------------------------------------------------------------------------------------------------
 
@@ -34,19 +34,19 @@ sightOf s Cut = torn
 sightOf s (Values list sub) = seen (valueAt s list) (valueAt s sub)
 
 -- What the first TLV 34 gives, if there is one.
-abbrev pub insideOf : ℕ → Option (List ℕ) → Option (List ℕ) → Sight
-insideOf want sub none = seen none sub
-insideOf want sub (some v) = cond (holdsList v && tlvsWhole (subsOf v)) (seen (some v) (firstTlv want (subsOf v))) torn
+abbrev pub insideOf : Option (List ℕ) → Option (List ℕ) → ℕ → Sight
+insideOf sub none want = seen none sub
+insideOf sub (some v) want = cond (holdsList v && tlvsWhole (subsOf v)) (seen (some v) (firstTlv (subsOf v) want)) torn
 
 -- What TLVs that all fit give, after `list` and `sub` were found before them.
-abbrev pub levelOf : Bool → ℕ → Option (List ℕ) → Option (List ℕ) → Tlvs → Sight
-levelOf true want list sub ts = seen list (orElse sub (firstTlv want ts))
-levelOf false want (some v) sub ts = seen (some v) sub
-levelOf false want none sub ts = insideOf want sub (firstTlv pathSetup ts)
+abbrev pub levelOf : Option (List ℕ) → Option (List ℕ) → Tlvs → Bool → ℕ → Sight
+levelOf list sub ts true want = seen list (orElse sub (firstTlv ts want))
+levelOf (some v) sub ts false want = seen (some v) sub
+levelOf none sub ts false want = insideOf sub (firstTlv ts pathSetup) want
 
-abbrev pub openOnward : Bool → ℕ → Option (List ℕ) → Option (List ℕ) → Tlvs → Sight
-openOnward inner want list sub ts = cond (tlvsWhole ts) (levelOf inner want list sub ts) torn
+abbrev pub openOnward : Option (List ℕ) → Option (List ℕ) → Tlvs → Bool → ℕ → Sight
+openOnward list sub ts inner want = cond (tlvsWhole ts) (levelOf list sub ts inner want) torn
 
 -- The walk over the octets given.
-unfoldable pub openWalk : Bool → ℕ → List ℕ → Sight
-openWalk inner want s = openOnward inner want none none (tlvsOf inner s)
+unfoldable pub openWalk : List ℕ → Bool → ℕ → Sight
+openWalk s inner want = openOnward none none (tlvsOf s inner) inner want

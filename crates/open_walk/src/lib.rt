@@ -20,9 +20,9 @@ pub enum Found {
 }
 
 // The TLVs from `start` to `end`, or with `inner` the sub-TLVs there.
-pub fn walk(s: &[u8], start: usize, end: usize, inner: bool, want: usize) -> Found
+pub fn walk(s: &[u8], inner: bool, want: usize, start: usize, end: usize) -> Found
     requires { ⌜ (start ≤ end) × (end ≤ length (now s)) × (end < end16) ⌝ }
-    ensures found { λ r. ⌜ sightOf (now (s .entry)) r ≡ openWalk inner want (part (now (s .entry)) start (end - start)) ⌝ }
+    ensures found { λ r. ⌜ sightOf (now (s .entry)) r ≡ openWalk (part (now (s .entry)) start (end - start)) inner want ⌝ }
     ensures within { λ r. ⌜ Bounds (now (s .entry)) r ⌝ }
 {
     let mut at = start;
@@ -35,7 +35,7 @@ pub fn walk(s: &[u8], start: usize, end: usize, inner: bool, want: usize) -> Fou
         len: 0,
     };
     while at < end {
-        match tlvs::item_at(s, at, end, inner) {
+        match tlvs::item_at(s, inner, at, end) {
             Item::Broken => {
                 return Found::Cut;
             }
@@ -53,7 +53,7 @@ pub fn walk(s: &[u8], start: usize, end: usize, inner: bool, want: usize) -> Fou
                     if len < size {
                         return Found::Cut;
                     }
-                    match walk(s, from + size, stop, true, want) {
+                    match walk(s, true, want, from + size, stop) {
                         Found::Cut => {
                             return Found::Cut;
                         }

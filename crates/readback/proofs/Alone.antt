@@ -13,7 +13,7 @@ use Rattle.answers.specs.Verdicts.{kept}
 use Rattle.octets.specs.Octets.{placed}
 use Rattle.forms.specs.declared.Form.{Form}
 use Rattle.forms.specs.Forms.{srv6Form, formOf, naiLength}
-use Rattle.forms.proofs.Laws.{form-srv6}
+use Rattle.forms.proofs.Laws.{form-srv6, srv6-nais}
 use Rattle.subobject.specs.declared.head.Head.{Head}
 use Rattle.subobject.specs.declared.segment.Segment.{Segment}
 use Rattle.subobject.specs.Layout.{expectedLength}
@@ -24,8 +24,8 @@ use Rattle.writer_rules.specs.Refusals.{foreign, unfit, noRoom, addNumber}
 use Rattle.writer_state.specs.declared.Writer.{Writer}
 use Rattle.writer_state.specs.Answers.{answered}
 use Rattle.writer.specs.Writing.{addAnswerIn, addBufferIn, addAnswer, addBuffer}
-use Rattle.route.specs.Alone.{naiAlone, lengthAlone, structured, fourFrom}
-use Rattle.route.proofs.Alone.{nai-alone, knows-alone, or-false}
+use Rattle.route.specs.Alone.{lengthAlone, structured, fourFrom}
+use Rattle.route.proofs.Alone.{knows-alone, or-false}
 use Rattle.readback.specs.Alone.{sOf, tOf, fOf, octetsAlone, tidyAlone, unfitAlone, numberAlone}
 
 flags-alone : (v t f s c m : ℕ) → v * 8 + t * 4 + f * 2 + s * 1 + c * 0 + m * 0 ≡ v * 8 + t * 4 + f * 2 + s
@@ -36,13 +36,13 @@ pub octets-alone : (g : Segment) → subobjectOf srv6Form g ≡ octetsAlone g
 unfolding subobjectOf fixedOctets flagsOctet headOfSegment expectedLength hasStructure
 octets-alone g =
     rw (
-      nai-alone (g .nt),
+      srv6-nais (g .nt),
       flags-alone (bit (g .verify)) (tOf g) (fOf g) (sOf g) (bit (g .complete)) (bit (g .labelled)),
     )
 
 tidy-alone : (g : Segment) → tidyOf srv6Form g ≡ tidyAlone g
 unfolding tidyOf
-tidy-alone g = rw (nai-alone (g .nt))
+tidy-alone g = rw (srv6-nais (g .nt))
 
 or-last : (a b c d : Bool) → d ≡ false → (a || (b || (c || d))) ≡ (a || (b || c))
 or-last a b c d e = rw (e, or-none c)

@@ -260,7 +260,7 @@ module _ {form : Form} {ero : Bool} {s : List ℕ} where
   unfolding headAt headOf headOfSegment
   kind-read r = ap (λ (h : Head). h .kind) (r .head)
 
-  others-none : {ps : List ℕ} {gs : List Segment} → AllRead form ero s ps gs → otherThan (kindAt s ero) (form .kind) ps ≡ 0
+  others-none : {ps : List ℕ} {gs : List Segment} → AllRead form ero s ps gs → otherThan (kindAt s ero) ps (form .kind) ≡ 0
   others-none none = refl
   others-none (next r a) = rw (eq-eqb _ (form .kind) (kind-read r)) (others-none a)
 
@@ -277,15 +277,15 @@ module _ {form : Form} {ero : Bool} {s : List ℕ} where
   mixed-none none = refl
   mixed-none (next r a) = rw (kind-read r) (others-none a)
 
-  any-there : {ps : List ℕ} {gs : List Segment} → AllRead form ero s ps gs → (length gs ≡ 0 → ⊥) → anyIs (kindAt s ero) (form .kind) ps ≡ true
+  any-there : {ps : List ℕ} {gs : List Segment} → AllRead form ero s ps gs → (length gs ≡ 0 → ⊥) → anyIs (kindAt s ero) ps (form .kind) ≡ true
   any-there none h = absurd (h refl)
   any-there (next {p} r a) h = rw (eq-eqb (kindAt s ero p) (form .kind) (kind-read r))
 
-  any-kind : {ps : List ℕ} {gs : List Segment} → AllRead form ero s ps gs → (k : ℕ) → anyIs (kindAt s ero) k ps ≡ true → k ≡ form .kind
+  any-kind : {ps : List ℕ} {gs : List Segment} → AllRead form ero s ps gs → (k : ℕ) → anyIs (kindAt s ero) ps k ≡ true → k ≡ form .kind
   any-kind none k e = absurd (false≢true e)
   any-kind (next {p} {ps} r a) k e = go (eqb (kindAt s ero p) k) refl e (any-kind a k)
     where
-      go : (b : Bool) → eqb (kindAt s ero p) k ≡ b → (b || anyIs (kindAt s ero) k ps) ≡ true → (anyIs (kindAt s ero) k ps ≡ true → k ≡ form .kind) → k ≡ form .kind
+      go : (b : Bool) → eqb (kindAt s ero p) k ≡ b → (b || anyIs (kindAt s ero) ps k) ≡ true → (anyIs (kindAt s ero) ps k ≡ true → k ≡ form .kind) → k ≡ form .kind
       go true q e rest = sym (eqb-true (kindAt s ero p) k q) ∙ kind-read r
       go false q e rest = rest e
 
@@ -424,7 +424,7 @@ same-form a b e = go (eqb a 1) (eqb b 1) e
     go false true e = absurd (omega arith)
 
 -- Octets of which no segment is stray in the form that they are of: judged under any setup type none is. Under another form's they are refused.
-unstray-any : (pst : ℕ) (s : List ℕ) (ero : Bool) → ((k : ℕ) → anyIs (kindAt s ero) k (placesOf s) ≡ true → k ≡ formOf pst .kind)
+unstray-any : (pst : ℕ) (s : List ℕ) (ero : Bool) → ((k : ℕ) → anyIs (kindAt s ero) (placesOf s) k ≡ true → k ≡ formOf pst .kind)
     → strayCount (formOf pst) s ero ≡ 0 → (session : Session) (any : ℕ) → judgeOf s ero session any .stray ≡ 0
 unfolding judgeOf rule14
 unstray-any pst s ero kinds e session any = go (eqb (judgeAs (formOf any) s ero session any .number) 0) refl

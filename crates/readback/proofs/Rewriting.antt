@@ -98,24 +98,24 @@ data AllKind (kinds : ℕ → ℕ) (kind : ℕ) : List ℕ → Type 0 where
   next : {p : ℕ} {ps : List ℕ} → kinds p ≡ kind → AllKind kinds kind ps → AllKind kinds kind (p ∷ ps)
 
 -- No place of another type: all are of this one.
-no-other : (kinds : ℕ → ℕ) (kind : ℕ) {ps : List ℕ} → Behind ps → otherThan kinds kind ps ≡ 0 → AllKind kinds kind ps
+no-other : (kinds : ℕ → ℕ) (kind : ℕ) {ps : List ℕ} → Behind ps → otherThan kinds ps kind ≡ 0 → AllKind kinds kind ps
 no-other kinds kind none e = none
 no-other kinds kind (next {p} {ps} h b) e = go (eqb (kinds p) kind) refl e (λ r. no-other kinds kind b r)
   where
-    go : (x : Bool) → eqb (kinds p) kind ≡ x → cond x (otherThan kinds kind ps) p ≡ 0 → (otherThan kinds kind ps ≡ 0 → AllKind kinds kind ps) → AllKind kinds kind (p ∷ ps)
+    go : (x : Bool) → eqb (kinds p) kind ≡ x → cond x (otherThan kinds ps kind) p ≡ 0 → (otherThan kinds ps kind ≡ 0 → AllKind kinds kind ps) → AllKind kinds kind (p ∷ ps)
     go true ex r rest = next (eqb-true (kinds p) kind ex) (rest r)
     go false ex r rest = absurd (omega arith)
 
 -- One of them is of the wanted type, so all are.
-some-is : (kinds : ℕ → ℕ) (kind want : ℕ) {ps : List ℕ} → AllKind kinds kind ps → anyIs kinds want ps ≡ true → kind ≡ want
+some-is : (kinds : ℕ → ℕ) (kind want : ℕ) {ps : List ℕ} → AllKind kinds kind ps → anyIs kinds ps want ≡ true → kind ≡ want
 some-is kinds kind want none e = absurd (let z : _≡_ {A = ℕ} 0 1 = cc in omega arith)
 some-is kinds kind want (next {p} {ps} q a) e = go (eqb (kinds p) want) refl e (λ r. some-is kinds kind want a r)
   where
-    go : (x : Bool) → eqb (kinds p) want ≡ x → (x || anyIs kinds want ps) ≡ true → (anyIs kinds want ps ≡ true → kind ≡ want) → kind ≡ want
+    go : (x : Bool) → eqb (kinds p) want ≡ x → (x || anyIs kinds ps want) ≡ true → (anyIs kinds ps want ≡ true → kind ≡ want) → kind ≡ want
     go true ex r rest = sym q ∙ eqb-true (kinds p) want ex
     go false ex r rest = rest r
 
-all-kind : (kinds : ℕ → ℕ) (want : ℕ) {ps : List ℕ} → Behind ps → anyIs kinds want ps ≡ true → mixedAt kinds ps ≡ 0 → AllKind kinds want ps
+all-kind : (kinds : ℕ → ℕ) (want : ℕ) {ps : List ℕ} → Behind ps → anyIs kinds ps want ≡ true → mixedAt kinds ps ≡ 0 → AllKind kinds want ps
 all-kind kinds want none e m = none
 all-kind kinds want (next {p} {ps} h b) e m =
     let a : AllKind kinds (kinds p) (p ∷ ps) = next refl (no-other kinds (kinds p) b m) in
@@ -361,13 +361,13 @@ module _ (s : List ℕ) (ero : Bool) (session : Session) (pst : ℕ) (octets : E
   unfolding apartOf
   chain = chain-of (suc (length s)) s 4 (header .low) (accepted-frame (formOf pst) s ero session pst accepted .1)
 
-  present : anyIs (kindAt s ero) (formOf pst .kind) (placesOf s) ≡ true
+  present : anyIs (kindAt s ero) (placesOf s) (formOf pst .kind) ≡ true
   unfolding rule14
   present = not-false _ (no-check .1 .1 .1 .0)
 
   unmixed : mixedAt (kindAt s ero) (placesOf s) ≡ 0
   unfolding rule6 rule6Place
-  unmixed = eqb-true _ 0 (not-false _ (and-rest (anyIs (kindAt s ero) (formOf pst .kind) (placesOf s)) _ present (no-check .1 .1 .0)))
+  unmixed = eqb-true _ 0 (not-false _ (and-rest (anyIs (kindAt s ero) (placesOf s) (formOf pst .kind)) _ present (no-check .1 .1 .0)))
 
   sound : AllSound (formOf pst) ero s (placesOf s)
   sound =

@@ -10,7 +10,8 @@ use Rattle.subobject.specs.declared.segment.Segment.{Segment}
 use Rattle.subobject.specs.Segments.{bit}
 use Rattle.writer_spare.specs.Spare.{zeros}
 use Rattle.writer_rules.specs.Refusals.{passes, badPlace}
-use Rattle.route.specs.Alone.{naiAlone, structured, lengthAlone, fourFrom}
+use Rattle.forms.specs.Forms.{srv6Nai}
+use Rattle.route.specs.Alone.{structured, lengthAlone, fourFrom}
 
 -- S, T and F of a segment: "F follows from NT".
 abbrev pub sOf : Segment → ℕ
@@ -31,13 +32,13 @@ octetsAlone g =
     ∷ (bit (g .verify) * 8 + tOf g * 4 + fOf g * 2 + sOf g)
     ∷ 0 ∷ 0 ∷ hi (g .behaviour) ∷ lo (g .behaviour)
     ∷ (take (cond (eqb (sOf g) 0) 16 0) (g .sid)
-    ++ (take (naiAlone (g .nt)) (g .nai) ++ cond (structured (sOf g) (tOf g)) (take 4 (g .structure) ++ 0 ∷ 0 ∷ 0 ∷ 0 ∷ []) []))
+    ++ (take (srv6Nai (g .nt)) (g .nai) ++ cond (structured (sOf g) (tOf g)) (take 4 (g .structure) ++ 0 ∷ 0 ∷ 0 ∷ 0 ∷ []) []))
 
 -- "octets kept for a part that is absent or shorter are 0"
 abbrev pub tidyAlone : Segment → Bool
 tidyAlone g =
     zeros (drop (cond (g .hassid) 16 0) (g .sid))
-    && (zeros (drop (naiAlone (g .nt)) (g .nai)) && zeros (drop (cond (g .structured) 4 0) (g .structure)))
+    && (zeros (drop (srv6Nai (g .nt)) (g .nai)) && zeros (drop (cond (g .structured) 4 0) (g .structure)))
 
 -- "7 (structure without a SID, L or V in an RRO, such octets not 0)"
 abbrev pub unfitAlone : Bool → Segment → Bool

@@ -34,7 +34,7 @@ unassignedAt form s at =
 -- and of a structure the "3 reserved, 1 flags".
 abbrev pub endingAt : Form → List ℕ → Bool → ℕ → List ℕ
 endingAt form s ero at =
-    cond (hasStructure (headAt form s ero at)) (part s (structurePlace form at (headAt form s ero at .nt) + bitLengths) (structureSize - bitLengths)) []
+    cond (hasStructure (headAt form s ero at)) (part s (structurePlace form (headAt form s ero at .nt) at + bitLengths) (structureSize - bitLengths)) []
 
 -- No strays, since they are assigned flags:
 abbrev pub assignedAt : Form → List ℕ → Bool → ℕ → List ℕ

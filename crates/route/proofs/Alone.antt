@@ -15,7 +15,7 @@ use Rattle.octets.specs.Octets.{octetOf}
 use Rattle.objects.specs.Objects.{mplsSetup}
 use Rattle.forms.specs.declared.Form.{Form}
 use Rattle.forms.specs.Forms.{srv6Form, flagIn, naiLength, knows}
-use Rattle.forms.proofs.Laws.{form-srv6}
+use Rattle.forms.proofs.Laws.{form-srv6, srv6-nais}
 use Rattle.session.specs.declared.Session.{Session}
 use Rattle.subobject.specs.declared.head.Head.{Head}
 use Rattle.subobject.specs.Layout.{sidPlace, expectedLength, kindOf, headOf, headAt}
@@ -29,7 +29,6 @@ use Rattle.route_walk.specs.Walk.{checksAt, subobjectChecks}
 use Rattle.route.specs.declared.picking.Picked.{Picked}
 use Rattle.route.specs.Routes.{rule13, lastChecks, acceptanceOf, judgeAs, rule15, pickOf, segmentAs, judgeOf, segmentOf}
 use Rattle.route.specs.Alone.{
-  naiAlone,
   structured,
   lengthAlone,
   structureAlone,
@@ -48,20 +47,9 @@ use Rattle.route.specs.Alone.{
 
 -- one subobject ------------------------------------------------------------------------------------------------
 
-pub nai-alone : (nt : ℕ) → naiLength srv6Form nt ≡ naiAlone nt
-unfolding naiLength
-nai-alone nt = go (eqb nt 1) (eqb nt 3) (eqb nt 5) refl refl refl
-  where
-    go : (a c e : Bool) → eqb nt 1 ≡ a → eqb nt 3 ≡ c → eqb nt 5 ≡ e
-        → cond a 0 (cond (eqb nt 2) 16 (cond c 0 (cond (eqb nt 4) 32 (cond e 0 (cond (eqb nt 6) 40 0))))) ≡ naiAlone nt
-    go true c e p q r = rw (eqb-true nt 1 p)
-    go false true e p q r = rw (eqb-true nt 3 q)
-    go false false true p q r = rw (eqb-true nt 5 r)
-    go false false false p q r = refl
-
 pub knows-alone : (nt : ℕ) → knows srv6Form nt ≡ (eqb nt 0 || (eqb nt 2 || (eqb nt 4 || eqb nt 6)))
 unfolding knows
-knows-alone nt = rw (nai-alone nt) (go (eqb nt 0) (eqb nt 2) (eqb nt 4) (eqb nt 6))
+knows-alone nt = rw (srv6-nais nt) (go (eqb nt 0) (eqb nt 2) (eqb nt 4) (eqb nt 6))
   where
     go : (z a b c : Bool) → (z || not (eqb (cond a 16 (cond b 32 (cond c 40 0))) 0)) ≡ (z || (a || (b || c)))
     go true a b c = refl
@@ -99,12 +87,12 @@ module _ (s : List ℕ) (ero : Bool) (at : ℕ) where
   pub r7 : rule7 srv6Form head ≡ (not (eqb (head .f) (cond (eqb (head .nt) 0) 1 0)) || not (eqb (head .size) (lengthAlone (head .nt) (head .s) (head .t))))
   unfolding rule7 expectedLength
   r7 =
-      rw (nai-alone (head .nt), formed)
+      rw (srv6-nais (head .nt), formed)
       (or-false (not (eqb (head .f) (cond (eqb (head .nt) 0) 1 0))) (not (eqb (head .size) (lengthAlone (head .nt) (head .s) (head .t)))))
 
-  pub r11 : rule11 head (bitsAt srv6Form head s at) ≡ (structured (head .s) (head .t) && ltb 128 (fourFrom s (structureAlone at (head .nt))))
+  pub r11 : rule11 head (bitsAt srv6Form head s at) ≡ (structured (head .s) (head .t) && ltb 128 (fourFrom s (structureAlone (head .nt) at)))
   unfolding rule11 hasStructure sumAt
-  r11 = rw (nai-alone (head .nt))
+  r11 = rw (srv6-nais (head .nt))
 
   pub r29 : (label : ℕ) → rule29 head label ≡ false
   unfolding rule29
@@ -120,11 +108,11 @@ module _ (s : List ℕ) (ero : Bool) (at : ℕ) where
 
   strays-alone : straysAt srv6Form s ero at ≡ oneStrays head s at
   unfolding straysAt strayFlags structureFlags reservedOctets hasStructure
-  strays-alone = rw (head-alone, nai-alone (head .nt))
+  strays-alone = rw (head-alone, srv6-nais (head .nt))
 
   pub segment-alone : segmentAt srv6Form s ero at ≡ oneSegment head s at
   unfolding segmentAt hasStructure
-  segment-alone = rw (head-alone, nai-alone (head .nt))
+  segment-alone = rw (head-alone, srv6-nais (head .nt))
 
 -- all of them --------------------------------------------------------------------------------------------------
 

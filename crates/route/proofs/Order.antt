@@ -27,12 +27,12 @@ rank n (whole k) = k
 rank n (inside i k) = suc (suc (suc (suc (suc (ruleCount * i + k)))))
 rank n last = suc (suc (suc (suc (suc (ruleCount * n)))))
 
-pub rank-within : (n : ℕ) (w : Where) → Among n w → rank n w < suc wholeCount + ruleCount * n
+pub rank-within : (n : ℕ) (w : Where) → Among w n → rank n w < suc wholeCount + ruleCount * n
 rank-within n (whole k) h = omega arith
 rank-within n (inside i k) h = omega (arith, h .0, h .1)
 rank-within n last h = omega arith
 
-pub before-lower : (n : ℕ) (v w : Where) → Among n v → Among n w → Before v w → rank n v < rank n w
+pub before-lower : (n : ℕ) (v w : Where) → Among v n → Among w n → Before v w → rank n v < rank n w
 before-lower n (whole j) (whole k) h g b = b
 before-lower n (whole j) (inside i k) h g b = omega arith
 before-lower n (whole j) last h g b = omega arith
@@ -42,7 +42,7 @@ before-lower n (inside i j) (inside l k) h g (inr a) = omega (arith, a .0, a .1)
 before-lower n (inside i j) last h g b = omega (arith, h .0, h .1)
 before-lower n last w h g b = absurd b
 
-pub lower-before : (n : ℕ) (v w : Where) → Among n v → Among n w → rank n v < rank n w → Before v w
+pub lower-before : (n : ℕ) (v w : Where) → Among v n → Among w n → rank n v < rank n w → Before v w
 lower-before n (whole j) (whole k) h g l = l
 lower-before n (whole j) (inside i k) h g l = tt
 lower-before n (whole j) last h g l = tt
@@ -63,7 +63,7 @@ lower-before n last last h g l = absurd (omega arith)
 -- Every rank is that of a check.
 pub record Standing (n r : ℕ) : Type 0 where
   pub stands : Where
-  pub among : Among n stands
+  pub among : Among stands n
   pub ranked : rank n stands ≡ r
 
 pub standing : (n r : ℕ) → r < suc wholeCount + ruleCount * n → Standing n r
@@ -121,7 +121,7 @@ module _ (form : Form) (s : List ℕ) (ero : Bool) (session : Session) (pst : �
       let q = sub-length form s ero (session .n) (placesOf s) (getD (lastChecks (placesOf s) ero (session .limit) (countOf s)) 0 (check 0 0 false)) in
       omega arith
 
-  pub rank-check : (w : Where) → Among (countOf s) w → checkOf (checksOf form s ero session pst) (rank (countOf s) w) ≡ checkAt form s ero session pst w
+  pub rank-check : (w : Where) → Among w (countOf s) → checkOf (checksOf form s ero session pst) (rank (countOf s) w) ≡ checkAt form s ero session pst w
   rank-check (whole k) h = go k h
     where
       go : (k : ℕ) → k < wholeCount → checkOf (checksOf form s ero session pst) k ≡ checkAt form s ero session pst (whole k)

@@ -111,11 +111,11 @@ judge-session s ero session pst has most h m = rw (h, m) (judge-parts s ero sess
 
 -- Where it settled a route, and 13 and 12 are not broken, the route is accepted.
 module _ (s : List ℕ) (ero agreed n has : Bool) (most pst : ℕ) {count stray : ℕ} (x : Settled (formOf pst) s ero n count stray) where
-  unlimited : (has ≡ true → count ≤ most) → carryingBoth count stray ≡ limitedOf s ero (cond has (Most most) Free) (carryingBoth count stray)
+  unlimited : (has ≡ true → count ≤ most) → carryingBoth count stray ≡ limitedOf (carryingBoth count stray) s ero (cond has (Most most) Free)
   unfolding limitedOf rule12
   unlimited l = go has ero l
     where
-      go : (has ero : Bool) → (has ≡ true → count ≤ most) → carryingBoth count stray ≡ limitedOf s ero (cond has (Most most) Free) (carryingBoth count stray)
+      go : (has ero : Bool) → (has ≡ true → count ≤ most) → carryingBoth count stray ≡ limitedOf (carryingBoth count stray) s ero (cond has (Most most) Free)
       go false true l = refl
       go false false l = refl
       go true false l = refl

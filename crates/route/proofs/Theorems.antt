@@ -31,13 +31,13 @@ use Rattle.route.proofs.Order.{rank, rank-within, before-lower, lower-b
 
 module _ (form : Form) (s : List ℕ) (ero : Bool) (session : Session) (pst : ℕ) where
   -- Accepted: no rule is broken,
-  pub accepted-unbroken-as : judgeAs form s ero session pst .number ≡ 0 → (w : Where) → Among (countOf s) w → checkAt form s ero session pst w .broken ≡ false
+  pub accepted-unbroken-as : judgeAs form s ero session pst .number ≡ 0 → (w : Where) → Among w (countOf s) → checkAt form s ero session pst w .broken ≡ false
   accepted-unbroken-as z w a =
       ap (λ (c : Check). c .broken) (sym (rank-check form s ero session pst w a))
       ∙ none-all (checksOf form s ero session pst) (accepted-none form s ero session pst z) (rank (countOf s) w)
 
   -- and where no rule is broken, the route is accepted with the number of its subobjects.
-  pub unbroken-accepted-as : ((w : Where) → Among (countOf s) w → checkAt form s ero session pst w .broken ≡ false)
+  pub unbroken-accepted-as : ((w : Where) → Among w (countOf s) → checkAt form s ero session pst w .broken ≡ false)
       → judgeAs form s ero session pst ≡ acceptanceOf form s ero
   unfolding judgeAs
   unbroken-accepted-as f =
@@ -91,11 +91,11 @@ module _ (form : Form) (s : List ℕ) (ero : Bool) (session : Session) (pst : �
 -- of the form that the setup type names ------------------------------------------------------------------------
 
 module _ (s : List ℕ) (ero : Bool) (session : Session) (pst : ℕ) where
-  pub accepted-unbroken : judgeOf s ero session pst .number ≡ 0 → (w : Where) → Among (countOf s) w → checkAt (formOf pst) s ero session pst w .broken ≡ false
+  pub accepted-unbroken : judgeOf s ero session pst .number ≡ 0 → (w : Where) → Among w (countOf s) → checkAt (formOf pst) s ero session pst w .broken ≡ false
   unfolding judgeOf
   accepted-unbroken z w a = accepted-unbroken-as (formOf pst) s ero session pst z w a
 
-  pub unbroken-accepted : ((w : Where) → Among (countOf s) w → checkAt (formOf pst) s ero session pst w .broken ≡ false)
+  pub unbroken-accepted : ((w : Where) → Among w (countOf s) → checkAt (formOf pst) s ero session pst w .broken ≡ false)
       → judgeOf s ero session pst ≡ acceptanceOf (formOf pst) s ero
   unfolding judgeOf
   unbroken-accepted f = unbroken-accepted-as (formOf pst) s ero session pst f

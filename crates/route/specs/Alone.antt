@@ -9,6 +9,7 @@ use Rattle.answers.specs.declared.verdict.Verdict.{Verdict}
 use Rattle.answers.specs.Verdicts.{carryingBoth}
 use Rattle.octets.specs.Octets.{octetOf, be16, partOf}
 use Rattle.session.specs.declared.Session.{Session}
+use Rattle.forms.specs.Forms.{srv6Nai}
 use Rattle.subobject.specs.declared.head.Head.{Head}
 use Rattle.subobject.specs.declared.segment.Segment.{Segment}
 use Rattle.subobject_strays.specs.declared.Strays.{Strays}
@@ -19,19 +20,17 @@ use Rattle.frame.specs.Frames.{placesOf, frameChecks}
 use Rattle.route.specs.declared.picking.Picked.{Picked}
 use Rattle.route.specs.Routes.{lastChecks}
 
--- "NAI: NT 0 none, 2 node 16, 4 adjacency 32, 6 link-local adjacency 40."
-abbrev pub naiAlone : ℕ → ℕ
-naiAlone nt = cond (eqb nt 2) 16 (cond (eqb nt 4) 32 (cond (eqb nt 6) 40 0))
+-- "NAI: NT 0 none, 2 node 16, 4 adjacency 32, 6 link-local adjacency 40": `srv6Nai` (forms/specs/Forms).
 
 abbrev pub structured : ℕ → ℕ → Bool
 structured s t = eqb s 0 && eqb t 1
 
 -- "The expected length is 8 plus the parts present."
 abbrev pub lengthAlone : ℕ → ℕ → ℕ → ℕ
-lengthAlone nt s t = 8 + cond (eqb s 0) 16 0 + naiAlone nt + cond (structured s t) 8 0
+lengthAlone nt s t = 8 + cond (eqb s 0) 16 0 + srv6Nai nt + cond (structured s t) 8 0
 
 abbrev pub structureAlone : ℕ → ℕ → ℕ
-structureAlone at nt = at + 8 + 16 + naiAlone nt
+structureAlone nt at = at + 8 + 16 + srv6Nai nt
 
 -- "NT (4 bits), 12 flags; the last four are V, T, F, S, with S lowest."
 abbrev pub headAlone : List ℕ → Bool → ℕ → Head
@@ -59,7 +58,7 @@ oneChecks h s ero n at =
     ∷ check 9 at (eqb (h .s) 1 && eqb (h .f) 1)
     ∷ check 7 at (not (eqb (h .f) (cond (eqb (h .nt) 0) 1 0)) || not (eqb (h .size) (lengthAlone (h .nt) (h .s) (h .t))))
     ∷ check 10 at (ero && (eqb (h .s) 1 && not n))
-    ∷ check 11 at (structured (h .s) (h .t) && ltb 128 (fourFrom s (structureAlone at (h .nt))))
+    ∷ check 11 at (structured (h .s) (h .t) && ltb 128 (fourFrom s (structureAlone (h .nt) at)))
     ∷ []
 
 abbrev pub checksIn : List ℕ → Bool → Bool → List ℕ → List Check
@@ -71,12 +70,12 @@ abbrev pub oneStrays : Head → List ℕ → ℕ → Strays
 oneStrays h s at =
     record {
       flags = be16 s (at + 2) % 4096 / 16 * 16;
-      structure = cond (structured (h .s) (h .t)) (octetOf s (structureAlone at (h .nt) + 4 + 3)) 0;
+      structure = cond (structured (h .s) (h .t)) (octetOf s (structureAlone (h .nt) at + 4 + 3)) 0;
       reserved = anySet
           (octetOf s (at + 4)
           ∷ octetOf s (at + 4 + 1)
           ∷ cond (structured (h .s) (h .t))
-          (octetOf s (structureAlone at (h .nt) + 4) ∷ octetOf s (structureAlone at (h .nt) + 4 + 1) ∷ octetOf s (structureAlone at (h .nt) + 4 + 2) ∷ []) []);
+          (octetOf s (structureAlone (h .nt) at + 4) ∷ octetOf s (structureAlone (h .nt) at + 4 + 1) ∷ octetOf s (structureAlone (h .nt) at + 4 + 2) ∷ []) []);
     }
 
 abbrev pub strayCountIn : List ℕ → Bool → List ℕ → ℕ
@@ -106,9 +105,9 @@ oneSegment h s at =
       behaviour = be16 s (at + 6);
       hassid = eqb (h .s) 0;
       sid = partOf s (at + 8) (cond (eqb (h .s) 0) 16 0) 16;
-      nai = partOf s (at + 8 + cond (eqb (h .s) 0) 16 0) (naiAlone (h .nt)) 40;
+      nai = partOf s (at + 8 + cond (eqb (h .s) 0) 16 0) (srv6Nai (h .nt)) 40;
       structured = structured (h .s) (h .t);
-      structure = partOf s (structureAlone at (h .nt)) (cond (structured (h .s) (h .t)) 4 0) 4;
+      structure = partOf s (structureAlone (h .nt) at) (cond (structured (h .s) (h .t)) 4 0) 4;
       labelled = false;
       complete = false;
     }

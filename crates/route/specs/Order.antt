@@ -25,10 +25,10 @@ abbrev pub wholeCount : ℕ
 wholeCount = 5
 
 -- The checks that a route of n subobjects has.
-abbrev pub Among : ℕ → Where → Type 0
-Among n (whole k) = k < wholeCount
-Among n (inside i k) = (i < n) × (k < ruleCount)
-Among n last = Unit {0}
+abbrev pub Among : Where → ℕ → Type 0
+Among (whole k) n = k < wholeCount
+Among (inside i k) n = (i < n) × (k < ruleCount)
+Among last n = Unit {0}
 
 abbrev pub Before : Where → Where → Type 0
 Before (whole j) (whole k) = j < k
@@ -49,8 +49,8 @@ checkAt form s ero session pst last = getD (lastChecks (placesOf s) ero (session
 -- A rule of this number is broken at this place, and nothing before it in document 01's order is.
 pub record FirstBroken (form : Form) (s : List ℕ) (ero : Bool) (session : Session) (pst number place : ℕ) : Type 0 where
   pub stands : Where
-  pub among : Among (countOf s) stands
+  pub among : Among stands (countOf s)
   pub numbered : checkAt form s ero session pst stands .number ≡ number
   pub placed : checkAt form s ero session pst stands .place ≡ place
   pub broken : checkAt form s ero session pst stands .broken ≡ true
-  pub nothing : (w : Where) → Among (countOf s) w → Before w stands → checkAt form s ero session pst w .broken ≡ false
+  pub nothing : (w : Where) → Among w (countOf s) → Before w stands → checkAt form s ero session pst w .broken ≡ false

@@ -43,11 +43,11 @@ fn segment_as(form: Form, s: &[u8], ero: bool, session: Session, pst: u64, i: u6
         return nothing(answers::refused(answers::NO_SUCH_SEGMENT, 0));
     }
     let at = frame::nth(s, i as usize);
-    match subobject_read::read_at(form, s, at, ero) {
+    match subobject_read::read_at(form, s, ero, at) {
         Reading::Refused(number, place) => nothing(answers::refused(number, place)),
         Reading::Whole(x) => Picked {
             verdict: v,
-            segment: subobject_read::segment_at(form, s, at, ero),
+            segment: subobject_read::segment_at(form, s, ero, at),
             strays: x,
         },
     }

@@ -56,11 +56,11 @@ module _ (s : List ℕ) (ero : Bool) (session : Session) (pst : ℕ) (addresses 
 
   -- Accepted exactly if no rule is broken, 28 too.
   pub accepted-exactly : (judgedIn s ero session pst addresses .number ≡ 0)
-      ↔ ((rule28 addresses ≡ false) × ((w : Where) → Among (countOf s) w → checkAt (formOf pst) s ero (sessionFor s ero session addresses) pst w .broken ≡ false))
+      ↔ ((rule28 addresses ≡ false) × ((w : Where) → Among w (countOf s) → checkAt (formOf pst) s ero (sessionFor s ero session addresses) pst w .broken ≡ false))
   accepted-exactly = go (rule28 addresses) refl
     where
       go : (b : Bool) → rule28 addresses ≡ b → (judgedIn s ero session pst addresses .number ≡ 0)
-          ↔ ((b ≡ false) × ((w : Where) → Among (countOf s) w → checkAt (formOf pst) s ero (sessionFor s ero session addresses) pst w .broken ≡ false))
+          ↔ ((b ≡ false) × ((w : Where) → Among w (countOf s) → checkAt (formOf pst) s ero (sessionFor s ero session addresses) pst w .broken ≡ false))
       go true e = (λ z. absurd (omega (arith, sym (ap (λ (v : Verdict). v .number) (unusable-judged e)) ∙ z)), λ h. absurd (false≢true (sym (h .0))))
       go false e = (
         λ z. (refl, accepted-unbroken s ero (sessionFor s ero session addresses) pst (rw (usable-judged e) at z)),
@@ -89,16 +89,16 @@ module _ (s : List ℕ) (ero : Bool) (session : Session) (pst : ℕ) (addresses 
 
 -- the limit ------------------------------------------------------------------------------------------------------
 
-past-within : (limit : Limit) (n : ℕ) → past limit n ≡ false → within n limit
+past-within : (limit : Limit) (n : ℕ) → past limit n ≡ false → within limit n
 past-within Free n e = tt
 past-within (Most m) n e = ltb-false m n e
 
-within-past : (limit : Limit) (n : ℕ) → within n limit → past limit n ≡ false
+within-past : (limit : Limit) (n : ℕ) → within limit n → past limit n ≡ false
 within-past Free n h = refl
 within-past (Most m) n h = le-ltb m n h
 
 -- A route that is accepted under a limit is accepted alike under one that permits as much.
-pub limit-keeps : (s : List ℕ) (ero : Bool) (session : Session) (pst : ℕ) (limit : Limit) → ((n : ℕ) → within n (session .limit) → within n limit)
+pub limit-keeps : (s : List ℕ) (ero : Bool) (session : Session) (pst : ℕ) (limit : Limit) → ((n : ℕ) → within (session .limit) n → within limit n)
     → judgeOf s ero session pst .number ≡ 0 → judgeOf s ero (underLimit session limit) pst ≡ judgeOf s ero session pst
 unfolding rule12
 limit-keeps s ero session pst limit up z =
@@ -108,7 +108,7 @@ limit-keeps s ero session pst limit up z =
     twelve true e = within-past limit (countOf s) (up (countOf s) (past-within (session .limit) (countOf s) e))
     twelve false e = refl
 
-    go : (w : Where) → Among (countOf s) w → checkAt (formOf pst) s ero (underLimit session limit) pst w .broken ≡ false
+    go : (w : Where) → Among w (countOf s) → checkAt (formOf pst) s ero (underLimit session limit) pst w .broken ≡ false
     go (whole k) a = accepted-unbroken s ero session pst z (whole k) a
     go (inside i k) a = accepted-unbroken s ero session pst z (inside i k) a
     go last a = twelve ero (accepted-unbroken s ero session pst z last a)
@@ -139,15 +139,15 @@ off-still true false false x y own f g e = absurd (false≢true e)
 module _ (s : List ℕ) (ero : Bool) (g : Session) (addresses : List ℕ) (a r : Bool) (f : g .a ≡ true → a ≡ true) (h : g .r ≡ true → r ≡ true)
     (sound : g .limit ≡ limitBy (depthIn (g .v)) (depthIn (g .m))) where
   -- More flags never lower the limit.
-  raised-keeps : (n : ℕ) → within n (limitFor s ero g addresses) → within n (limitFor s ero (flagged g a r) addresses)
+  raised-keeps : (n : ℕ) → within (limitFor s ero g addresses) n → within (limitFor s ero (flagged g a r) addresses) n
   unfolding limitFor staysOff
   raised-keeps n = go (ero && (g .r || (g .a && ownAdjacency s addresses))) (ero && (r || (a && ownAdjacency s addresses)))
       (off-still ero (g .a) (g .r) a r (ownAdjacency s addresses) f h)
     where
-      more : within n (g .limit) → within n (withOneMore g)
-      more = subst (λ (l : Limit). within n l → within n (oneMoreBy l (depthIn (g .v)) (depthIn (g .m)))) (sym sound) (one-more-keeps n (depthIn (g .v)) (depthIn (g .m)))
+      more : within (g .limit) n → within (withOneMore g) n
+      more = subst (λ (l : Limit). within l n → within (oneMoreBy l (depthIn (g .v)) (depthIn (g .m))) n) (sym sound) (one-more-keeps n (depthIn (g .v)) (depthIn (g .m)))
 
-      go : (b c : Bool) → (b ≡ true → c ≡ true) → within n (cond b (withOneMore g) (g .limit)) → within n (cond c (withOneMore g) (g .limit))
+      go : (b c : Bool) → (b ≡ true → c ≡ true) → within (cond b (withOneMore g) (g .limit)) n → within (cond c (withOneMore g) (g .limit)) n
       go true true i k = k
       go true false i k = absurd (false≢true (i refl))
       go false true i k = more k

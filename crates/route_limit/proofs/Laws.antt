@@ -32,7 +32,7 @@ short-part s at h = omega (arith, length-take addressSize (drop at s), length-dr
 -- Where the local address stands: behind the fixed part, and behind the SID if S is 0.
 pub place-told : (flags : ℕ) {form : Form} {fixed sid without k : ℕ} → form ≡ srv6Form → fixed ≡ form .fixed → sid ≡ form .sid → without ≡ flagIn flags (form .s)
     → k ≡ cond (eqb without 0) sid 0 → k ≤ sid + 0
-    → (header + fixed + k ≡ naiPlace srv6Form header (flagIn flags (srv6Form .s))) × (header + fixed + k ≤ 28)
+    → (header + fixed + k ≡ naiPlace srv6Form (flagIn flags (srv6Form .s)) header) × (header + fixed + k ≤ 28)
 place-told flags {form} {fixed} {sid} {without} {k} e f g h p l =
     let eight : fixed ≡ 8 = f ∙ ap (λ (x : Form). x .fixed) e in
     let sixteen : sid ≡ 16 = g ∙ ap (λ (x : Form). x .sid) e in
@@ -49,7 +49,7 @@ module _ (s addresses : List ℕ) (high : ℕ) (e : high ≡ octetOf s (header +
   unfolding ownAdjacency
   not-own f g = rw (nt-told, sym f ∙ g)
 
-  module _ (low : ℕ) (f : low ≡ octetOf s (header + 3)) (at : ℕ) (g : at ≡ naiPlace srv6Form header (flagIn low (srv6Form .s))) where
+  module _ (low : ℕ) (f : low ≡ octetOf s (header + 3)) (at : ℕ) (g : at ≡ naiPlace srv6Form (flagIn low (srv6Form .s)) header) where
     local-told : localAddress s ≡ part s at addressSize
     unfolding headAt headOf
     local-told = rw (g, f)
@@ -59,7 +59,7 @@ module _ (s addresses : List ℕ) (high : ℕ) (e : high ≡ octetOf s (header +
     own-short h =
         rw (local-told, short-is-none (part s at addressSize) addresses (short-part s at h)) (sym (and-false (isAdjacency (firstHead s .nt))))
 
-    pub own-told : {b r : Bool} → b ≡ isAdjacency (high / worthNT) → b ≡ true → r ≡ hasAddress (part s at addressSize) addresses → r ≡ ownAdjacency s addresses
+    pub own-told : {b r : Bool} → b ≡ isAdjacency (high / worthNT) → b ≡ true → r ≡ hasAddress addresses (part s at addressSize) → r ≡ ownAdjacency s addresses
     unfolding ownAdjacency
     own-told k m n = n ∙ rw (nt-told, sym k ∙ m, local-told)
 

@@ -27,11 +27,11 @@ firstHead s = headAt srv6Form s true header
 
 -- "its local address": the first 16 octets of the NAI, behind the SID if there is one.
 abbrev pub localAddress : List ℕ → List ℕ
-localAddress s = part s (naiPlace srv6Form header (firstHead s .s)) addressSize
+localAddress s = part s (naiPlace srv6Form (firstHead s .s) header) addressSize
 
 -- "the ERO's first segment has NT 4 or 6 with its local address in a lent list of the head end's addresses"
 unfoldable pub ownAdjacency : List ℕ → List ℕ → Bool
-ownAdjacency s addresses = isAdjacency (firstHead s .nt) && hasAddress (localAddress s) addresses
+ownAdjacency s addresses = isAdjacency (firstHead s .nt) && hasAddress addresses (localAddress s)
 
 -- "If both ends set R, or both set A and .."
 unfoldable pub staysOff : List ℕ → Bool → Session → List ℕ → Bool

@@ -33,7 +33,7 @@ fn adjacency(nt: usize) -> bool
 
 // Where the local address of the first segment stands, by its flags: behind the SID if there is one.
 fn local_place(flags: usize) -> usize
-    ensures place { λ r. ⌜ (r ≡ naiPlace srv6Form header (flagIn flags (srv6Form .s))) × (r ≤ 28) ⌝ }
+    ensures place { λ r. ⌜ (r ≡ naiPlace srv6Form (flagIn flags (srv6Form .s)) header) × (r ≤ 28) ⌝ }
 {
     let form = forms::srv6();
     let fixed = octets::wide(form.fixed);

@@ -24,9 +24,9 @@ use Rattle.frame.proofs.Laws.{headed-sized}
 use Rattle.route_walk.specs.Walk.{subobjectChecks, walkOf}
 use Rattle.route_rules.specs.SessionRules.{rule13, lastChecks}
 use Rattle.route_rules.specs.Parts.{limitedOf}
-use Rattle.route_ordered.specs.Judged.{checksOf, countOf, strayCount, acceptanceOf, judgeAs}
+use Rattle.route_ordered.specs.Judged.{laterChecks, checksOf, countOf, strayCount, acceptanceOf, judgeAs}
 
--- every check has a number -------------------------------------------------------------------------------------
+-- every check has a number (of all of them `numbered-all`, below) ----------------------------------------------
 
 pub numbered-subobjects : (form : Form) (s : List ℕ) (ero n : Bool) (ps : List ℕ) → Numbered (subobjectChecks form s ero n ps)
 numbered-subobjects form s ero n [] = tt
@@ -35,13 +35,6 @@ numbered-subobjects form s ero n (p ∷ ps) =
 
 pub numbered-frame : (form : Form) (ero : Bool) (s : List ℕ) → Numbered (frameChecks s ero (form .kind))
 numbered-frame form ero s = (omega arith, (omega arith, (omega arith, (omega arith, tt))))
-
-pub numbered-all : (form : Form) (s : List ℕ) (ero : Bool) (session : Session) (pst : ℕ) → Numbered (checksOf form s ero session pst)
-numbered-all form s ero session pst =
-    let rest =
-    numbered-append (subobjectChecks form s ero (session .n) (placesOf s)) (lastChecks (placesOf s) ero (session .limit) (countOf s))
-    (numbered-subobjects form s ero (session .n) (placesOf s)) (omega arith, tt) in
-    (omega arith, (omega arith, (omega arith, (omega arith, (omega arith, rest)))))
 
 -- the frame ----------------------------------------------------------------------------------------------------
 
@@ -66,8 +59,7 @@ module _ (form : Form) (s : List ℕ) (ero : Bool) (session : Session) (pst : �
       e
       ∙ first-some (frameChecks s ero (form .kind)) (acceptedWith (countOf s))
       (firstBroken
-      (check notAgreed 0 (rule13 form (session .agreed) pst)
-      ∷ (subobjectChecks form s ero (session .n) (placesOf s) ++ lastChecks (placesOf s) ero (session .limit) (countOf s)))
+      (check notAgreed 0 (rule13 form (session .agreed) pst) ∷ laterChecks form s ero session)
       (acceptanceOf form s ero))
       refl (λ z. n (rw e z))
 
@@ -88,8 +80,7 @@ module _ (form : Form) (s : List ℕ) (ero : Bool) (session : Session) (pst : �
       sym
       (none-first (frameChecks s ero (form .kind))
       (firstBroken
-      (check notAgreed 0 (rule13 form (session .agreed) pst)
-      ∷ (subobjectChecks form s ero (session .n) (placesOf s) ++ lastChecks (placesOf s) ero (session .limit) (countOf s)))
+      (check notAgreed 0 (rule13 form (session .agreed) pst) ∷ laterChecks form s ero session)
       (acceptanceOf form s ero))
       h
       ∙ rw e)
@@ -103,8 +94,7 @@ module _ (form : Form) (s : List ℕ) (ero : Bool) (session : Session) (pst : �
       sym
       (none-first (frameChecks s ero (form .kind))
       (firstBroken
-      (check notAgreed 0 (rule13 form (session .agreed) pst)
-      ∷ (subobjectChecks form s ero (session .n) (placesOf s) ++ lastChecks (placesOf s) ero (session .limit) (countOf s)))
+      (check notAgreed 0 (rule13 form (session .agreed) pst) ∷ laterChecks form s ero session)
       (acceptanceOf form s ero))
       h
       ∙ rw e
@@ -137,10 +127,19 @@ module _ (form : Form) (s : List ℕ) (ero : Bool) (session : Session) (pst : �
       ∙ after-whole e)
 
   pub walk-then-limit : (w r : Verdict) (count : ℕ) → rule13 form (session .agreed) pst ≡ false → w ≡ walkOf form s ero (session .n) count → count ≡ countOf s
-      → r ≡ limitedOf s ero (session .limit) w → r ≡ judgeAs form s ero session pst
+      → r ≡ limitedOf w s ero (session .limit) → r ≡ judgeAs form s ero session pst
   unfolding limitedOf
   walk-then-limit w r count e q c p = p ∙ go (eqb (w .number) 0) refl
     where
       go : (b : Bool) → eqb (w .number) 0 ≡ b → cond b (firstBroken (lastChecks (placesOf s) ero (session .limit) (w .count)) w) w ≡ judgeAs form s ero session pst
       go true z = limit-ends w count e q (eqb-true (w .number) 0 z) c
       go false z = walk-stops w count e q (eqb-false (w .number) 0 z)
+
+-- all checks ---------------------------------------------------------------------------------------------------
+
+pub numbered-all : (form : Form) (s : List ℕ) (ero : Bool) (session : Session) (pst : ℕ) → Numbered (checksOf form s ero session pst)
+numbered-all form s ero session pst =
+    let rest =
+    numbered-append (subobjectChecks form s ero (session .n) (placesOf s)) (lastChecks (placesOf s) ero (session .limit) (countOf s))
+    (numbered-subobjects form s ero (session .n) (placesOf s)) (omega arith, tt) in
+    (omega arith, (omega arith, (omega arith, (omega arith, (omega arith, rest)))))

@@ -22,11 +22,14 @@ wholeChecks form s ero session pst = frameChecks s ero (form .kind) ++ check not
 
 -- the answer ---------------------------------------------------------------------------------------------------
 
+-- "Then subobject by subobject .. Last 12."
+abbrev pub laterChecks : Form → List ℕ → Bool → Session → List Check
+laterChecks form s ero session =
+    subobjectChecks form s ero (session .n) (placesOf s) ++ lastChecks (placesOf s) ero (session .limit) (length (placesOf s))
+
 -- All checks of a route in document 01's order.
 abbrev pub checksOf : Form → List ℕ → Bool → Session → ℕ → List Check
-checksOf form s ero session pst =
-    wholeChecks form s ero session pst
-    ++ (subobjectChecks form s ero (session .n) (placesOf s) ++ lastChecks (placesOf s) ero (session .limit) (length (placesOf s)))
+checksOf form s ero session pst = wholeChecks form s ero session pst ++ laterChecks form s ero session
 
 -- The number of segments is that of the subobjects.
 abbrev pub countOf : List ℕ → ℕ

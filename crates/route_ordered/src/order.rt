@@ -22,5 +22,5 @@ pub fn judge_as(form: Form, s: &[u8], ero: bool, session: Session, pst: u64) -> 
     }
     let w = route_walk::walk(form, s, ero, session.n, f.count);
     let limit = session.limit;
-    limited(s, ero, limit, w)
+    limited(w, s, ero, limit)
 }

@@ -21,7 +21,7 @@ use Rattle.frame.specs.Frames.{Apart, ended, headed, fitsIn, apartOf, placesOf,
 use Rattle.frame.specs.Gathered.{frameOf}
 use Rattle.frame.proofs.Checks.{None, none-first, none-append}
 use Rattle.frame.proofs.Laws.{Over, over-starts, over-ends, over-next}
-use Rattle.frame.specs.Rows.{checksBy}
+use Rattle.frame.specs.RuleChecks.{checksBy}
 use Rattle.route_walk.specs.Walk.{checksAt, subobjectChecks, walkOf}
 use Rattle.route_pass.specs.Settled.{Settled, SettledBy, strayWorth}
 
@@ -102,11 +102,11 @@ module _ (form : Form) (s : List ℕ) (ero n : Bool) where
   stray-turned (p ∷ ps) xs = let r = stray-turned ps (p ∷ xs) in omega arith
 
   -- All of one type.
-  any-good : (ps : List ℕ) → AllGood form s ero n ps → 0 < length ps → anyIs (kindAt s ero) (form .kind) ps ≡ true
+  any-good : (ps : List ℕ) → AllGood form s ero n ps → 0 < length ps → anyIs (kindAt s ero) ps (form .kind) ≡ true
   any-good [] a h = absurd (omega arith)
   any-good (p ∷ ps) a h = rw (eq-eqb (kindAt s ero p) (form .kind) (a .0 .kind))
 
-  other-good : (ps : List ℕ) → AllGood form s ero n ps → otherThan (kindAt s ero) (form .kind) ps ≡ 0
+  other-good : (ps : List ℕ) → AllGood form s ero n ps → otherThan (kindAt s ero) ps (form .kind) ≡ 0
   other-good [] a = refl
   other-good (p ∷ ps) a = rw (eq-eqb (kindAt s ero p) (form .kind) (a .0 .kind)) (other-good ps (a .1))
 

@@ -20,23 +20,23 @@ pub fn see_mpls(s: &[u8], ero: bool, n: bool) -> usize
     let mut at: usize = objects::HEADER + label_run::LABEL_SIZE * count;
     let mut stray: usize = 0;
     while at != end {
-        let h = subobject::head_at(form, s, at, ero);
+        let h = subobject::head_at(form, s, ero, at);
         if h.kind != kind {
             return 0;
         }
-        if !subobject_shape::mpls_head_sound(s, at, h, ero, n) {
+        if !subobject_shape::mpls_head_sound(h, s, ero, n, at) {
             return 0;
         }
         if end - at < h.size {
             return 0;
         }
-        if !subobject_sound::structure_sound(form, s, at, h) {
+        if !subobject_sound::structure_sound(form, h, s, at) {
             return 0;
         }
-        if !subobject_sound::mpls_label_sound(s, at, h) {
+        if !subobject_sound::mpls_label_sound(h, s, at) {
             return 0;
         }
-        stray = stray + subobject_strays::stray_of(form, s, at, h);
+        stray = stray + subobject_strays::stray_of(form, h, s, at);
         count = count + 1;
         at = at + h.size;
     }

@@ -20,7 +20,7 @@ pub fn see_srv6(s: &[u8], ero: bool, n: bool) -> usize
     let mut count: usize = 0;
     let mut stray: usize = 0;
     while at != end {
-        let h = subobject::head_at(form, s, at, ero);
+        let h = subobject::head_at(form, s, ero, at);
         if h.kind != kind {
             return 0;
         }
@@ -30,13 +30,13 @@ pub fn see_srv6(s: &[u8], ero: bool, n: bool) -> usize
         if end - at < h.size {
             return 0;
         }
-        if !subobject_sound::structure_sound(form, s, at, h) {
+        if !subobject_sound::structure_sound(form, h, s, at) {
             return 0;
         }
-        if !subobject_sound::label_sound(form, s, at, h) {
+        if !subobject_sound::label_sound(form, h, s, at) {
             return 0;
         }
-        stray = stray + subobject_strays::stray_srv6(s, at, h);
+        stray = stray + subobject_strays::stray_srv6(h, s, at);
         count = count + 1;
         at = at + h.size;
     }

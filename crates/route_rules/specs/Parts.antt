@@ -10,5 +10,5 @@ use Rattle.frame.specs.Frames.{placesOf}
 use Rattle.route_rules.specs.SessionRules.{lastChecks}
 
 -- 12's part: of an acceptance of more segments than the limit.
-unfoldable pub limitedOf : List ℕ → Bool → Limit → Verdict → Verdict
-limitedOf s ero limit w = cond (eqb (w .number) 0) (firstBroken (lastChecks (placesOf s) ero limit (w .count)) w) w
+unfoldable pub limitedOf : Verdict → List ℕ → Bool → Limit → Verdict
+limitedOf w s ero limit = cond (eqb (w .number) 0) (firstBroken (lastChecks (placesOf s) ero limit (w .count)) w) w

@@ -27,9 +27,9 @@ unfoldable pub rule12 : Bool → Limit → ℕ → Bool
 rule12 ero limit count = ero && past limit count
 
 -- "For 12, that of the first segment too many."
-abbrev pub rule12Place : Limit → List ℕ → ℕ
-rule12Place Free places = 0
-rule12Place (Most most) places = getD places most 0
+abbrev pub rule12Place : List ℕ → Limit → ℕ
+rule12Place places Free = 0
+rule12Place places (Most most) = getD places most 0
 
 abbrev pub lastChecks : List ℕ → Bool → Limit → ℕ → List Check
-lastChecks places ero limit count = check tooManySegments (rule12Place limit places) (rule12 ero limit count) ∷ []
+lastChecks places ero limit count = check tooManySegments (rule12Place places limit) (rule12 ero limit count) ∷ []

@@ -24,9 +24,9 @@ fn past(ero: bool, most: usize, count: usize) -> bool
 }
 
 // Last 12: of an acceptance of more segments than the limit.
-pub fn limited(s: &[u8], ero: bool, limit: Limit, w: Verdict) -> Verdict
+pub fn limited(w: Verdict, s: &[u8], ero: bool, limit: Limit) -> Verdict
     requires { ⌜ Walkable (now s) ⌝ }
-    ensures limited { λ r. ⌜ r ≡ limitedOf (now (s .entry)) ero limit w ⌝ }
+    ensures limited { λ r. ⌜ r ≡ limitedOf w (now (s .entry)) ero limit ⌝ }
 {
     if w.number != 0 {
         return w;

@@ -1,5 +1,5 @@
 -- In an accepted route, step i from octet 4 hands out what asking for segment i does, and the step behind the last is refused by 15. The subobjects stand one
--- behind the other (frame's `Chain`), each of them breaks no rule and is the form's, so a step leads from one to the next. Assumes nothing.
+-- behind the other (frame's `FillsFrom`), each of them breaks no rule and is the form's, so a step leads from one to the next. Assumes nothing.
 use Prim.Native.Nat.{ℕ, zero, suc, _+_, _-_, _%_, _≤_, _<_}
 use native.Mathlib.Omega.{arith}
 use mathlib.Core.Path.{_≡_, refl, sym, ap, _∙_}
@@ -19,10 +19,10 @@ use Rattle.session.specs.declared.Session.{Session}
 use Rattle.subobject.specs.Layout.{sidPlace, headOf, headAt}
 use Rattle.subobject.specs.Rules.{rule7, rule8, rule9, rule11, rule29, rule30, bitsAt, labelAt, timeAt}
 use Rattle.subobject.specs.Segments.{segmentAt}
-use Rattle.frame.specs.Chains.{Chain, stop, link}
+use Rattle.frame.specs.Fills.{FillsFrom, stop, link}
 use Rattle.frame.specs.Frames.{fitsIn, kindAt, placesOf, anyIs, otherThan, mixedAt, rule6, rule6Place, rule14}
 use Rattle.frame.proofs.Laws.{fits-true}
-use Rattle.frame.proofs.Chains.{whole-chain}
+use Rattle.frame.proofs.Fills.{whole-fills}
 use Rattle.route.specs.declared.picking.Picked.{Picked}
 use Rattle.route.specs.Routes.{judgeAs, judgeOf, segmentOf, countOf}
 use Rattle.route.proofs.Answer.{accepted-none, accepted-count, accepted-frame, accepted-subobject, pick-there}
@@ -34,26 +34,26 @@ use Rattle.route_step.specs.Steps.{stepAs, stepOf, stepsFrom}
 use Rattle.route_step.proofs.Laws.{Sound, sound-accepted}
 
 -- ---- one type for all
-all-same : (kinds : ℕ → ℕ) (k : ℕ) (ps : List ℕ) → ((j : ℕ) → j < length ps → 0 < getD ps j 0) → otherThan kinds k ps ≡ 0 → (j : ℕ) → j < length ps
+all-same : (kinds : ℕ → ℕ) (k : ℕ) (ps : List ℕ) → ((j : ℕ) → j < length ps → 0 < getD ps j 0) → otherThan kinds ps k ≡ 0 → (j : ℕ) → j < length ps
     → kinds (getD ps j 0) ≡ k
 all-same kinds k [] pos e j h = absurd (omega arith)
 all-same kinds k (p ∷ ps) pos e j h = go (eqb (kinds p) k) refl e j h (λ d i l. all-same kinds k ps (λ i l. pos (suc i) (omega arith)) d i l)
   where
-    go : (b : Bool) → eqb (kinds p) k ≡ b → cond b (otherThan kinds k ps) p ≡ 0 → (j : ℕ) → j < suc (length ps)
-        → (otherThan kinds k ps ≡ 0 → (i : ℕ) → i < length ps → kinds (getD ps i 0) ≡ k) → kinds (getD (p ∷ ps) j 0) ≡ k
+    go : (b : Bool) → eqb (kinds p) k ≡ b → cond b (otherThan kinds ps k) p ≡ 0 → (j : ℕ) → j < suc (length ps)
+        → (otherThan kinds ps k ≡ 0 → (i : ℕ) → i < length ps → kinds (getD ps i 0) ≡ k) → kinds (getD (p ∷ ps) j 0) ≡ k
     go true q e zero h rest = eqb-true (kinds p) k q
     go true q e (suc j) h rest = rest e j (omega arith)
     go false q e j h rest = absurd (omega (arith, pos 0 (omega arith)))
 
-any-same : (kinds : ℕ → ℕ) (k kind : ℕ) (ps : List ℕ) → ((j : ℕ) → j < length ps → kinds (getD ps j 0) ≡ k) → anyIs kinds kind ps ≡ true → k ≡ kind
+any-same : (kinds : ℕ → ℕ) (k kind : ℕ) (ps : List ℕ) → ((j : ℕ) → j < length ps → kinds (getD ps j 0) ≡ k) → anyIs kinds ps kind ≡ true → k ≡ kind
 any-same kinds k kind [] f e = absurd (false≢true e)
 any-same kinds k kind (p ∷ ps) f e = go (eqb (kinds p) kind) refl e (λ d. any-same kinds k kind ps (λ j h. f (suc j) (omega arith)) d)
   where
-    go : (b : Bool) → eqb (kinds p) kind ≡ b → (b || anyIs kinds kind ps) ≡ true → (anyIs kinds kind ps ≡ true → k ≡ kind) → k ≡ kind
+    go : (b : Bool) → eqb (kinds p) kind ≡ b → (b || anyIs kinds ps kind) ≡ true → (anyIs kinds ps kind ≡ true → k ≡ kind) → k ≡ kind
     go true q e rest = sym (f 0 (omega arith)) ∙ eqb-true (kinds p) kind q
     go false q e rest = rest e
 
-kinds-all : (kinds : ℕ → ℕ) (kind : ℕ) (ps : List ℕ) → ((j : ℕ) → j < length ps → 0 < getD ps j 0) → anyIs kinds kind ps ≡ true → mixedAt kinds ps ≡ 0
+kinds-all : (kinds : ℕ → ℕ) (kind : ℕ) (ps : List ℕ) → ((j : ℕ) → j < length ps → 0 < getD ps j 0) → anyIs kinds ps kind ≡ true → mixedAt kinds ps ≡ 0
     → (j : ℕ) → j < length ps → kinds (getD ps j 0) ≡ kind
 kinds-all kinds kind [] pos a m j h = absurd (omega arith)
 kinds-all kinds kind (p ∷ ps) pos a m j h = first j h ∙ any-same kinds (kinds p) kind (p ∷ ps) first a
@@ -96,7 +96,7 @@ module _ (s : List ℕ) (ero : Bool) (pst : ℕ) where
       } in
       rw (sound-accepted (formOf pst) s ero at w)
 
-  along : (at : ℕ) (ps : List ℕ) → Chain s at ps → header ≤ at → at % unit ≡ 0 → ((j : ℕ) → j < length ps → Unbroken (getD ps j 0)) → (i : ℕ)
+  along : (at : ℕ) (ps : List ℕ) → FillsFrom s at ps → header ≤ at → at % unit ≡ 0 → ((j : ℕ) → j < length ps → Unbroken (getD ps j 0)) → (i : ℕ)
       → i < length ps → stepOf s ero pst (stepsFrom s ero pst at i) ≡ taken (getD ps i 0)
   along at [] c low four good i h = absurd (omega arith)
   along at (p ∷ ps) (link n d c) low four good zero h = step-taken at low four n d (good 0 (omega arith))
@@ -105,7 +105,7 @@ module _ (s : List ℕ) (ero : Bool) (pst : ℕ) where
       rw (ap (λ (x : Stepped). x .next) (step-taken at low four n d (good 0 (omega arith))))
       (along (at + octetOf s (at + 1)) ps c (omega arith) (omega arith) (λ j k. good (suc j) (omega arith)) i (omega arith))
 
-  ends : (at : ℕ) (ps : List ℕ) → Chain s at ps → header ≤ at → at % unit ≡ 0 → ((j : ℕ) → j < length ps → Unbroken (getD ps j 0))
+  ends : (at : ℕ) (ps : List ℕ) → FillsFrom s at ps → header ≤ at → at % unit ≡ 0 → ((j : ℕ) → j < length ps → Unbroken (getD ps j 0))
       → stepsFrom s ero pst at (length ps) ≡ length s
   ends at [] (stop e) low four good = e
   ends at (p ∷ ps) (link n d c) low four good =
@@ -113,7 +113,7 @@ module _ (s : List ℕ) (ero : Bool) (pst : ℕ) where
       ap (λ (x : Stepped). stepsFrom s ero pst (x .next) (length ps)) (step-taken at low four n d (good 0 (omega arith)))
       ∙ ends (at + octetOf s (at + 1)) ps c (omega arith) (omega arith) (λ j k. good (suc j) (omega arith))
 
-  places-low : (at : ℕ) (ps : List ℕ) → Chain s at ps → 0 < at → (j : ℕ) → j < length ps → 0 < getD ps j 0
+  places-low : (at : ℕ) (ps : List ℕ) → FillsFrom s at ps → 0 < at → (j : ℕ) → j < length ps → 0 < getD ps j 0
   places-low at [] c low j h = absurd (omega arith)
   places-low at (p ∷ ps) (link n d c) low zero h = low
   places-low at (p ∷ ps) (link n d c) low (suc j) h = places-low (at + octetOf s (at + 1)) ps c (omega arith) j (omega arith)
@@ -133,10 +133,10 @@ module _ (s : List ℕ) (ero : Bool) (pst : ℕ) where
     unfolding judgeOf
     z = taken-route
 
-    chain : Chain s header (placesOf s)
-    chain = whole-chain s (accepted-frame (formOf pst) s ero session pst z .1)
+    chain : FillsFrom s header (placesOf s)
+    chain = whole-fills s (accepted-frame (formOf pst) s ero session pst z .1)
 
-    present : anyIs (kindAt s ero) (formOf pst .kind) (placesOf s) ≡ true
+    present : anyIs (kindAt s ero) (placesOf s) (formOf pst .kind) ≡ true
     unfolding rule14
     present = not-false _ (accepted-none (formOf pst) s ero session pst z .1 .1 .1 .0)
 

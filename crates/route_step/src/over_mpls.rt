@@ -17,10 +17,10 @@ pub fn step_mpls(s: &[u8], ero: bool, at: usize) -> Stepped
             next: at,
         };
     }
-    let h = subobject::head_at(form, s, at, ero);
+    let h = subobject::head_at(form, s, ero, at);
     Stepped {
         verdict: v,
-        segment: subobject_by_form::segment_mpls(s, at, h),
+        segment: subobject_by_form::segment_mpls(h, s, at),
         next: at + h.size,
     }
 }

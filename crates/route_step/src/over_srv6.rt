@@ -17,10 +17,10 @@ pub fn step_srv6(s: &[u8], ero: bool, at: usize) -> Stepped
             next: at,
         };
     }
-    let h = subobject::head_at(form, s, at, ero);
+    let h = subobject::head_at(form, s, ero, at);
     Stepped {
         verdict: v,
-        segment: subobject_by_form::segment_srv6(s, at, h),
+        segment: subobject_by_form::segment_srv6(h, s, at),
         next: at + h.size,
     }
 }

@@ -14,14 +14,14 @@ use Rattle.subobject.specs.Layout.{sizeAt, headAt}
 use Rattle.subobject.specs.Rules.{subjectBy, rules}
 use Rattle.frame.specs.Checks.{Check, check, firstBroken}
 use Rattle.frame.specs.Frames.{fitsIn}
-use Rattle.frame.specs.Rows.{checksBy, without}
+use Rattle.frame.specs.RuleChecks.{checksBy, without}
 use Rattle.route_step_tests.specs.Places.{outside}
 
 -- 14, then the rules of a subobject in the order of their table but for 10 (8, 9, 7, 11, 29, 30), of the subobject at a place by the head found there. Only 10
 -- looks at ERO or RRO and at N.
 abbrev pub headChecks : Form → Head → List ℕ → ℕ → List Check
 headChecks form h s at =
-    check noneOfForm 0 (not (eqb (h .kind) (form .kind))) ∷ checksBy (without sidNeeded rules) (subjectBy form h s true true at) at
+    check noneOfForm 0 (not (eqb (h .kind) (form .kind))) ∷ checksBy (without rules sidNeeded) (subjectBy form h s true true at) at
 
 -- Before them 15 and 4.
 abbrev pub stepChecks : Form → List ℕ → Bool → ℕ → List Check

@@ -9,7 +9,7 @@ use forms::Form;
 use subobject::Head;
 
 // The first broken rule of a subobject with this head.
-fn rules_at(form: Form, s: &[u8], at: usize, h: Head) -> Verdict
+fn rules_at(form: Form, h: Head, s: &[u8], at: usize) -> Verdict
     requires { ⌜ (at < length (now s)) × Sized form × Shortest form 4 × (at + h .size ≤ length (now s)) ⌝ }
     ensures verdict { λ r. ⌜ r ≡ headVerdict form h (now (s .entry)) at ⌝ }
 {
@@ -25,13 +25,13 @@ fn rules_at(form: Form, s: &[u8], at: usize, h: Head) -> Verdict
     if subobject_rules::seven(form, h) {
         return answers::refused(answers::LENGTH_WRONG, at);
     }
-    if subobject_rules_by_number::too_long(form, s, at, h) {
+    if subobject_rules_by_number::too_long(form, h, s, at) {
         return answers::refused(answers::STRUCTURE_TOO_LONG, at);
     }
-    if route_step_tests::bad_label(form, s, at, h) {
+    if route_step_tests::bad_label(form, h, s, at) {
         return answers::refused(answers::LABEL_VALUE, 0);
     }
-    if route_step_tests::bad_format(form, s, at, h) {
+    if route_step_tests::bad_format(form, h, s, at) {
         return answers::refused(answers::LABEL_FORMAT, 0);
     }
     answers::accepted(0)
@@ -48,5 +48,5 @@ pub fn verdict_mpls(form: Form, s: &[u8], ero: bool, at: usize) -> Verdict
     if route_step_tests::is_unfit(s, at) {
         return answers::refused(answers::FRAME_BROKEN, 0);
     }
-    rules_at(form, s, at, subobject::head_at(form, s, at, ero))
+    rules_at(form, subobject::head_at(form, s, ero, at), s, at)
 }

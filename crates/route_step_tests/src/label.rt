@@ -27,7 +27,7 @@ fn time(s: &[u8], at: usize) -> usize
 }
 
 // 29 for the subobject at `at`. Only a label's octets are read.
-pub fn bad_label(form: Form, s: &[u8], at: usize, h: Head) -> bool
+pub fn bad_label(form: Form, h: Head, s: &[u8], at: usize) -> bool
     requires { ⌜ (sidPlace form at + sidLength form (h .s) ≤ length (now s)) × (4 ≤ form .sid) ⌝ }
     ensures broken { λ r. ⌜ r ≡ rule29 h (labelAt (now (s .entry)) (sidPlace form at)) ⌝ }
 {
@@ -39,7 +39,7 @@ pub fn bad_label(form: Form, s: &[u8], at: usize, h: Head) -> bool
 }
 
 // 30 for the subobject at `at`.
-pub fn bad_format(form: Form, s: &[u8], at: usize, h: Head) -> bool
+pub fn bad_format(form: Form, h: Head, s: &[u8], at: usize) -> bool
     requires { ⌜ (sidPlace form at + sidLength form (h .s) ≤ length (now s)) × (4 ≤ form .sid) ⌝ }
     ensures broken { λ r. ⌜ r ≡ rule30 h (timeAt (now (s .entry)) (sidPlace form at)) ⌝ }
 {

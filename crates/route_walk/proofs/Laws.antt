@@ -19,7 +19,7 @@ use Rattle.objects.specs.Objects.{header}
 use Rattle.forms.specs.declared.Form.{Form}
 use Rattle.subobject.specs.declared.head.Head.{Head}
 use Rattle.subobject.specs.Layout.{headOf, headAt, expectedLength}
-use Rattle.subobject.specs.Rules.{subjectBy, subjectAt, Row, rules, ruleCount, brokenBy, placeBy}
+use Rattle.subobject.specs.Rules.{subjectBy, subjectAt, RuleRow, rules, ruleCount, brokenBy, placeBy}
 use Rattle.subobject_strays.specs.Strays.{straysBy, straysAt, strayOne, strayIn}
 use Rattle.subobject_strays.specs.Four.{markedAt, endingMarked}
 use Rattle.subobject.proofs.Laws.{sound-length}
@@ -30,7 +30,7 @@ use Rattle.frame.proofs.Laws.{Over, over-starts, over-ends, over-as, sound-star
 use Rattle.route_walk.specs.Walk.{checksAt, subobjectChecks, walkOf}
 
 -- The checks as the code asks for them: the numbers in their order, each by its number.
-abbrev pub numbersOf : List Row → List ℕ
+abbrev pub numbersOf : List RuleRow → List ℕ
 numbersOf [] = []
 numbersOf (r ∷ rs) = r .number ∷ numbersOf rs
 
@@ -39,7 +39,7 @@ order = numbersOf rules
 
 abbrev pub askedAt : (ℕ → Bool) → ℕ → List ℕ → List Check
 askedAt broken place [] = []
-askedAt broken place (r ∷ rs) = check r (placeBy r place) (broken r) ∷ askedAt broken place rs
+askedAt broken place (r ∷ rs) = check r (placeBy place r) (broken r) ∷ askedAt broken place rs
 
 abbrev pub askedAll : (ℕ → ℕ → Bool) → List ℕ → List Check
 askedAll broken [] = []
@@ -111,8 +111,8 @@ module _ {broken : ℕ → ℕ → Bool} {s : List ℕ} {at : ℕ} {after : List
   begin n e = record { good = sound-next (l .good) n e; past = λ j h. absurd (omega arith); rest = next-by (l .good) (l .rest) n e }
 
 module _ {broken : ℕ → ℕ → Bool} {s : List ℕ} {at next : ℕ} {after : List ℕ → Verdict} {whole : Verdict} {k : ℕ} (l : Checking broken s at next after whole k) where
-  pub stops : k < ruleCount → broken at (getD order k 0) ≡ true → refusedBy (getD order k 0) (placeBy (getD order k 0) at) ≡ whole
-  stops h e = over-as (l .rest) (λ a. refusedBy (getD order k 0) (placeBy (getD order k 0) at)) (λ a. rw (drop-cons order k (0) h, e)) .same
+  pub stops : k < ruleCount → broken at (getD order k 0) ≡ true → refusedBy (getD order k 0) (placeBy at (getD order k 0)) ≡ whole
+  stops h e = over-as (l .rest) (λ a. refusedBy (getD order k 0) (placeBy at (getD order k 0))) (λ a. rw (drop-cons order k (0) h, e)) .same
 
   pub passes : k < ruleCount → broken at (getD order k 0) ≡ false → Checking broken s at next after whole (k + 1)
   passes h e = record {
@@ -155,5 +155,5 @@ pub asked : (form : Form) (ero n : Bool) (s : List ℕ) (at number : ℕ) (h : H
 asked form ero n s at number h b e q = rw (← e) (sym q)
 
 -- A refusal with the place that its number names.
-pub refused-at : (v : Verdict) (number at place : ℕ) → v ≡ refusedBy number place → place ≡ placeBy number at → v ≡ refusedBy number (placeBy number at)
+pub refused-at : (v : Verdict) (number at place : ℕ) → v ≡ refusedBy number place → place ≡ placeBy at number → v ≡ refusedBy number (placeBy at number)
 refused-at v number at place e p = e ∙ ap (λ (x : ℕ). refusedBy number x) p

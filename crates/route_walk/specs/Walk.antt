@@ -10,7 +10,7 @@ use Rattle.subobject.specs.Rules.{subjectAt, rules}
 use Rattle.subobject_strays.specs.Strays.{strayIn}
 use Rattle.frame.specs.Checks.{Check, firstBroken}
 use Rattle.frame.specs.Frames.{placesOf}
-use Rattle.frame.specs.Rows.{checksBy}
+use Rattle.frame.specs.RuleChecks.{checksBy}
 
 -- The checks of the subobject at a place.
 abbrev pub checksAt : Form → List ℕ → Bool → Bool → ℕ → List Check

@@ -20,17 +20,17 @@ pub fn walk(form: Form, s: &[u8], ero: bool, n: bool, count: usize) -> Verdict
         if at == end {
             break 'walk answers::carrying(count, stray);
         }
-        let h = subobject::head_at(form, s, at, ero);
+        let h = subobject::head_at(form, s, ero, at);
         let next = at + h.size;
         let mut k: usize = 0;
         while k < order::RULE_COUNT {
             let number = order::ORDER[k];
-            if subobject_rules_by_number::breaks(form, s, at, h, ero, n, number) {
-                break 'walk answers::refused(number, subobject_rules_by_number::place(number, at));
+            if subobject_rules_by_number::breaks(form, h, s, ero, n, at, number) {
+                break 'walk answers::refused(number, subobject_rules_by_number::place(at, number));
             }
             k = k + 1;
         }
-        stray = stray + subobject_strays::stray_of(form, s, at, h);
+        stray = stray + subobject_strays::stray_of(form, h, s, at);
         at = next;
     }
 }

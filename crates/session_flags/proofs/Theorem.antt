@@ -65,10 +65,10 @@ positions-tell-flags p q s e f = rw (e, f) (
     said true (some w) = refl
     said false o = refl
 
-    beside : (l : Bool) (o : Option (List ℕ)) (u v : Opened) → unflagged u ≡ unflagged v → unflagged (besideBy l o u) ≡ unflagged (besideBy l o v)
+    beside : (l : Bool) (o : Option (List ℕ)) (u v : Opened) → unflagged u ≡ unflagged v → unflagged (besideBy u o l) ≡ unflagged (besideBy v o l)
     beside false o u v h = h
     beside true none u v h = h
-    beside true (some w) u v h = ap (λ (x : Opened). unflagged (mplsBeside w x)) h
+    beside true (some w) u v h = ap (λ (x : Opened). unflagged (mplsBeside x w)) h
 
     refused : (rs : List Rule) (u v : Opened) → unflagged u ≡ unflagged v → unflagged (firstRule rs u) ≡ unflagged (firstRule rs v)
     refused [] u v h = h

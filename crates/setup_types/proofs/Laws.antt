@@ -14,17 +14,17 @@ use Rattle.setup_types.specs.SetupTypes.{typesAt, typeCount, hasOf, list
 -- setup types --------------------------------------------------------------------------------------------------
 
 module _ (x : ℕ) (p : List ℕ) (i : ℕ) where
-  pub has-end : length p ≤ i → false ≡ hasOf x (drop i p)
+  pub has-end : length p ≤ i → false ≡ hasOf (drop i p) x
   has-end h = rw (drop-of-length-le p h)
 
-  pub has-hit : i < length p → getD p i 0 ≡ x → true ≡ hasOf x (drop i p)
+  pub has-hit : i < length p → getD p i 0 ≡ x → true ≡ hasOf (drop i p) x
   has-hit h e = rw (drop-cons p i 0 h, eq-eqb (getD p i 0) x e)
 
-  pub has-miss : i < length p → (getD p i 0 ≡ x → ⊥) → hasOf x (drop (i + 1) p) ≡ hasOf x (drop i p)
+  pub has-miss : i < length p → (getD p i 0 ≡ x → ⊥) → hasOf (drop (i + 1) p) x ≡ hasOf (drop i p) x
   has-miss h e = rw (add-one, drop-cons p i 0 h, ne-eqb (getD p i 0) x e)
 
 -- The octets lent to the search are those that the count asks for.
-pub listed-lent : (kind : ℕ) (v : List ℕ) (n : ℕ) {found : Bool} → found ≡ hasOf kind (take n (drop typesAt v)) → n ≡ typeCount v → found ≡ listsType kind v
+pub listed-lent : (kind : ℕ) (v : List ℕ) (n : ℕ) {found : Bool} → found ≡ hasOf (take n (drop typesAt v)) kind → n ≡ typeCount v → found ≡ listsType v kind
 unfolding listsType part
 listed-lent kind v n e h = rw (← h) e
 
@@ -33,5 +33,5 @@ listed-lent kind v n e h = rw (← h) e
 pub list_size-determined : (v : List ℕ) {x y : ℕ} → x ≡ listSize v → y ≡ listSize v → x ≡ y
 list_size-determined v = determined
 
-pub lists-determined : (kind : ℕ) (v : List ℕ) {x y : Bool} → x ≡ listsType kind v → y ≡ listsType kind v → x ≡ y
+pub lists-determined : (kind : ℕ) (v : List ℕ) {x y : Bool} → x ≡ listsType v kind → y ≡ listsType v kind → x ≡ y
 lists-determined kind v = determined

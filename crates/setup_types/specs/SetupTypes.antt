@@ -35,17 +35,17 @@ holdsList v = leb (listSize v) (length v)
 
 -- "then sub-TLVs"; "only the padding of the last sub-TLV may be missing or cut in TLV 34's length".
 abbrev pub subsOf : List ℕ → Tlvs
-subsOf v = tlvsOf true (drop (listSize v) v)
+subsOf v = tlvsOf (drop (listSize v) v) true
 
-abbrev pub hasOf : ℕ → List ℕ → Bool
-hasOf x [] = false
-hasOf x (y ∷ ys) = eqb y x || hasOf x ys
+abbrev pub hasOf : List ℕ → ℕ → Bool
+hasOf [] x = false
+hasOf (y ∷ ys) x = eqb y x || hasOf ys x
 
 -- A setup type is listed.
-unfoldable pub listsType : ℕ → List ℕ → Bool
-listsType kind v = hasOf kind (typesOf v)
+unfoldable pub listsType : List ℕ → ℕ → Bool
+listsType v kind = hasOf (typesOf v) kind
 
 -- The same of a TLV 34 that need not be there.
-abbrev pub listedIn : ℕ → Option (List ℕ) → Bool
-listedIn kind none = false
-listedIn kind (some v) = listsType kind v
+abbrev pub listedIn : Option (List ℕ) → ℕ → Bool
+listedIn none kind = false
+listedIn (some v) kind = listsType v kind

@@ -15,7 +15,7 @@ const TYPES_AT: usize = 4;
 
 // Whether x is among the octets.
 fn has(p: &[u8], x: u8) -> bool
-    ensures found { λ r. ⌜ r ≡ hasOf x (now (p .entry)) ⌝ }
+    ensures found { λ r. ⌜ r ≡ hasOf (now (p .entry)) x ⌝ }
 {
     let mut i = 0;
     while i < p.len() {
@@ -37,7 +37,7 @@ pub fn list_size(v: &[u8]) -> usize
 // Whether a setup type is listed. Padding is no setup type.
 pub fn lists(v: &[u8], kind: u8) -> bool
     requires { ⌜ listSize (now v) ≤ length (now v) ⌝ }
-    ensures listed { λ r. ⌜ r ≡ listsType kind (now (v .entry)) ⌝ }
+    ensures listed { λ r. ⌜ r ≡ listsType (now (v .entry)) kind ⌝ }
 {
     let end = TYPES_AT + octets::octet(v, COUNT_AT);
     has(&v[TYPES_AT..end], kind)

@@ -1,5 +1,6 @@
 -- A subobject in octets (document 01, "The route object"; for MPLS document 02, C-16): its parts, its head, and its expected length, for any form.
--- Arguments here and in the crates above stand in one order: form, octets (or what was read of them), ERO or RRO, session, PST, numbers.
+-- Arguments here and in the crates above stand in one order: form, what was read of the octets, the octets, ERO or RRO, session, PST, the head end's addresses, numbers
+-- (what is sought, then places).
 use Prim.Native.Nat.{ℕ, _+_, _/_, _%_}
 use mathlib.Core.Bool.{Bool, cond, _&&_}
 use mathlib.Core.List.{List}
@@ -50,10 +51,10 @@ abbrev pub sidPlace : Form → ℕ → ℕ
 sidPlace form at = at + form .fixed
 
 abbrev pub naiPlace : Form → ℕ → ℕ → ℕ
-naiPlace form at s = at + form .fixed + sidLength form s
+naiPlace form s at = at + form .fixed + sidLength form s
 
 abbrev pub structurePlace : Form → ℕ → ℕ → ℕ
-structurePlace form at nt = at + form .fixed + form .sid + naiLength form nt
+structurePlace form nt at = at + form .fixed + form .sid + naiLength form nt
 
 -- What the lowest bits of L and NT are worth in their octets.
 abbrev pub worthL : ℕ

@@ -50,7 +50,7 @@ rule11 h sum = hasStructure h && ltb mostBits sum
 
 -- The sum of the four bit lengths of the subobject at a place.
 abbrev pub bitsAt : Form → Head → List ℕ → ℕ → ℕ
-bitsAt form h s at = sumAt s (structurePlace form at (h .nt))
+bitsAt form h s at = sumAt s (structurePlace form (h .nt) at)
 
 -- A label stack entry: 20 bits of label, 3 of TC, 1 of S, 8 of TTL. It stands where the SID does, if there is a SID and M is 1.
 -- What the lowest bit of its first and second octet is worth in the label, and that of the third octet which is in it; the place of the TTL.
@@ -110,17 +110,17 @@ abbrev pub subjectAt : Form → List ℕ → Bool → Bool → ℕ → Subject
 subjectAt form s ero n at = subjectBy form (headAt form s ero at) s ero n at
 
 -- A row of the table: a rule's number, whether its refusal names the octet of the subobject, and when it is broken.
-pub record Row : Type 0 where
+pub record RuleRow : Type 0 where
   pub number : ℕ
   pub placed : Bool
   pub broken : Subject → Bool
 
-abbrev pub ruleRow : ℕ → Bool → (Subject → Bool) → Row
+abbrev pub ruleRow : ℕ → Bool → (Subject → Bool) → RuleRow
 ruleRow number placed broken = record { number = number; placed = placed; broken = broken }
 
 -- "In each: 8, 9, 7, 10, 11"; "29 bad label value, 30 bad label format, after 11". "The place .. is for 6 to 11 the octet of the subobject at fault, ..
 -- otherwise 0."
-abbrev pub rules : List Row
+abbrev pub rules : List RuleRow
 rules =
     ruleRow naiUnknown true (λ x. rule8 (x .form) (x .head))
     ∷ ruleRow nothingThere true (λ x. rule9 (x .head))
@@ -136,7 +136,7 @@ abbrev pub ruleCount : ℕ
 ruleCount = 7
 
 -- Whether the rule of a number is broken; a number that is in no row breaks nothing.
-abbrev pub brokenIn : List Row → Subject → ℕ → Bool
+abbrev pub brokenIn : List RuleRow → Subject → ℕ → Bool
 brokenIn [] x number = false
 brokenIn (r ∷ rs) x number = cond (eqb number (r .number)) (r .broken x) (brokenIn rs x number)
 
@@ -144,9 +144,9 @@ unfoldable pub brokenBy : Subject → ℕ → Bool
 brokenBy x number = brokenIn rules x number
 
 -- The place that a refusal by a number names, for the subobject at `at`.
-abbrev pub rulePlaceIn : List Row → ℕ → ℕ → ℕ
-rulePlaceIn [] number at = 0
-rulePlaceIn (r ∷ rs) number at = cond (eqb number (r .number)) (cond (r .placed) at 0) (rulePlaceIn rs number at)
+abbrev pub rulePlaceIn : List RuleRow → ℕ → ℕ → ℕ
+rulePlaceIn [] at number = 0
+rulePlaceIn (r ∷ rs) at number = cond (eqb number (r .number)) (cond (r .placed) at 0) (rulePlaceIn rs at number)
 
 unfoldable pub placeBy : ℕ → ℕ → ℕ
-placeBy number at = rulePlaceIn rules number at
+placeBy at number = rulePlaceIn rules at number

@@ -6,6 +6,7 @@ use mathlib.Core.List.{List, [], _∷_, _++_}
 use lib.Dec.{eqb}
 use lib.ListN.{take, replicate}
 use Rattle.octets.specs.Octets.{be16, hi, lo, partOf}
+pub use Rattle.octets.specs.Octets.{bit}
 use Rattle.forms.specs.declared.Form.{Form}
 use Rattle.forms.specs.Forms.{noNai, naiLength}
 use Rattle.subobject.specs.declared.head.Head.{Head}
@@ -27,9 +28,9 @@ segmentBy form h s at =
       behaviour = cond (form .behaves) (be16 s (at + behaviourPlace)) 0;
       hassid = eqb (h .s) 0;
       sid = partOf s (sidPlace form at) (sidLength form (h .s)) sidSize;
-      nai = partOf s (naiPlace form at (h .s)) (naiLength form (h .nt)) naiSize;
+      nai = partOf s (naiPlace form (h .s) at) (naiLength form (h .nt)) naiSize;
       structured = hasStructure h;
-      structure = partOf s (structurePlace form at (h .nt)) (cond (hasStructure h) bitLengths 0) bitLengths;
+      structure = partOf s (structurePlace form (h .nt) at) (cond (hasStructure h) bitLengths 0) bitLengths;
       labelled = eqb (h .m) 1;
       complete = eqb (h .c) 1;
     }
@@ -55,9 +56,6 @@ noSegment =
     }
 
 -- writing ------------------------------------------------------------------------------------------------------
-
-abbrev pub bit : Bool → ℕ
-bit b = cond b 1 0
 
 -- What a segment names beside its octets.
 abbrev pub outlineOf : Segment → Outline

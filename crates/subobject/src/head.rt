@@ -39,14 +39,14 @@ pub fn kind(x: usize, ero: bool) -> usize
 }
 
 // A flag that an RRO ignores.
-fn only(ero: bool, x: usize) -> usize
+fn only(x: usize, ero: bool) -> usize
     ensures only { λ r. ⌜ r ≡ cond ero x 0 ⌝ }
 {
     if ero { x } else { 0 }
 }
 
 // The head of the subobject at `at`.
-pub fn head_at(form: Form, s: &[u8], at: usize, ero: bool) -> Head
+pub fn head_at(form: Form, s: &[u8], ero: bool, at: usize) -> Head
     requires { ⌜ at + 4 ≤ length (now s) ⌝ }
     ensures read { λ r. ⌜ r ≡ headAt form (now (s .entry)) ero at ⌝ }
     ensures small { λ r. ⌜ (r .size < 256) × (r .nt < 16) ⌝ }
@@ -62,8 +62,8 @@ pub fn head_at(form: Form, s: &[u8], at: usize, ero: bool) -> Head
         s: forms::flag(low, form.s),
         f: forms::flag(low, form.f),
         t: forms::flag(low, form.t),
-        v: only(ero, forms::flag(low, form.v)),
-        l: only(ero, first / parts::WORTH_L),
+        v: only(forms::flag(low, form.v), ero),
+        l: only(first / parts::WORTH_L, ero),
         c: forms::flag(low, form.c),
         m: forms::flag(low, form.m),
     }

@@ -53,13 +53,13 @@ bits-room false = omega arith
 -- A structure stands behind a SID; where there is none, no octet is taken.
 pub structure-part : (form : Form) (s : List ℕ) (at : ℕ) (h : Head)
     → partOf s (at + form .fixed + sidLength form (h .s) + naiLength form (h .nt)) (cond (hasStructure h) bitLengths 0) bitLengths
-    ≡ partOf s (structurePlace form at (h .nt)) (cond (hasStructure h) bitLengths 0) bitLengths
+    ≡ partOf s (structurePlace form (h .nt) at) (cond (hasStructure h) bitLengths 0) bitLengths
 unfolding partOf part
 structure-part form s at h = go (hasStructure h) refl
   where
     go : (b : Bool) → hasStructure h ≡ b
         → partOf s (at + form .fixed + sidLength form (h .s) + naiLength form (h .nt)) (cond b bitLengths 0) bitLengths
-        ≡ partOf s (structurePlace form at (h .nt)) (cond b bitLengths 0) bitLengths
+        ≡ partOf s (structurePlace form (h .nt) at) (cond b bitLengths 0) bitLengths
     go true e = rw (sid-there h e)
     go false e = refl
 
@@ -84,7 +84,7 @@ pub segment-by : (form : Form) (s : List ℕ) (at : ℕ) (h : Head) (there : Boo
     })
     (segmentBy form h s at)
 segment-by form s at h there fixed k n b sid nai bits et ef ek en eb es ei eq =
-    let q : bits ≡ partOf s (structurePlace form at (h .nt)) (cond (hasStructure h) bitLengths 0) bitLengths = rw (et, ef, ek, en) at eq ∙ structure-part form s at h in
+    let q : bits ≡ partOf s (structurePlace form (h .nt) at) (cond (hasStructure h) bitLengths 0) bitLengths = rw (et, ef, ek, en) at eq ∙ structure-part form s at h in
     let p : sid ≡ partOf s (at + form .fixed) (sidLength form (h .s)) sidSize = rw ef at es in
     let r : nai ≡ partOf s (at + form .fixed + sidLength form (h .s)) (naiLength form (h .nt)) naiSize = rw (ef, ek) at ei in
     (λ i. record {

@@ -8,7 +8,7 @@ ghost use Rattle.forms.specs.Forms.{mplsForm, naiLength, knows};
 use super::eights;
 
 // The SID at a place, if there is one.
-pub fn sid_mpls(s: &[u8], at: usize, there: bool) -> [u8; 16]
+pub fn sid_mpls(s: &[u8], there: bool, at: usize) -> [u8; 16]
     requires { ⌜ at + cond there (mplsForm .sid) 0 ≤ length (now s) ⌝ }
     ensures part { λ r. ⌜ r ≡ partOf (now (s .entry)) at (cond there (mplsForm .sid) 0) 16 ⌝ }
 {
@@ -19,7 +19,7 @@ pub fn sid_mpls(s: &[u8], at: usize, there: bool) -> [u8; 16]
 }
 
 // The NAI of an NT at a place.
-pub fn nai_mpls(s: &[u8], at: usize, nt: usize) -> [u8; 40]
+pub fn nai_mpls(s: &[u8], nt: usize, at: usize) -> [u8; 40]
     requires { ⌜ (at + naiLength mplsForm nt ≤ length (now s)) × (knows mplsForm nt ≡ true) ⌝ }
     ensures part { λ r. ⌜ r ≡ partOf (now (s .entry)) at (naiLength mplsForm nt) 40 ⌝ }
 {

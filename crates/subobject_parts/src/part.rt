@@ -20,7 +20,7 @@ pub fn behaviour_at(form: Form, s: &[u8], at: usize) -> u16
 }
 
 // The bit lengths of the SID structure at a place, if there is one.
-pub fn structure_at(s: &[u8], at: usize, there: bool) -> [u8; 4]
+pub fn structure_at(s: &[u8], there: bool, at: usize) -> [u8; 4]
     requires { ⌜ at + cond there bitLengths 0 ≤ length (now s) ⌝ }
     ensures part { λ r. ⌜ r ≡ partOf (now (s .entry)) at (cond there bitLengths 0) bitLengths ⌝ }
 {

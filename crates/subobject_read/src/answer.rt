@@ -15,7 +15,7 @@ pub enum Reading {
 }
 
 // The subobject at `at`; 7 where the octets end before it does.
-pub fn read_at(form: Form, s: &[u8], at: usize, ero: bool) -> Reading
+pub fn read_at(form: Form, s: &[u8], ero: bool, at: usize) -> Reading
     requires { ⌜ (at ≤ length (now s)) × Sized form ⌝ }
     ensures answer { λ r. ⌜ r ≡ readOf form (now (s .entry)) ero at ⌝ }
 {
@@ -23,9 +23,9 @@ pub fn read_at(form: Form, s: &[u8], at: usize, ero: bool) -> Reading
     if room < octets::wide(form.fixed) {
         return Reading::Refused(answers::LENGTH_WRONG, at);
     }
-    let h = subobject::head_at(form, s, at, ero);
+    let h = subobject::head_at(form, s, ero, at);
     if room < subobject::expected(form, h.nt, h.s, h.t) {
         return Reading::Refused(answers::LENGTH_WRONG, at);
     }
-    Reading::Whole(subobject_strays::strays_at(form, s, at, h))
+    Reading::Whole(subobject_strays::strays_at(form, h, s, at))
 }

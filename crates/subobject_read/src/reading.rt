@@ -28,11 +28,11 @@ pub fn no_segment() -> Segment
 }
 
 // What the octets of the subobject at `at` say.
-pub fn segment_at(form: Form, s: &[u8], at: usize, ero: bool) -> Segment
+pub fn segment_at(form: Form, s: &[u8], ero: bool, at: usize) -> Segment
     requires { ⌜ (at + expectedAt form (now s) ero at ≤ length (now s)) × Sized form ⌝ }
     ensures segment { λ r. ⌜ r ≡ segmentAt form (now (s .entry)) ero at ⌝ }
 {
-    let h = subobject::head_at(form, s, at, ero);
+    let h = subobject::head_at(form, s, ero, at);
     let there = subobject::structured(h);
     let fixed = octets::wide(form.fixed);
     let k = octets::pick(h.s == 0, octets::wide(form.sid), 0);

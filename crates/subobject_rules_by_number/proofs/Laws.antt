@@ -11,7 +11,7 @@ use Rattle.subobject.specs.declared.head.Head.{Head}
 use Rattle.subobject.specs.Rules.{sumAt, bitsAt, rule11, placeBy}
 
 -- No other number names a place.
-pub unplaced : (number at : ℕ) → (number ≡ 8 → ⊥) → (number ≡ 9 → ⊥) → (number ≡ 7 → ⊥) → (number ≡ 10 → ⊥) → (number ≡ 11 → ⊥) → 0 ≡ placeBy number at
+pub unplaced : (number at : ℕ) → (number ≡ 8 → ⊥) → (number ≡ 9 → ⊥) → (number ≡ 7 → ⊥) → (number ≡ 10 → ⊥) → (number ≡ 11 → ⊥) → 0 ≡ placeBy at number
 unfolding placeBy
 unplaced number at a b c d e =
     rw (ne-eqb number 8 a, ne-eqb number 9 b, ne-eqb number 7 c, ne-eqb number 10 d, ne-eqb number 11 e) (go (eqb number 29) (eqb number 30))

@@ -9,8 +9,8 @@ use forms::Form;
 use subobject::Head;
 
 // The place that a refusal by this number names, for the subobject at `at`.
-pub fn place(number: usize, at: usize) -> usize
-    ensures place { λ r. ⌜ r ≡ placeBy number at ⌝ }
+pub fn place(at: usize, number: usize) -> usize
+    ensures place { λ r. ⌜ r ≡ placeBy at number ⌝ }
 {
     if number == answers::NAI_UNKNOWN {
         return at;
@@ -31,7 +31,7 @@ pub fn place(number: usize, at: usize) -> usize
 }
 
 // 11 for the subobject at `at`. Only a structure's octets are read.
-pub fn too_long(form: Form, s: &[u8], at: usize, h: Head) -> bool
+pub fn too_long(form: Form, h: Head, s: &[u8], at: usize) -> bool
     requires { ⌜ (at < length (now s)) × Sized form ⌝ }
     ensures broken { λ r. ⌜ r ≡ rule11 h (bitsAt form h (now (s .entry)) at) ⌝ }
 {
@@ -45,7 +45,7 @@ pub fn too_long(form: Form, s: &[u8], at: usize, h: Head) -> bool
 }
 
 // 29 for the subobject at `at`. Only a label's octets are read.
-pub fn bad_label(form: Form, s: &[u8], at: usize, h: Head) -> bool
+pub fn bad_label(form: Form, h: Head, s: &[u8], at: usize) -> bool
     requires { ⌜ (at < length (now s)) × Sized form ⌝ }
     ensures broken { λ r. ⌜ r ≡ rule29 h (labelAt (now (s .entry)) (sidPlace form at)) ⌝ }
 {
@@ -57,7 +57,7 @@ pub fn bad_label(form: Form, s: &[u8], at: usize, h: Head) -> bool
 }
 
 // 30 for the subobject at `at`.
-pub fn bad_format(form: Form, s: &[u8], at: usize, h: Head) -> bool
+pub fn bad_format(form: Form, h: Head, s: &[u8], at: usize) -> bool
     requires { ⌜ (at < length (now s)) × Sized form ⌝ }
     ensures broken { λ r. ⌜ r ≡ rule30 h (timeAt (now (s .entry)) (sidPlace form at)) ⌝ }
 {
@@ -69,7 +69,7 @@ pub fn bad_format(form: Form, s: &[u8], at: usize, h: Head) -> bool
 }
 
 // Whether the subobject at `at`, with the head h, breaks the rule of this number.
-pub fn breaks(form: Form, s: &[u8], at: usize, h: Head, ero: bool, n: bool, number: usize) -> bool
+pub fn breaks(form: Form, h: Head, s: &[u8], ero: bool, n: bool, at: usize, number: usize) -> bool
     requires { ⌜ (at < length (now s)) × Sized form ⌝ }
     ensures broken { λ r. ⌜ r ≡ brokenBy (subjectBy form h (now (s .entry)) ero n at) number ⌝ }
 {
@@ -86,13 +86,13 @@ pub fn breaks(form: Form, s: &[u8], at: usize, h: Head, ero: bool, n: bool, numb
         return subobject_rules::ten(h, ero, n);
     }
     if number == answers::STRUCTURE_TOO_LONG {
-        return too_long(form, s, at, h);
+        return too_long(form, h, s, at);
     }
     if number == answers::LABEL_VALUE {
-        return bad_label(form, s, at, h);
+        return bad_label(form, h, s, at);
     }
     if number == answers::LABEL_FORMAT {
-        return bad_format(form, s, at, h);
+        return bad_format(form, h, s, at);
     }
     false
 }

@@ -114,7 +114,7 @@ seven-of true false c p q r = absurd (false≢true q)
 seven-of false b c p q r = absurd (false≢true p)
 
 pub fitting : (needed : Bool) (size high low : ℕ) → high < 256 → together needed (low % 16) (high / 16) ≡ true
-    → size + low % 16 / 4 % 2 * 4 ≡ 13537359229881352 / 2 ^ (8 * (high / 16)) % 256 → (first : ℕ) (ero : Bool) → Fitting needed (headOf mplsForm first size high low ero)
+    → size + low % 16 / 4 % 2 * 4 ≡ 13537359229881352 / 2 ^ (8 * (high / 16)) % 256 → (first : ℕ) (ero : Bool) → Fitting (headOf mplsForm first size high low ero) needed
 unfolding headOf flagIn rule7 rule8 rule9 malformed
 fitting needed size high low h e q first ero =
     let nt = high / 16 in
@@ -158,10 +158,10 @@ same-head o a b c a′ b′ c′ ero p q r = rw (p, q, r)
 
 -- The rules of the subobject at a place, from its octets 2 and 3.
 pub kept-at : (s : List ℕ) (ero n : Bool) (at high low : ℕ) (h : Head) (needed : Bool) → h ≡ headAt mplsForm s ero at → high ≡ getD s (at + 2) 0 → low ≡ getD s (at + 3) 0
-    → needed ≡ (ero && not n) → ((first : ℕ) (e : Bool) → Fitting needed (headOf mplsForm first (h .size) high low e))
+    → needed ≡ (ero && not n) → ((first : ℕ) (e : Bool) → Fitting (headOf mplsForm first (h .size) high low e) needed)
     → (rule8 mplsForm h ≡ false) × (rule9 h ≡ false) × (rule7 mplsForm h ≡ false) × (rule10 h ero n ≡ false)
 kept-at s ero n at high low h needed e eh el en f =
     let size : h .size ≡ getD s (at + 1) 0 = ap (λ (x : Head). x .size) e ∙ size-at s ero at in
     let same : headOf mplsForm (getD s at 0) (h .size) high low ero ≡ h = same-head _ _ _ _ _ _ _ ero size eh el ∙ sym (e ∙ head-at s ero at) in
-    let k : Fitting needed h = subst (λ (x : Head). Fitting needed x) same (f (getD s at 0) ero) in
+    let k : Fitting h needed = subst (λ (x : Head). Fitting x needed) same (f (getD s at 0) ero) in
     (k .eight, k .nine, k .seven, ten-of h ero n needed en (k .sid))

@@ -8,7 +8,7 @@ use Rattle.subobject.specs.declared.head.Head.{Head}
 use Rattle.subobject.specs.Rules.{rule7, rule8, rule9}
 
 -- 8, 9 and 7 are kept, and there is a SID where one is needed.
-pub record Fitting (needed : Bool) (h : Head) : Type 0 where
+pub record Fitting (h : Head) (needed : Bool) : Type 0 where
   pub eight : rule8 mplsForm h ≡ false
   pub nine : rule9 h ≡ false
   pub seven : rule7 mplsForm h ≡ false

@@ -42,9 +42,9 @@ fn allowed(needed: bool) -> usize
 }
 
 // Whether octets 1 to 3 are of a subobject that breaks none of these rules; 10 by whether a SID is needed.
-fn fits(needed: bool, size: usize, high: usize, low: usize) -> bool
+fn fits(size: usize, high: usize, low: usize, needed: bool) -> bool
     requires { ⌜ (size < 256) × (high < 256) ⌝ }
-    ensures fits { λ r. ⌜ (r ≡ true → (first : ℕ) (ero : Bool) → Fitting needed (headOf mplsForm first size high low ero)) ⌝ }
+    ensures fits { λ r. ⌜ (r ≡ true → (first : ℕ) (ero : Bool) → Fitting (headOf mplsForm first size high low ero) needed) ⌝ }
 {
     let nt = high / subobject::WORTH_NT;
     let flags = low % FOUR_BITS;
@@ -55,11 +55,11 @@ fn fits(needed: bool, size: usize, high: usize, low: usize) -> bool
 }
 
 // The same of the subobject at a place, which has the head h.
-pub fn mpls_head_sound(s: &[u8], at: usize, h: Head, ero: bool, n: bool) -> bool
+pub fn mpls_head_sound(h: Head, s: &[u8], ero: bool, n: bool, at: usize) -> bool
     requires { ⌜ (at + 4 ≤ length (now s)) × (h ≡ headAt mplsForm (now s) ero at) × (h .size < 256) ⌝ }
     ensures sound { λ r. ⌜ (r ≡ true → HeadSound mplsForm h ero n) ⌝ }
 {
     let high = octets::wide(s[at + subobject::FLAGS_PLACE]);
     let low = octets::wide(s[at + subobject::LOW_FLAGS_PLACE]);
-    fits(octets::both(ero, !n), h.size, high, low)
+    fits(h.size, high, low, octets::both(ero, !n))
 }

@@ -40,7 +40,7 @@ length-made form h fixed sid sid′ nai structure r ef es es′ er et en = rw (e
 
 -- Where a structure is there, it ends the subobject,
 pub structure-last : (form : Form) (h : Head) (at : ℕ) (r : Bool) → r ≡ hasStructure h → r ≡ true → h .size ≡ expectedLength form (h .nt) (h .s) (h .t)
-    → (8 ≤ h .size) × (at + h .size - 8 ≡ structurePlace form at (h .nt))
+    → (8 ≤ h .size) × (at + h .size - 8 ≡ structurePlace form (h .nt) at)
 unfolding expectedLength hasStructure
 structure-last form h at r e t q =
     let there : structureThere (h .s) (h .t) ≡ true = sym e ∙ t in
@@ -49,7 +49,7 @@ structure-last form h at r e t q =
     (omega arith, omega arith)
 
 -- and 11 asks for its sum.
-pub eleven-kept : (form : Form) (h : Head) (s : List ℕ) (at p sum : ℕ) (b : Bool) → sum ≡ sumAt s p → p ≡ structurePlace form at (h .nt) → b ≡ leb sum mostBits → b ≡ true
+pub eleven-kept : (form : Form) (h : Head) (s : List ℕ) (at p sum : ℕ) (b : Bool) → sum ≡ sumAt s p → p ≡ structurePlace form (h .nt) at → b ≡ leb sum mostBits → b ≡ true
     → rule11 h (bitsAt form h s at) ≡ false
 unfolding rule11
 eleven-kept form h s at p sum b e q l z =

@@ -5,7 +5,7 @@ ghost use Prim.Native.Nat.{_+_, _≤_};
 ghost use lib.ListN.{length};
 ghost use Rattle.forms.specs.Forms.{mplsForm, naiLength};
 ghost use Rattle.subobject.specs.Layout.{expectedLength};
-ghost use Rattle.subobject.specs.Rules.{rule7, rule11, bitsAt, labelAt, sumAt};
+ghost use Rattle.subobject.specs.Rules.{rule7, rule11, bitsAt, labelAt};
 ghost use Rattle.subobject.specs.Inner.{OfLength, HeadSound, LabelSound};
 use forms::Form;
 use subobject::Head;
@@ -45,29 +45,19 @@ pub fn head_sound(form: Form, h: Head, ero: bool, n: bool) -> bool
     !subobject_rules::ten(h, ero, n)
 }
 
-// The sum of four octets.
-fn sum_in(s: &[u8], at: usize) -> usize
-    requires { ⌜ at + 4 ≤ length (now s) ⌝ }
-    ensures sum { λ r. ⌜ r ≡ sumAt (now (s .entry)) at ⌝ }
-{
-    octets::wide(s[at])
-        + octets::wide(s[at + 1])
-        + octets::wide(s[at + 2])
-        + octets::wide(s[at + 3])
-}
-
 // 11. A structure ends a subobject of the expected length.
-pub fn structure_sound(form: Form, s: &[u8], at: usize, h: Head) -> bool
+pub fn structure_sound(form: Form, h: Head, s: &[u8], at: usize) -> bool
     requires { ⌜ OfLength form h (now s) at ⌝ }
     ensures sound { λ r. ⌜ (r ≡ true → rule11 h (bitsAt form h (now (s .entry)) at) ≡ false) ⌝ }
 {
     if subobject::structured(h) {
-        return sum_in(s, at + h.size - subobject::STRUCTURE_SIZE) <= subobject::MOST_BITS;
+        return octet_sums::sum_four_in(s, at + h.size - subobject::STRUCTURE_SIZE)
+            <= subobject::MOST_BITS;
     }
     true
 }
 
-// The label of the label stack entry at a place.
+// The label of the label stack entry at a place. `label_entry::label_at` reads octets past the end as 0; here the entry is there, and the pass asks for no end.
 fn label_in(s: &[u8], at: usize) -> usize
     requires { ⌜ at + 4 ≤ length (now s) ⌝ }
     ensures label { λ r. ⌜ r ≡ labelAt (now (s .entry)) at ⌝ }
@@ -78,7 +68,7 @@ fn label_in(s: &[u8], at: usize) -> usize
 }
 
 // 29 and 30.
-pub fn label_sound(form: Form, s: &[u8], at: usize, h: Head) -> bool
+pub fn label_sound(form: Form, h: Head, s: &[u8], at: usize) -> bool
     requires { ⌜ (4 ≤ form .sid) × OfLength form h (now s) at ⌝ }
     ensures sound { λ r. ⌜ (r ≡ true → LabelSound form h (now (s .entry)) at) ⌝ }
 {
@@ -93,7 +83,7 @@ pub fn label_sound(form: Form, s: &[u8], at: usize, h: Head) -> bool
 }
 
 // 29 and 30 of an MPLS subobject that breaks no rule before them: M is 1 only where there is a SID.
-pub fn mpls_label_sound(s: &[u8], at: usize, h: Head) -> bool
+pub fn mpls_label_sound(h: Head, s: &[u8], at: usize) -> bool
     requires { ⌜ (rule7 mplsForm h ≡ false) × (h .s ≤ 1) × OfLength mplsForm h (now s) at ⌝ }
     ensures sound { λ r. ⌜ (r ≡ true → LabelSound mplsForm h (now (s .entry)) at) ⌝ }
 {

@@ -20,7 +20,7 @@ strayFlags form s at = be16 s (at + flagsPlace) % allFlags / form .free * form .
 
 -- "SID structure, 8, if T is 1 and S is 0: four bit lengths, 3 reserved, 1 flags": the flags, all of them unassigned; 0 without a structure.
 abbrev pub structureReserved : Form → Head → ℕ → ℕ
-structureReserved form h at = structurePlace form at (h .nt) + bitLengths
+structureReserved form h at = structurePlace form (h .nt) at + bitLengths
 
 unfoldable pub structureFlags : Form → Head → List ℕ → ℕ → ℕ
 structureFlags form h s at = cond (hasStructure h) (octetOf s (structureReserved form h at + 3)) 0

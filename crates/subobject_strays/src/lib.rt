@@ -75,7 +75,7 @@ fn with_structure(s: &[u8], p: usize, flags: usize, fixed: usize) -> Strays
 }
 
 // The strays of the subobject at `at`, which has the head h.
-pub fn strays_at(form: Form, s: &[u8], at: usize, h: Head) -> Strays
+pub fn strays_at(form: Form, h: Head, s: &[u8], at: usize) -> Strays
     requires { ⌜ (at + expectedLength form (h .nt) (h .s) (h .t) ≤ length (now s)) × Sized form ⌝ }
     ensures strays { λ r. ⌜ r ≡ straysBy form h (now (s .entry)) at ⌝ }
 {
@@ -117,7 +117,7 @@ fn marked_srv6(s: &[u8], at: usize) -> bool
 }
 
 // Whether one of the last four octets of a structure is set. They end a subobject of the expected length.
-fn ending_marked(form: Form, s: &[u8], at: usize, h: Head) -> bool
+fn ending_marked(form: Form, h: Head, s: &[u8], at: usize) -> bool
     requires { ⌜ OfLength form h (now s) at ⌝ }
     ensures marked { λ r. ⌜ r ≡ endingMarked h (now (s .entry)) at ⌝ }
 {
@@ -128,28 +128,28 @@ fn ending_marked(form: Form, s: &[u8], at: usize, h: Head) -> bool
 }
 
 // 1 for a stray segment, else 0: what a walk over many subobjects counts.
-pub fn stray_of(form: Form, s: &[u8], at: usize, h: Head) -> usize
+pub fn stray_of(form: Form, h: Head, s: &[u8], at: usize) -> usize
     requires { ⌜ (at + form .fixed ≤ length (now s)) × (Sized form) × OfLength form h (now s) at ⌝ }
     ensures one { λ r. ⌜ (r ≡ strayOne (straysBy form h (now (s .entry)) at)) × (r ≤ 1) ⌝ }
 {
     if marked(form, s, at) {
         return 1;
     }
-    if ending_marked(form, s, at, h) {
+    if ending_marked(form, h, s, at) {
         return 1;
     }
     0
 }
 
 // The same for SRv6.
-pub fn stray_srv6(s: &[u8], at: usize, h: Head) -> usize
+pub fn stray_srv6(h: Head, s: &[u8], at: usize) -> usize
     requires { ⌜ (at + srv6Form .fixed ≤ length (now s)) × OfLength srv6Form h (now s) at ⌝ }
     ensures one { λ r. ⌜ (r ≡ strayOne (straysBy srv6Form h (now (s .entry)) at)) × (r ≤ 1) ⌝ }
 {
     if marked_srv6(s, at) {
         return 1;
     }
-    if ending_marked(forms::srv6(), s, at, h) {
+    if ending_marked(forms::srv6(), h, s, at) {
         return 1;
     }
     0

@@ -17,20 +17,20 @@ less : (s : List ℕ) → (length s ≡ 0 → ⊥) → length (tlvBehind s) < le
 less s h = rw (length-drop (tlvHead + pad4 (tlvLength s)) s) (omega arith)
 
 module _ (short : Bool) where
-  fill : (n : ℕ) (s : List ℕ) → tlvsWhole (tlvsIn n short s) ≡ true → Filled short s (tlvsIn n short s)
+  fill : (n : ℕ) (s : List ℕ) → tlvsWhole (tlvsIn s short n) ≡ true → Filled short s (tlvsIn s short n)
   unfolding tlvsIn
   fill zero s w = absurd (false≢true w)
-  fill (suc n) s w = go (eqb (length s) 0) refl (tlvFits short s) refl w (fill n (tlvBehind s))
+  fill (suc n) s w = go (eqb (length s) 0) refl (tlvFits s short) refl w (fill n (tlvBehind s))
     where
-      go : (x : Bool) → eqb (length s) 0 ≡ x → (y : Bool) → tlvFits short s ≡ y
-          → tlvsWhole (tlvTurn x y s (λ rest. tlvsIn n short rest)) ≡ true
-          → (tlvsWhole (tlvsIn n short (tlvBehind s)) ≡ true → Filled short (tlvBehind s) (tlvsIn n short (tlvBehind s)))
-          → Filled short s (tlvTurn x y s (λ rest. tlvsIn n short rest))
+      go : (x : Bool) → eqb (length s) 0 ≡ x → (y : Bool) → tlvFits s short ≡ y
+          → tlvsWhole (tlvTurn s x y (λ rest. tlvsIn rest short n)) ≡ true
+          → (tlvsWhole (tlvsIn (tlvBehind s) short n) ≡ true → Filled short (tlvBehind s) (tlvsIn (tlvBehind s) short n))
+          → Filled short s (tlvTurn s x y (λ rest. tlvsIn rest short n))
       go true e y d w rest = none-left (eqb-true (length s) 0 e)
       go false e false d w rest = absurd (false≢true w)
       go false e true d w rest = one-more (eqb-false (length s) 0 e) d (rest w)
 
-  filled : (s : List ℕ) (ts : Tlvs) → Filled short s ts → (n : ℕ) → length s < n → tlvsIn n short s ≡ ts
+  filled : (s : List ℕ) (ts : Tlvs) → Filled short s ts → (n : ℕ) → length s < n → tlvsIn s short n ≡ ts
   unfolding tlvsIn
   filled s ts f zero h = absurd (omega arith)
   filled s tlvsEnd (none-left e) (suc n) h = rw (eq-eqb (length s) 0 e)
@@ -42,17 +42,17 @@ module _ (short : Bool) where
   filled-whole s (tlv k v rest) (one-more e d f) = filled-whole (tlvBehind s) rest f
 
   -- TLVs that are whole fill the octets,
-  pub whole-filled : (s : List ℕ) → tlvsWhole (tlvsOf short s) ≡ true → Filled short s (tlvsOf short s)
+  pub whole-filled : (s : List ℕ) → tlvsWhole (tlvsOf s short) ≡ true → Filled short s (tlvsOf s short)
   unfolding tlvsOf
   whole-filled s w = fill (suc (length s)) s w
 
   -- and TLVs that fill the octets are theirs, and whole.
-  pub filled-are : (s : List ℕ) (ts : Tlvs) → Filled short s ts → (tlvsOf short s ≡ ts) × (tlvsWhole ts ≡ true)
+  pub filled-are : (s : List ℕ) (ts : Tlvs) → Filled short s ts → (tlvsOf s short ≡ ts) × (tlvsWhole ts ≡ true)
   unfolding tlvsOf
   filled-are s ts f = (filled s ts f (suc (length s)) (omega arith), filled-whole s ts f)
 
 -- "Only the padding of the last sub-TLV may be missing or cut": behind one that fits only so there is nothing.
-pub only-the-last : (s : List ℕ) → tlvFits true s ≡ true → tlvFits false s ≡ false → tlvBehind s ≡ []
+pub only-the-last : (s : List ℕ) → tlvFits s true ≡ true → tlvFits s false ≡ false → tlvBehind s ≡ []
 only-the-last s e d =
     let h : leb tlvHead (length s) ≡ true = both-true (leb tlvHead (length s)) (leb (tlvHead + tlvLength s) (length s)) e .0 in
     let g : length s ≤ tlvHead + pad4 (tlvLength s) = omega (arith, leb-false (tlvHead + pad4 (tlvLength s)) (length s) (rw h at d)) in

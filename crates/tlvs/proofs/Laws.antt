@@ -55,17 +55,17 @@ le-needed false n padded h = h
 
 -- an item, by what was read of it ------------------------------------------------------------------------------
 
-pub at-none : (s : List ℕ) (at stop : ℕ) (short : Bool) → stop - at < tlvHead → Broken ≡ itemAt short s at stop
+pub at-none : (s : List ℕ) (at stop : ℕ) (short : Bool) → stop - at < tlvHead → Broken ≡ itemAt s short at stop
 unfolding itemAt
 at-none s at stop short l = rw (lt-ltb (stop - at) tlvHead l)
 
 module _ (s : List ℕ) (at stop : ℕ) (short : Bool) {kind n padded needed : ℕ}
     (e0 : kind ≡ be16 s at) (e2 : n ≡ be16 s (at + 2)) (p : padded ≡ pad4 n) (q : needed ≡ cond short n padded) (l : tlvHead ≤ stop - at) where
-  pub at-torn : stop - at < tlvHead + needed → Broken ≡ itemAt short s at stop
+  pub at-torn : stop - at < tlvHead + needed → Broken ≡ itemAt s short at stop
   unfolding itemAt
   at-torn f = rw (← e2, ← p, ← q, le-ltb (stop - at) tlvHead l, lt-ltb (stop - at) (tlvHead + needed) f)
 
-  pub at-whole : tlvHead + needed ≤ stop - at → One kind (at + tlvHead) n (at + tlvHead + padded) ≡ itemAt short s at stop
+  pub at-whole : tlvHead + needed ≤ stop - at → One kind (at + tlvHead) n (at + tlvHead + padded) ≡ itemAt s short at stop
   unfolding itemAt
   at-whole f = rw (← e0, ← e2, ← p, ← q, le-ltb (stop - at) tlvHead l, le-ltb (stop - at) (tlvHead + needed) f)
 
@@ -79,7 +79,7 @@ turned s stop Broken on = tlvsCut
 module _ (s : List ℕ) (at stop : ℕ) (short : Bool) (on : List ℕ → Tlvs) (h : at ≤ stop) (k : stop ≤ length s) where
   -- What the octets from `at` on begin with, and what follows it.
   abbrev Begins : Type 0
-  Begins = turned s stop (itemAt short s at stop) on ≡ tlvTurn false (tlvFits short (part s at (stop - at))) (part s at (stop - at)) on
+  Begins = turned s stop (itemAt s short at stop) on ≡ tlvTurn (part s at (stop - at)) false (tlvFits (part s at (stop - at)) short) on
 
   abbrev needs : ℕ
   needs = cond short (be16 s (at + 2)) (pad4 (be16 s (at + 2)))
@@ -95,7 +95,7 @@ module _ (s : List ℕ) (at stop : ℕ) (short : Bool) (on : List ℕ → Tlvs) 
   length-same : tlvHead ≤ stop - at → be16 (part s at (stop - at)) 2 ≡ be16 s (at + 2)
   length-same l = be16-part s at (stop - at) 2 (omega arith)
 
-  fits-same : tlvHead ≤ stop - at → tlvFits short (part s at (stop - at)) ≡ leb (tlvHead + needs) (stop - at)
+  fits-same : tlvHead ≤ stop - at → tlvFits (part s at (stop - at)) short ≡ leb (tlvHead + needs) (stop - at)
   fits-same l = rw (length-same l, length-part s at (stop - at) (omega arith), le-leb tlvHead (stop - at) l)
 
   -- what is there does not do
@@ -133,20 +133,20 @@ module _ (s : List ℕ) (at stop : ℕ) (short : Bool) (on : List ℕ → Tlvs) 
       go false false e f = item-torn (ltb-false _ _ e) (leb-false _ _ f)
 
 -- At the end nothing is left,
-pub items-end : (n : ℕ) (short : Bool) (s : List ℕ) (at stop : ℕ) → 0 < n → stop ≤ at → tlvsIn n short (part s at (stop - at)) ≡ tlvsEnd
+pub items-end : (n : ℕ) (short : Bool) (s : List ℕ) (at stop : ℕ) → 0 < n → stop ≤ at → tlvsIn (part s at (stop - at)) short n ≡ tlvsEnd
 unfolding tlvsIn
 items-end zero short s at stop h e = absurd (omega arith)
 items-end (suc n) short s at stop h e = let z : stop - at ≡ 0 = omega arith in rw (z, part-none s at)
 
 -- and before it the item there, and then the rest.
 pub items-turn : (n : ℕ) (short : Bool) (s : List ℕ) (at stop : ℕ) → 0 < n → at < stop → stop ≤ length s
-    → tlvsIn n short (part s at (stop - at)) ≡ turned s stop (itemAt short s at stop) (λ rest. tlvsIn (pred n) short rest)
+    → tlvsIn (part s at (stop - at)) short n ≡ turned s stop (itemAt s short at stop) (λ rest. tlvsIn rest short (pred n))
 unfolding tlvsIn
 items-turn zero short s at stop h k l = absurd (omega arith)
 items-turn (suc n) short s at stop h k l =
     let m : length (part s at (stop - at)) ≡ 0 → ⊥ = λ z. (omega (arith, length-part s at (stop - at) (omega arith))) in
-    rw (ne-eqb (length (part s at (stop - at))) 0 m) (sym (item-turn s at stop short (λ rest. tlvsIn n short rest) (omega arith) l))
+    rw (ne-eqb (length (part s at (stop - at))) 0 m) (sym (item-turn s at stop short (λ rest. tlvsIn rest short n) (omega arith) l))
 
 -- Any two answers that fit the contract of `item_at` are equal.
-pub item_at-determined : (short : Bool) (s : List ℕ) (at stop : ℕ) {x y : Item} → x ≡ itemAt short s at stop → y ≡ itemAt short s at stop → x ≡ y
+pub item_at-determined : (short : Bool) (s : List ℕ) (at stop : ℕ) {x y : Item} → x ≡ itemAt s short at stop → y ≡ itemAt s short at stop → x ≡ y
 item_at-determined short s at stop = determined

@@ -35,10 +35,10 @@ module _ (p : Span) (hit : Bool) (from len : ℕ) where
       go true false e f = rw (e, f, e)
       go false c e f = rw (e, e)
 
-  pub kept-inside : (n : ℕ) → Inside n p → from + len ≤ n → Inside n (keepOf p hit from len)
+  pub kept-inside : (n : ℕ) → Inside p n → from + len ≤ n → Inside (keepOf p hit from len) n
   kept-inside n i h = go (missingOf p && hit) refl
     where
-      go : (b : Bool) → (missingOf p && hit) ≡ b → Inside n (keepOf p hit from len)
+      go : (b : Bool) → (missingOf p && hit) ≡ b → Inside (keepOf p hit from len) n
       go true e = rw e h
       go false e = rw e i
 

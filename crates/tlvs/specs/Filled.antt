@@ -9,5 +9,5 @@ use Rattle.tlvs.specs.Tlvs.{Tlvs, tlvsEnd, tlv, tlvKind, tlvValue, tlvBe
 -- These TLVs fill these octets. `short`: of the last one the padding may be missing or cut.
 pub data Filled (short : Bool) : List ℕ → Tlvs → Type 0 where
   none-left : {s : List ℕ} → length s ≡ 0 → Filled short s tlvsEnd
-  one-more : {s : List ℕ} {rest : Tlvs} → (length s ≡ 0 → ⊥) → tlvFits short s ≡ true → Filled short (tlvBehind s) rest
+  one-more : {s : List ℕ} {rest : Tlvs} → (length s ≡ 0 → ⊥) → tlvFits s short ≡ true → Filled short (tlvBehind s) rest
       → Filled short s (tlv (tlvKind s) (tlvValue s) rest)

@@ -17,16 +17,16 @@ abbrev pub tlvLengthAt : List ℕ → ℕ → ℕ
 tlvLengthAt s at = be16 s (at + tlvLengthPlace)
 
 -- The TLV at `at` of those that end at `end`. With `short` its padding may be missing or cut at the end.
-unfoldable pub itemAt : Bool → List ℕ → ℕ → ℕ → Item
-itemAt short s at end =
+unfoldable pub itemAt : List ℕ → Bool → ℕ → ℕ → Item
+itemAt s short at end =
     cond (ltb (end - at) tlvHead) Broken
     (cond (ltb (end - at) (tlvHead + cond short (tlvLengthAt s at) (pad4 (tlvLengthAt s at)))) Broken
     (One (be16 s at) (at + tlvHead) (tlvLengthAt s at) (at + tlvHead + pad4 (tlvLengthAt s at))))
 
 -- A value lies before the end, and the next item behind its head.
-abbrev pub Within : ℕ → ℕ → Item → Type 0
-Within at end (One kind from len next) = (from ≡ at + tlvHead) × (at + tlvHead ≤ next) × (from + len ≤ end)
-Within at end Broken = Unit
+abbrev pub Within : Item → ℕ → ℕ → Type 0
+Within (One kind from len next) at end = (from ≡ at + tlvHead) × (at + tlvHead ≤ next) × (from + len ≤ end)
+Within Broken at end = Unit
 
 -- where values lie -------------------------------------------------------------------------------------------
 
@@ -45,8 +45,8 @@ abbrev pub valueAt : List ℕ → Span → Option (List ℕ)
 valueAt s p = cond (missingOf p) none (some (part s (p .from) (p .len)))
 
 -- A span lies within n octets.
-abbrev pub Inside : ℕ → Span → Type 0
-Inside n p = p .from + p .len ≤ n
+abbrev pub Inside : Span → ℕ → Type 0
+Inside p n = p .from + p .len ≤ n
 
 -- What was found before, or else this.
 abbrev pub orElse : Option (List ℕ) → Option (List ℕ) → Option (List ℕ)

@@ -29,8 +29,8 @@ tlvBehind s = drop (tlvHead + pad4 (tlvLength s)) s
 
 -- Whether a TLV fits at the start of an octet string: its head, its value and its padding.
 -- `short`: of the last one the padding may be missing or cut.
-abbrev pub tlvFits : Bool → List ℕ → Bool
-tlvFits short s = leb tlvHead (length s) && leb (tlvHead + cond short (tlvLength s) (pad4 (tlvLength s))) (length s)
+abbrev pub tlvFits : List ℕ → Bool → Bool
+tlvFits s short = leb tlvHead (length s) && leb (tlvHead + cond short (tlvLength s) (pad4 (tlvLength s))) (length s)
 
 -- The TLVs up to the last octet, or up to the first place where none fits.
 pub data Tlvs : Type 0 where
@@ -38,18 +38,18 @@ pub data Tlvs : Type 0 where
   tlvsCut : Tlvs
   tlv : ℕ → List ℕ → Tlvs → Tlvs
 
-abbrev pub tlvTurn : Bool → Bool → List ℕ → (List ℕ → Tlvs) → Tlvs
-tlvTurn true fits s on = tlvsEnd
-tlvTurn false false s on = tlvsCut
-tlvTurn false true s on = tlv (tlvKind s) (tlvValue s) (on (tlvBehind s))
+abbrev pub tlvTurn : List ℕ → Bool → Bool → (List ℕ → Tlvs) → Tlvs
+tlvTurn s true fits on = tlvsEnd
+tlvTurn s false false on = tlvsCut
+tlvTurn s false true on = tlv (tlvKind s) (tlvValue s) (on (tlvBehind s))
 
--- The first number only bounds how many are read; each takes at least 4 octets. specs/Filled says the same without a bound.
-unfoldable pub tlvsIn : ℕ → Bool → List ℕ → Tlvs
-tlvsIn zero short s = tlvsCut
-tlvsIn (suc n) short s = tlvTurn (eqb (length s) 0) (tlvFits short s) s (λ rest. tlvsIn n short rest)
+-- The number only bounds how many are read; each takes at least 4 octets. specs/Filled says the same without a bound.
+unfoldable pub tlvsIn : List ℕ → Bool → ℕ → Tlvs
+tlvsIn s short zero = tlvsCut
+tlvsIn s short (suc n) = tlvTurn s (eqb (length s) 0) (tlvFits s short) (λ rest. tlvsIn rest short n)
 
-unfoldable pub tlvsOf : Bool → List ℕ → Tlvs
-tlvsOf short s = tlvsIn (suc (length s)) short s
+unfoldable pub tlvsOf : List ℕ → Bool → Tlvs
+tlvsOf s short = tlvsIn s short (suc (length s))
 
 -- Every TLV fits.
 abbrev pub tlvsWhole : Tlvs → Bool
@@ -58,10 +58,10 @@ tlvsWhole tlvsCut = false
 tlvsWhole (tlv kind value rest) = tlvsWhole rest
 
 -- The value of the first one of a type: "the first is used and the others are only walked".
-abbrev pub firstTlv : ℕ → Tlvs → Option (List ℕ)
-firstTlv want tlvsEnd = none
-firstTlv want tlvsCut = none
-firstTlv want (tlv kind value rest) = cond (eqb kind want) (some value) (firstTlv want rest)
+abbrev pub firstTlv : Tlvs → ℕ → Option (List ℕ)
+firstTlv tlvsEnd want = none
+firstTlv tlvsCut want = none
+firstTlv (tlv kind value rest) want = cond (eqb kind want) (some value) (firstTlv rest want)
 
 -- There is none.
 abbrev pub notThere : Option (List ℕ) → Bool

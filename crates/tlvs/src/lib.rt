@@ -40,10 +40,10 @@ fn needed(short: bool, len: usize, padded: usize) -> usize
 }
 
 // The TLV at `at` of those that end at `end`. With `short` its padding may be missing or cut at the end.
-pub fn item_at(s: &[u8], at: usize, end: usize, short: bool) -> Item
+pub fn item_at(s: &[u8], short: bool, at: usize, end: usize) -> Item
     requires { ⌜ (at ≤ end) × (end ≤ length (now s)) × (end < end16) ⌝ }
-    ensures exact { λ r. ⌜ r ≡ itemAt short (now (s .entry)) at end ⌝ }
-    ensures within { λ r. ⌜ Within at end r ⌝ }
+    ensures exact { λ r. ⌜ r ≡ itemAt (now (s .entry)) short at end ⌝ }
+    ensures within { λ r. ⌜ Within r at end ⌝ }
 {
     let room = end - at;
     if room < TLV_HEAD {

@@ -3,14 +3,14 @@
 use Prim.Native.Nat.{ℕ, zero, suc, _+_, _-_, _≤_, _<_}
 use mathlib.Core.Path.{_≡_, refl, sym, _∙_, ap}
 use mathlib.Core.List.{List, [], _∷_, _++_}
-use mathlib.Core.Bool.{Bool, true, false, cond, _&&_}
+use mathlib.Core.Bool.{Bool, true, false, cond}
 use lib.ListN.{length, getD, take, drop, length-drop, drop-of-length-le}
 use lib.Seq.{drop-cons, drop-drop}
 use lib.Dec.{eqb}
 use native.Mathlib.Omega.{arith}
 use native.Mathlib.Numerals.{add-one}
 use borrow.Author.Tests.{eq-eqb, ne-eqb}
-use Rattle.words.specs.Words.{wordOf, wordsIn, untilMark, behindMark, sameOf}
+use Rattle.words.specs.Words.{wordOf, wordsIn, untilMark, behindMark}
 
 -- ## Before the first mark
 
@@ -122,28 +122,3 @@ all-count m (c ∷ cs) = go (eqb c m) (all-count m cs) where
       → suc (length (cond b (untilMark m cs ∷ laterWords m cs) (laterWords m cs))) ≡ cond b (suc (wordsIn m cs)) (wordsIn m cs)
   go true e = ap suc e
   go false e = e
-
--- ## The same octets
-
-pub same-length : (a b : List ℕ) → (length a ≡ length b → ⊥) → sameOf a b ≡ false
-unfolding sameOf
-same-length [] [] h = absurd (h refl)
-same-length [] (d ∷ ds) h = refl
-same-length (c ∷ cs) [] h = refl
-same-length (c ∷ cs) (d ∷ ds) h = go (eqb c d) (same-length cs ds (λ e. h (ap suc e))) where
-  go : (b : Bool) → sameOf cs ds ≡ false → (b && sameOf cs ds) ≡ false
-  go true e = e
-  go false e = refl
-
-module _ (a b : List ℕ) (i : ℕ) where
-  pub same-miss : i < length a → i < length b → (getD a i 0 ≡ getD b i 0 → ⊥) → sameOf (drop i a) (drop i b) ≡ false
-  unfolding sameOf
-  same-miss h k e = rw (drop-cons a i 0 h, drop-cons b i 0 k, ne-eqb (getD a i 0) (getD b i 0) e)
-
-  pub same-hit : i < length a → i < length b → getD a i 0 ≡ getD b i 0 → sameOf (drop i a) (drop i b) ≡ sameOf (drop (i + 1) a) (drop (i + 1) b)
-  unfolding sameOf
-  same-hit h k e = rw (add-one, drop-cons a i 0 h, drop-cons b i 0 k, eq-eqb (getD a i 0) (getD b i 0) e)
-
-  pub same-end : length a ≤ i → length b ≤ i → sameOf (drop i a) (drop i b) ≡ true
-  unfolding sameOf
-  same-end h k = rw (drop-of-length-le a h, drop-of-length-le b k)

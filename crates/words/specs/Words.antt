@@ -78,10 +78,3 @@ wordOf m line (suc i) = wordOf m (behindMark m line) i
 unfoldable pub wordsIn : ℕ → List ℕ → ℕ
 wordsIn m [] = 1
 wordsIn m (c ∷ cs) = cond (eqb c m) (suc (wordsIn m cs)) (wordsIn m cs)
-
--- Are these the same octets?
-unfoldable pub sameOf : List ℕ → List ℕ → Bool
-sameOf [] [] = true
-sameOf [] (d ∷ ds) = false
-sameOf (c ∷ cs) [] = false
-sameOf (c ∷ cs) (d ∷ ds) = eqb c d && sameOf cs ds

@@ -3,7 +3,7 @@
 ghost use mathlib.Core.Path.{_≡_};
 ghost use Prim.Native.Nat.{_+_, _≤_};
 ghost use lib.ListN.{length, drop};
-ghost use Rattle.words.specs.Words.{wordOf, wordsIn, untilMark, sameOf};
+ghost use Rattle.words.specs.Words.{wordOf, wordsIn, untilMark};
 
 pub const SPACE: u8 = 32;
 
@@ -79,21 +79,4 @@ pub fn count(line: &[u8], mark: u8) -> usize
         i = i + 1;
     }
     n
-}
-
-// Is this word that name?
-pub fn same(word: &[u8], name: &[u8]) -> bool
-    ensures same { λ r. ⌜ r ≡ sameOf (now (word .entry)) (now (name .entry)) ⌝ }
-{
-    if word.len() != name.len() {
-        return false;
-    }
-    let mut i: usize = 0;
-    while i < word.len() {
-        if word[i] != name[i] {
-            return false;
-        }
-        i = i + 1;
-    }
-    true
 }

@@ -4,7 +4,7 @@ use Rattle.subobject.specs.declared.segment.Segment.{Segment}
 use Rattle.subobject.specs.Segments.{segmentWith}
 use Rattle.writer_state.specs.declared.Writer.{Writer}
 use Rattle.writer.specs.Writing.{addAnswer, addBuffer}
-use Rattle.border_records.specs.Records.{flagOf}
+use Rattle.border_records.specs.Records.{bit}
 use Rattle.border_segment.specs.Segments.{outlineIn}
 use Rattle.border_writing.proofs.Laws.{by-writer, state-kept, flag-back}
 use borrow.Author.Needs.{needs}
@@ -42,7 +42,7 @@ placed-requires c κs =
     let start = b5 .before .before .before in
     let w = b5 .writer-in .ensures in
     let s = state-kept (start .args .buffer .now) (b5 .writer-in .result) (seg start) (b4 .added .result) (b4 .added .ensures .0) in
-    (flag-back (start .args .writer .ero) (c .if1 .left) ∙ ap flagOf (sym (s .0 ∙ ap (λ (a : Writer). a .ero) w)), sym (s .1 ∙ ap (λ (a : Writer). a .form) w))
+    (flag-back (start .args .writer .ero) (c .if1 .left) ∙ ap bit (sym (s .0 ∙ ap (λ (a : Writer). a .ero) w)), sym (s .1 ∙ ap (λ (a : Writer). a .form) w))
 
 same-length-2 : tie.Need-same-length-2
 same-length-2 c = search needs

@@ -2,7 +2,7 @@
 use Rattle.command.proofs.Laws.{made}
 use Prim.Native.Nat.{ℕ}
 use mathlib.Core.List.{List}
-use Rattle.words.specs.Words.{sameOf}
+use Rattle.same_octets.specs.Same.{sameOctets}
 use Rattle.command_forms.specs.Forms.{rows, verbOf, theEro}
 use Rattle.command_forms.specs.Rows.{placeNamed, verbAt}
 use Rattle.command_forms.proofs.Laws.{verb-named}
@@ -82,7 +82,7 @@ returns-4 c =
     ∙ verb-named _ in
     made _ (before6 .before .verb-at .ensures ∙ e)
     (c .before .before .before .before .same .ensures
-    ∙ ap (λ (w : List ℕ). sameOf w theEro) (before6 .word2 .ensures .0))
+    ∙ ap (λ (w : List ℕ). sameOctets w theEro) (before6 .word2 .ensures .0))
     (c .before .before .before .number-at .ensures) (c .before .before .number-at2 .ensures)
     (c .before .number-at3 .ensures) (c .number-at4 .ensures)
     ∙ read-in-form _ (sym (before11 .before .before .before .is-skipped .ensures) ∙ before11 .before .before .if1 .left)

@@ -1,6 +1,7 @@
 use Rattle.octets.proofs.Laws.{part-lent}
 use Rattle.head_end.proofs.Laws.{among-hit, among-miss, among-end}
-use Rattle.head_end.specs.Addresses.{addressSize, sameOctets, amongFirst, hasAddress}
+use Rattle.same_octets.specs.Same.{sameOctets}
+use Rattle.head_end.specs.Addresses.{addressSize, amongFirst, hasAddress}
 use Rattle.octets.specs.Octets.{part}
 use lib.ListN.{length}
 use borrow.Author.Needs.{needs}
@@ -11,7 +12,7 @@ use Rattle.head_end.proofs.has.Statement.{statement}
 use Rattle.head_end.proofs.has.Tie as tie
 
 abbrev Inv-loop : tie.InvT-loop
-Inv-loop addresses x left₀ left = (left ≤ length addresses / 16) × (amongFirst left x addresses ≡ hasAddress x addresses)
+Inv-loop addresses x left₀ left = (left ≤ length addresses / 16) × (amongFirst addresses x left ≡ hasAddress addresses x)
 
 abbrev μ-loop : tie.MeasureT-loop
 μ-loop addresses x left₀ left = left

@@ -35,7 +35,7 @@ use Rattle.open_walk.proofs.+walk.{statement}
 use Rattle.open_walk.proofs.+walk.Tie.{close}
 
 abbrev μ-walk : Measures 1 walk-kinds.ps ℕ
-μ-walk κs a = a .1 .1 .0 - a .1 .0
+μ-walk κs a = a .1 .1 .1 .1 .0 - a .1 .1 .1 .0
 
 abbrev walk-at : ℕ → In 1 walk-kinds.ps
 walk-at t = and 1 walk-kinds.ps (is 1 walk-kinds.ps μ-walk t) walk.Pre
@@ -59,11 +59,11 @@ Known t = (
 )
 
 abbrev walk-Inv-loop : walk-lts.InvT-loop
-walk-Inv-loop s start end inner want at₀ list₀ sub₀ at list sub = (start ≤ at) × Listed s list × Inside (length s) sub
-    × Laws.Left inner want s at end (valueAt s list) (valueAt s sub) (openWalk inner want (part s start (end - start)))
+walk-Inv-loop s inner want start end at₀ list₀ sub₀ at list sub = (start ≤ at) × Listed s list × Inside sub (length s)
+    × Laws.Left inner want s at end (valueAt s list) (valueAt s sub) (openWalk (part s start (end - start)) inner want)
 
 abbrev walk-μ-loop : walk-lts.MeasureT-loop
-walk-μ-loop s start end inner want at₀ list₀ sub₀ at list sub = end - at
+walk-μ-loop s inner want start end at₀ list₀ sub₀ at list sub = end - at
 
 -- what the walk starts with
 abbrev lost : Span
@@ -74,8 +74,9 @@ abbrev Read : ℕ → Type 0
 Read t = walk-lts.After-known-told (Known t) (walk-at t) walk.Post walk-Inv-loop walk-μ-loop
 
 within : (t : ℕ) (c : Read t)
-    → Within (c .before .before .before .before .before .loop .at) (c .before .before .before .before .before .before .before .args .end)
-    (One (c .before .kind .given .0 .0) (c .before .kind .given .0 .1 .0) (c .before .kind .given .0 .1 .1 .0) (c .before .kind .given .0 .1 .1 .1 .0))
+    → Within (One (c .before .kind .given .0 .0) (c .before .kind .given .0 .1 .0) (c .before .kind .given .0 .1 .1 .0) (c .before .kind .given .0 .1 .1 .1 .0))
+    (c .before .before .before .before .before .loop .at)
+    (c .before .before .before .before .before .before .before .args .end)
 within t c = rw (c .before .kind .given .1) at (c .before .before .before .item-at .ensures .1)
 
 -- no value starts at 0
@@ -88,14 +89,14 @@ Here t c rest =
     let a = c .before .before .before .before .before .before .before .args in
     let l = c .before .before .before .before .before .loop in
     let v = c .before .kind .given .0 in
-    openOnward (a .inner) (a .want) (valueAt (a .s .now) (l .list)) (valueAt (a .s .now) (l .sub)) (tlv (v .0) (part (a .s .now) (v .1 .0) (v .1 .1 .0)) rest)
+    openOnward (valueAt (a .s .now) (l .list)) (valueAt (a .s .now) (l .sub)) (tlv (v .0) (part (a .s .now) (v .1 .0) (v .1 .1 .0)) rest) (a .inner) (a .want)
 
 stepped : (t : ℕ) (c : Read t) (list sub : Span)
     → (let a = c .before .before .before .before .before .before .before .args in
     let v = c .before .kind .given .0 in
-    Listed (a .s .now) list → Inside (length (a .s .now)) sub
-    → ((rest : Tlvs) → Here t c rest ≡ openOnward (a .inner) (a .want) (valueAt (a .s .now) list) (valueAt (a .s .now) sub) rest)
-    → walk-Inv-loop (a .s .now) (a .start) (a .end) (a .inner) (a .want) (a .start) lost lost (v .1 .1 .1 .0) list sub)
+    Listed (a .s .now) list → Inside sub (length (a .s .now))
+    → ((rest : Tlvs) → Here t c rest ≡ openOnward (valueAt (a .s .now) list) (valueAt (a .s .now) sub) rest (a .inner) (a .want))
+    → walk-Inv-loop (a .s .now) (a .inner) (a .want) (a .start) (a .end) (a .start) lost lost (v .1 .1 .1 .0) list sub)
 stepped t c list sub i j e =
     let l = c .before .before .before .before .before .loop in
     let b = within t c in (
@@ -108,7 +109,7 @@ stepped t c list sub i j e =
 
 stopped : (t : ℕ) (c : Read t)
     → (let a = c .before .before .before .before .before .before .before .args in
-    ((rest : Tlvs) → Here t c rest ≡ torn) → torn ≡ openWalk (a .inner) (a .want) (part (a .s .now) (a .start) (a .end - a .start)))
+    ((rest : Tlvs) → Here t c rest ≡ torn) → torn ≡ openWalk (part (a .s .now) (a .start) (a .end - a .start)) (a .inner) (a .want))
 stopped t c e =
     let l = c .before .before .before .before .before .loop in
     Laws.left-torn (l .inv .3) (c .before .before .before .before .loop-test .taken) (omega arith)
@@ -123,7 +124,7 @@ entered : (t : ℕ) (c : Enter t) (rest : Tlvs)
     let a = r .before .before .before .before .before .before .before .args in
     let l = r .before .before .before .before .before .loop in
     let v = r .before .kind .given .0 in
-    Here t r rest ≡ cond (tlvsWhole rest) (insideOf (a .want) (valueAt (a .s .now) (l .sub)) (some (part (a .s .now) (v .1 .0) (v .1 .1 .0)))) torn)
+    Here t r rest ≡ cond (tlvsWhole rest) (insideOf (valueAt (a .s .now) (l .sub)) (some (part (a .s .now) (v .1 .0) (v .1 .1 .0))) (a .want)) torn)
 entered t c rest =
     let r = c .before .before .before .before in
     let a = r .before .before .before .before .before .before .before .args in
@@ -179,7 +180,7 @@ walked : (t : ℕ) (c : Walked t)
     → (let r = c .before .before .before .before .before .before .before .before in
     let a = r .before .before .before .before .before .before .before .args in
     let v = part (a .s .now) (r .before .kind .given .0 .1 .0) (r .before .kind .given .0 .1 .1 .0) in
-    sightOf (a .s .now) (c .walk .result) ≡ openWalk true (a .want) (drop (listSize v) v))
+    sightOf (a .s .now) (c .walk .result) ≡ openWalk (drop (listSize v) v) true (a .want))
 walked t c =
     let r = c .before .before .before .before .before .before .before .before in
     let v = r .before .kind .given .0 in

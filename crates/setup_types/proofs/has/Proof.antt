@@ -9,7 +9,7 @@ use Rattle.setup_types.proofs.has.Statement.{statement}
 use Rattle.setup_types.proofs.has.Tie as tie
 
 abbrev Inv-loop : tie.InvT-loop
-Inv-loop p x i₀ i = (i ≤ length p) × (hasOf x (drop i p) ≡ hasOf x p)
+Inv-loop p x i₀ i = (i ≤ length p) × (hasOf (drop i p) x ≡ hasOf p x)
 
 abbrev μ-loop : tie.MeasureT-loop
 μ-loop p x i₀ i = length p - i

@@ -1,6 +1,7 @@
 use Rattle.command_forms.proofs.Laws.{table, count, name-in, Looking, looking-start, looking-hit, looking-miss, looking-end}
 use Rattle.command_forms.specs.Forms.{rows}
-use Rattle.words.specs.Words.{newline, wordOf, sameOf}
+use Rattle.words.specs.Words.{newline, wordOf}
+use Rattle.same_octets.specs.Same.{sameOctets}
 use Prim.Native.Nat.{ℕ, _-_, _<_}
 use mathlib.Core.List.{List}
 use mathlib.Core.Path.{_≡_, refl, sym, _∙_, ap}
@@ -43,7 +44,7 @@ returns c =
     let inv = before6 .loop .inv in
     let h : before6 .loop .i < length rows = omega (arith, inv .1, c .before .before .before .before .before .loop-test .taken) in
     let e = name-in (before6 .loop .i) (inv .0) (c .before .before .before .word .ensures .0) (c .before .before .word2 .ensures .0) in
-    looking-hit _ _ h (inv .2) (sym (c .before .same .ensures ∙ ap (λ (x : List ℕ). sameOf (before6 .before .before .before .before .args .w .now) x) e) ∙ c .if1 .taken)
+    looking-hit _ _ h (inv .2) (sym (c .before .same .ensures ∙ ap (λ (x : List ℕ). sameOctets (before6 .before .before .before .before .args .w .now) x) e) ∙ c .if1 .taken)
 
 add-i : tie.Need-add-i Inv-loop μ-loop
 add-i c = omega arith
@@ -57,7 +58,7 @@ loop-again c =
     let inv = before6 .loop .inv in
     let h : before6 .loop .i < length rows = omega (arith, inv .1, c .before .before .before .before .before .loop-test .taken) in
     let e = name-in (before6 .loop .i) (inv .0) (c .before .before .before .word .ensures .0) (c .before .before .word2 .ensures .0) in
-    (inv .0, inv .1, looking-miss _ _ h (inv .2) (sym (c .before .same .ensures ∙ ap (λ (x : List ℕ). sameOf (before6 .before .before .before .before .args .w .now) x) e) ∙ c .if1 .left))
+    (inv .0, inv .1, looking-miss _ _ h (inv .2) (sym (c .before .same .ensures ∙ ap (λ (x : List ℕ). sameOctets (before6 .before .before .before .before .args .w .now) x) e) ∙ c .if1 .left))
 
 returns-2 : tie.Need-returns-2 Inv-loop μ-loop
 returns-2 c = looking-end _ _ (omega (arith, c .before .loop .inv .1, c .loop-test .left)) (c .before .loop .inv .2)

@@ -23,12 +23,12 @@ good c = sym (c .before .is-framed .ensures .0) ∙ not-false _ (c .if2 .left)
 
 -- where the walks have been made
 walked : (c : tie.After-walk)
-    → (let s = c .before .before .before .before .before .before .args .s .now in sightOf s (c .walk .result) ≡ openWalk false srv6Capability (drop tlvsAt s))
+    → (let s = c .before .before .before .before .before .before .args .s .now in sightOf s (c .walk .result) ≡ openWalk (drop tlvsAt s) false srv6Capability)
 walked c = rw (part-rest (c .before .before .before .before .before .before .args .s .now) tlvsAt) at (c .walk .ensures .0)
 
 walked-again : (c : tie.After-walk2)
     → (let s = c .before .before .before .before .before .before .before .before .before .before .before .before .before .args .s .now in
-    sightOf s (c .walk2 .result) ≡ openWalk false mplsCapability (drop tlvsAt s))
+    sightOf s (c .walk2 .result) ≡ openWalk (drop tlvsAt s) false mplsCapability)
 walked-again c = rw (part-rest (c .before .before .before .before .before .before .before .before .before .before .before .before .before .args .s .now) tlvsAt) at (c .walk2 .ensures .0)
 
 usable-requires : tie.Need-usable-requires

@@ -3,15 +3,15 @@ use Prim.Native.Nat.{ℕ}
 use mathlib.Core.Bool.{cond}
 use mathlib.Core.List.{List, [], _∷_}
 use lib.Dec.{eqb}
-use Rattle.subobject.specs.Rules.{Subject, Row}
+use Rattle.subobject.specs.Rules.{Subject, RuleRow}
 use Rattle.frame.specs.Checks.{Check, check}
 
 -- The rows of a table as checks of one subobject. The place is "for 6 to 11 the octet of the subobject at fault, .. otherwise 0".
-abbrev pub checksBy : List Row → Subject → ℕ → List Check
+abbrev pub checksBy : List RuleRow → Subject → ℕ → List Check
 checksBy [] x place = []
 checksBy (r ∷ rs) x place = check (r .number) (cond (r .placed) place 0) (r .broken x) ∷ checksBy rs x place
 
 -- A table without the rule of a number.
-abbrev pub without : ℕ → List Row → List Row
-without number [] = []
-without number (r ∷ rs) = cond (eqb number (r .number)) (without number rs) (r ∷ without number rs)
+abbrev pub without : List RuleRow → ℕ → List RuleRow
+without [] number = []
+without (r ∷ rs) number = cond (eqb number (r .number)) (without rs number) (r ∷ without rs number)

@@ -9,11 +9,11 @@ use native.Mathlib.Omega.{arith}
 use borrow.Author.Tests.{eq-eqb, ne-eqb, eqb-true, eqb-false}
 use Rattle.octets.specs.Octets.{octetOf}
 use Rattle.objects.specs.Objects.{header}
-use Rattle.frame.specs.Chains.{Chain, stop, link}
+use Rattle.frame.specs.Fills.{FillsFrom, stop, link}
 use Rattle.frame.specs.Frames.{Apart, fitsIn, ended, unfilled, from, apart, apartOf, placesOf}
 use Rattle.frame.proofs.Laws.{fits-true, parted}
 
-whole-from : (f : ℕ) (s : List ℕ) (at : ℕ) → apart s at f .whole ≡ true → Chain s at (apart s at f .places)
+whole-from : (f : ℕ) (s : List ℕ) (at : ℕ) → apart s at f .whole ≡ true → FillsFrom s at (apart s at f .places)
 unfolding apart
 whole-from zero s at w = absurd (let z : _≡_ {A = ℕ} 0 1 = cc in omega arith)
 whole-from (suc f) s at w =
@@ -21,24 +21,24 @@ whole-from (suc f) s at w =
   where
     go : (x : Bool) → eqb at (length s) ≡ x → (y : Bool) → fitsIn (octetOf s (at + 1)) (length s - at) ≡ y
         → cond x ended (cond y (from at (apart s (at + octetOf s (at + 1)) f)) unfilled) .whole ≡ true
-        → (apart s (at + octetOf s (at + 1)) f .whole ≡ true → Chain s (at + octetOf s (at + 1)) (apart s (at + octetOf s (at + 1)) f .places))
-        → Chain s at (cond x ended (cond y (from at (apart s (at + octetOf s (at + 1)) f)) unfilled) .places)
+        → (apart s (at + octetOf s (at + 1)) f .whole ≡ true → FillsFrom s (at + octetOf s (at + 1)) (apart s (at + octetOf s (at + 1)) f .places))
+        → FillsFrom s at (cond x ended (cond y (from at (apart s (at + octetOf s (at + 1)) f)) unfilled) .places)
     go true e y d w rest = stop (eqb-true at (length s) e)
     go false e false d w rest = absurd (let z : _≡_ {A = ℕ} 0 1 = cc in omega arith)
     go false e true d w rest = link (eqb-false at (length s) e) d (rest w)
 
-from-whole : (s : List ℕ) (at : ℕ) (ps : List ℕ) → Chain s at ps → (f : ℕ) → length s - at < f → apart s at f ≡ record { whole = true; places = ps }
+from-whole : (s : List ℕ) (at : ℕ) (ps : List ℕ) → FillsFrom s at ps → (f : ℕ) → length s - at < f → apart s at f ≡ record { whole = true; places = ps }
 from-whole s at [] (stop e) f h = rw (parted f s at (omega arith), eq-eqb at (length s) e)
 from-whole s at (p ∷ ps) (link n d c) f h =
     let r = from-whole s (at + octetOf s (at + 1)) ps c (pred f) (omega (arith, fits-true (octetOf s (at + 1)) (length s - at) d)) in
     rw (parted f s at (omega arith), ne-eqb at (length s) n, d, r)
 
 -- A whole frame's subobjects fill it,
-pub whole-chain : (s : List ℕ) → apartOf s .whole ≡ true → Chain s header (placesOf s)
+pub whole-fills : (s : List ℕ) → apartOf s .whole ≡ true → FillsFrom s header (placesOf s)
 unfolding apartOf
-whole-chain s w = whole-from (suc (length s)) s header w
+whole-fills s w = whole-from (suc (length s)) s header w
 
 -- and a frame that subobjects fill is whole, with their places.
-pub chain-whole : (s ps : List ℕ) → Chain s header ps → apartOf s ≡ record { whole = true; places = ps }
+pub fills-whole : (s ps : List ℕ) → FillsFrom s header ps → apartOf s ≡ record { whole = true; places = ps }
 unfolding apartOf
-chain-whole s ps c = from-whole s header ps c (suc (length s)) (omega arith)
+fills-whole s ps c = from-whole s header ps c (suc (length s)) (omega arith)

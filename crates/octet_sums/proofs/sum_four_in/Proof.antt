@@ -1,8 +1,10 @@
+-- The four octets are read one by one; their sum is `sumAt` by its definition.
+use native.Mathlib.Omega.{arith}
 use borrow.Author.Needs.{needs}
 use Rattle.octets.specs.Octets.{octetOf}
-use Rattle.subobject.specs.Rules.{sumAt}
-use Rattle.subobject_sound.proofs.sound.sum_in.Statement.{statement}
-use Rattle.subobject_sound.proofs.sound.sum_in.Tie as tie
+use Rattle.octet_sums.specs.Sums.{sumAt}
+use Rattle.octet_sums.proofs.sum_four_in.Statement.{statement}
+use Rattle.octet_sums.proofs.sum_four_in.Tie as tie
 
 shared-slice-read-wide : tie.Need-shared-slice-read-wide
 shared-slice-read-wide c = search needs
@@ -48,10 +50,10 @@ add-result-3 c = search needs
 
 returns : tie.Need-returns
 unfolding sumAt octetOf
-returns c = cc
+returns c = (cc, omega arith)
 
-pub sum-in-spec : {M : Type 1} → statement M
-sum-in-spec =
+pub sum-four-in-spec : {M : Type 1} → statement M
+sum-four-in-spec =
     tie.close
     (tie.spec
     shared-slice-read-wide

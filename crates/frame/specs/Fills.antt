@@ -9,7 +9,7 @@ use Rattle.subobject.specs.Layout.{sizeAt}
 use Rattle.frame.specs.Frames.{fitsIn}
 
 -- The subobjects from a place on stand at these places, and fill the object to its end.
-pub data Chain (s : List ℕ) : ℕ → List ℕ → Type 0 where
-  stop : {at : ℕ} → at ≡ length s → Chain s at []
-  link : {at : ℕ} {ps : List ℕ} → (at ≡ length s → ⊥) → fitsIn (sizeAt s at) (length s - at) ≡ true → Chain s (at + sizeAt s at) ps
-      → Chain s at (at ∷ ps)
+pub data FillsFrom (s : List ℕ) : ℕ → List ℕ → Type 0 where
+  stop : {at : ℕ} → at ≡ length s → FillsFrom s at []
+  link : {at : ℕ} {ps : List ℕ} → (at ≡ length s → ⊥) → fitsIn (sizeAt s at) (length s - at) ≡ true → FillsFrom s (at + sizeAt s at) ps
+      → FillsFrom s at (at ∷ ps)

@@ -1,21 +1,22 @@
-use Rattle.words.proofs.Laws.{same-length, same-miss, same-hit, same-end}
-use Rattle.words.specs.Words.{sameOf}
+-- A walk from the first octet on; the invariant: what is left of both decides (`same-hit`), and they are as long.
+use Rattle.same_octets.proofs.Laws.{same-lengths, same-miss, same-hit, same-end}
+use Rattle.same_octets.specs.Same.{sameOctets}
 use lib.ListN.{length, drop}
 use Prim.Native.Nat.{ℕ, suc, _+_, _-_, _≤_, _<_}
 use mathlib.Core.Path.{_≡_, refl, sym, _∙_, ap}
 use native.Mathlib.Omega.{arith}
 use borrow.Author.Needs.{needs}
-use Rattle.words.proofs.same.Statement.{statement}
-use Rattle.words.proofs.same.Tie as tie
+use Rattle.same_octets.proofs.same.Statement.{statement}
+use Rattle.same_octets.proofs.same.Tie as tie
 
 abbrev Inv-loop : tie.InvT-loop
-Inv-loop word name i₀ i = (i ≤ length word) × (length word ≡ length name) × (sameOf (drop i word) (drop i name) ≡ sameOf word name)
+Inv-loop xs ys i₀ i = (i ≤ length xs) × (length xs ≡ length ys) × (sameOctets (drop i xs) (drop i ys) ≡ sameOctets xs ys)
 
 abbrev μ-loop : tie.MeasureT-loop
-μ-loop word name i₀ i = length word - i
+μ-loop xs ys i₀ i = length xs - i
 
 returns : tie.Need-returns Inv-loop μ-loop
-returns c = sym (same-length (c .before .args .word .now) (c .before .args .name .now) (c .if1 .taken))
+returns c = sym (same-lengths (c .before .args .xs .now) (c .before .args .ys .now) (c .if1 .taken))
 
 loop-holds : tie.Need-loop-holds Inv-loop μ-loop
 loop-holds c = (search needs, search needs, refl)
@@ -30,7 +31,7 @@ returns-2 : tie.Need-returns-2 Inv-loop μ-loop
 returns-2 c =
     let before4 = c .before .before .before .before in
     sym
-    (same-miss (before4 .before .before .args .word .now) (before4 .before .before .args .name .now) (before4 .loop .i)
+    (same-miss (before4 .before .before .args .xs .now) (before4 .before .before .args .ys .now) (before4 .loop .i)
     (omega arith) (omega arith) (c .if2 .taken))
     ∙ before4 .loop .inv .2
 
@@ -46,13 +47,13 @@ loop-again c =
       omega arith,
       search needs,
       sym
-          (same-hit (before4 .before .before .args .word .now) (before4 .before .before .args .name .now)
+          (same-hit (before4 .before .before .args .xs .now) (before4 .before .before .args .ys .now)
           (before4 .loop .i) (omega arith) (omega arith) (c .if2 .left))
           ∙ before4 .loop .inv .2,
     )
 
 returns-3 : tie.Need-returns-3 Inv-loop μ-loop
-returns-3 c = sym (same-end (c .before .before .before .args .word .now) (c .before .before .before .args .name .now) (c .before .loop .i) (omega arith) (omega arith)) ∙ c .before .loop .inv .2
+returns-3 c = sym (same-end (c .before .before .before .args .xs .now) (c .before .before .before .args .ys .now) (c .before .loop .i) (omega arith) (omega arith)) ∙ c .before .loop .inv .2
 
 pub same-spec : {M : Type 1} → statement M
 same-spec =
