@@ -17,25 +17,25 @@ pub use Rattle.writer_tests.specs.Places.{mostOctets}
 -- add ----------------------------------------------------------------------------------------------------------
 
 -- 7: "structure without a SID, L or V in an RRO, such octets not 0"; what is foreign to the form, and flags that are malformed, as in reading.
-unfoldable pub unfit : Form → Bool → Segment → Bool
-unfit form ero g =
+unfoldable pub unfit : Form → Segment → Bool → Bool
+unfit form g ero =
     (g .structured && not (g .hassid))
     || ((not ero && (g .loose || g .verify)) || (not (tidyOf form g) || (foreign form (outlineOf g) || malformed (headOfSegment form g))))
 
 -- 16: the object would pass that end, or the place is bad.
-unfoldable pub noRoom : Form → ℕ → ℕ → Segment → Bool
-noRoom form at room g = badPlace at room || passes (at + length (subobjectOf form g)) room
+unfoldable pub noRoom : Form → Segment → ℕ → ℕ → Bool
+noRoom form g at room = badPlace at room || passes (at + length (subobjectOf form g)) room
 
 -- "Adding checks 8, 9, 7 (..), 11, then 16"; "29 and 30 after 11, before 16". The head is the one that the segment is written with: "F follows from NT". A label
 -- and its TTL are those of the segment's SID.
-unfoldable pub addNumber : Form → Bool → ℕ → ℕ → Segment → ℕ
-addNumber form ero at room g =
+unfoldable pub addNumber : Form → Segment → Bool → ℕ → ℕ → ℕ
+addNumber form g ero at room =
     cond (rule8 form (headOfSegment form g)) naiUnknown
     (cond (rule9 (headOfSegment form g)) nothingThere
-    (cond (unfit form ero g) lengthWrong
+    (cond (unfit form g ero) lengthWrong
     (cond (rule11 (headOfSegment form g) (bitsOf g)) structureTooLong
     (cond (rule29 (headOfSegment form g) (labelAt (g .sid) 0)) labelValue
-    (cond (rule30 (headOfSegment form g) (timeAt (g .sid) 0)) labelFormat (cond (noRoom form at room g) bufferFull 0))))))
+    (cond (rule30 (headOfSegment form g) (timeAt (g .sid) 0)) labelFormat (cond (noRoom form g at room) bufferFull 0))))))
 
 -- finish -------------------------------------------------------------------------------------------------------
 
