@@ -1,8 +1,8 @@
 -- Every call answers by the first broken check of its list, in the paper's order (specs/Checks): it refuses with n at p exactly if a check of that number and place is broken and
--- none before it is, and accepts exactly if none is broken. One law over any list says so (`by-first`), from the equality of the answer and the list's. That equality mostly
+-- none before it is, and accepts exactly if none is broken. One law over any list says so (`by-first` in frame/proofs/Checks), from the equality of the answer and the list's. That equality mostly
 -- computes, the definition being the list taken apart; but a report has the route's own list in its midst, whose answer counts only where one of its checks is broken (`followed`), and
 -- on a record 17 has one part more (`with-rows`). Assumes nothing.
-use Prim.Native.Nat.{ℕ, _<_, _≤_, max}
+use Prim.Native.Nat.{ℕ, max}
 use native.Mathlib.Omega.{arith}
 use mathlib.Core.Path.{_≡_, refl, sym, ap, _∙_}
 use mathlib.Core.Bool.{Bool, true, false, not, cond, _&&_, _||_}
@@ -17,7 +17,7 @@ use Rattle.octets.proofs.Said.{both-true}
 use Rattle.session.specs.declared.Session.{Session}
 use Rattle.forms.specs.Forms.{formOf}
 use Rattle.frame.specs.Checks.{Check, check, firstBroken}
-use Rattle.frame.proofs.Checks.{first-append, None, Numbered, none-first, numbered-append, first-none, first-some, checkOf, First, first-answer, Found, answer-first}
+use Rattle.frame.proofs.Checks.{first-append, None, Numbered, none-first, numbered-append, first-none, first-some, ByFirst, by-first}
 use Rattle.route.specs.Routes.{checksOf, acceptanceOf, judgeAs, judgeOf}
 use Rattle.route.proofs.Answer.{numbered-all}
 use Rattle.board_record.specs.Sizes.{places, room, versionMost}
@@ -40,26 +40,6 @@ use Rattle.board_rules.specs.Next.{nextRules, nextVerdict, changeAt, han
 use Rattle.board_rules.specs.Moved.{movedRules, movedVerdict, movedAnswer}
 use Rattle.board_rules.specs.OnRecord.{isRecord, verdictOn, resultOn, reportOn, removeOn, compactOn, bodyNumberOn, nextOn, movedOn}
 use Rattle.board_rules.specs.Checks.{pathAtB, fullB, reportChecks, removeChecks, compactChecks, bodyChecks, nextChecks, movedChecks, verdictIn}
-
--- ---- one law over any list
-pub record ByFirst (v : Verdict) (cs : List Check) (after : Verdict) : Type 0 where
-  pub refused : (n p : ℕ) → 0 < n → v ≡ refusedBy n p → Found cs n p
-  pub first : (n p : ℕ) → Found cs n p → v ≡ refusedBy n p
-  pub accepted : v .number ≡ 0 → None cs
-  pub unbroken : None cs → v ≡ after
-
-pub by-first : (v : Verdict) (cs : List Check) (after : Verdict) → Numbered cs → after .number ≡ 0 → v ≡ firstBroken cs after → ByFirst v cs after
-by-first v cs after ns z e =
-    record {
-      refused = λ n p l q. answer-first cs after n p (λ y. omega (arith, l, z, y)) (sym e ∙ q);
-      first = λ n p f. e ∙ first-answer cs after (f .rank) (f .first) ∙ named n p f;
-      accepted = λ q. first-none cs after ns (ap (λ (x : Verdict). x .number) (sym e) ∙ q);
-      unbroken = λ h. e ∙ none-first cs after h;
-    }
-  where
-    named : (n p : ℕ) (f : Found cs n p) → refusedBy (checkOf cs (f .rank) .number) (checkOf cs (f .rank) .place) ≡ refusedBy n p
-    named n p f =
-        ap (λ (x : ℕ). refusedBy x (checkOf cs (f .rank) .place)) (f .number) ∙ ap (refusedBy n) (f .place)
 
 -- the rest of a list
 abbrev later : List Check → List Check

@@ -38,7 +38,7 @@ pub state-kept : (b : List ℕ) (w : Writer) (g : Segment) (v : Written) → v �
 unfolding addAnswerIn
 state-kept b w g v e =
     let form = formOf (w .form) in
-    let n = addNumber form (w .ero) (w .at) (length b) g in
+    let n = addNumber form g (w .ero) (w .at) (length b) in
     let new : Writer = record { ero = w .ero; at = w .at + length (subobjectOf form g); form = w .form } in
     (ap (λ (x : Written). x .writer .ero) e ∙ eros n new refl, ap (λ (x : Written). x .writer .form) e ∙ forms n new refl)
   where

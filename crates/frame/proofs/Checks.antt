@@ -115,3 +115,25 @@ answer-first (c ∷ cs) after n p z e = go (c .broken) refl (λ r. answer-first 
     go false k rest =
         let r = rest (rw k at e) in
         record { rank = suc (r .rank); first = first-later c cs (r .rank) k (r .first); number = r .number; place = r .place }
+
+-- answers by the first broken check ----------------------------------------------------------------------------
+
+-- A verdict refuses with n at p exactly if a check of that number and place is broken and none before it is, and accepts exactly if none is broken.
+pub record ByFirst (v : Verdict) (cs : List Check) (after : Verdict) : Type 0 where
+  pub refused : (n p : ℕ) → 0 < n → v ≡ refusedBy n p → Found cs n p
+  pub first : (n p : ℕ) → Found cs n p → v ≡ refusedBy n p
+  pub accepted : v .number ≡ 0 → None cs
+  pub unbroken : None cs → v ≡ after
+
+pub by-first : (v : Verdict) (cs : List Check) (after : Verdict) → Numbered cs → after .number ≡ 0 → v ≡ firstBroken cs after → ByFirst v cs after
+by-first v cs after ns z e =
+    record {
+      refused = λ n p l q. answer-first cs after n p (λ y. omega (arith, l, z, y)) (sym e ∙ q);
+      first = λ n p f. e ∙ first-answer cs after (f .rank) (f .first) ∙ named n p f;
+      accepted = λ q. first-none cs after ns (ap (λ (x : Verdict). x .number) (sym e) ∙ q);
+      unbroken = λ h. e ∙ none-first cs after h;
+    }
+  where
+    named : (n p : ℕ) (f : Found cs n p) → refusedBy (checkOf cs (f .rank) .number) (checkOf cs (f .rank) .place) ≡ refusedBy n p
+    named n p f =
+        ap (λ (x : ℕ). refusedBy x (checkOf cs (f .rank) .place)) (f .number) ∙ ap (refusedBy n) (f .place)

@@ -60,7 +60,7 @@ module _ (g : Segment) (no-m : g .labelled ≡ false) (no-c : g .complete ≡ fa
   unfolding foreign
   own = rw (no-m, no-c)
 
-  unfit-alone : (ero : Bool) → unfit srv6Form ero g ≡ unfitAlone ero g
+  unfit-alone : (ero : Bool) → unfit srv6Form g ero ≡ unfitAlone g ero
   unfolding unfit
   unfit-alone ero =
       rw (tidy-alone g)
@@ -87,18 +87,18 @@ module _ (g : Segment) (no-m : g .labelled ≡ false) (no-c : g .complete ≡ fa
   r30 = rw unlabelled
 
   -- and what refuses it.
-  pub number-alone : (room : ℕ) (ero : Bool) (at : ℕ) → addNumber srv6Form ero at room g ≡ numberAlone ero at room g
+  pub number-alone : (room : ℕ) (ero : Bool) (at : ℕ) → addNumber srv6Form g ero at room ≡ numberAlone g ero at room
   unfolding addNumber noRoom
   number-alone room ero at = rw (r8, r9, unfit-alone ero, r11, r29, r30, octets-alone g)
 
   -- **Added under every setup type but 1, it is refused as SRv6's own or written as SRv6's own.**
   pub added-alone : (b : List ℕ) (w : Writer) → (w .form ≡ mplsSetup → ⊥)
       → addAnswer b w g
-      ≡ answered (numberAlone (w .ero) (w .at) (length b) g) w (record { ero = w .ero; at = w .at + length (octetsAlone g); form = w .form })
+      ≡ answered (numberAlone g (w .ero) (w .at) (length b)) w (record { ero = w .ero; at = w .at + length (octetsAlone g); form = w .form })
   unfolding addAnswerIn
   added-alone b w n = rw (← form-srv6 (w .form) n, number-alone (length b) (w .ero) (w .at), octets-alone g)
 
   pub written-alone : (b : List ℕ) (w : Writer) → (w .form ≡ mplsSetup → ⊥)
-      → addBuffer b w g ≡ kept (numberAlone (w .ero) (w .at) (length b) g) b (placed b (w .at) (octetsAlone g))
+      → addBuffer b w g ≡ kept (numberAlone g (w .ero) (w .at) (length b)) b (placed b (w .at) (octetsAlone g))
   unfolding addBufferIn
   written-alone b w n = rw (← form-srv6 (w .form) n, number-alone (length b) (w .ero) (w .at), octets-alone g)

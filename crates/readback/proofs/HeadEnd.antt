@@ -16,20 +16,20 @@ use Rattle.subobject_strays.specs.Strays.{noStrays}
 use Rattle.route_call.specs.Called.{rule28, judgedIn, segmentIn, judgedFor, segmentFor}
 use Rattle.route_call.proofs.Theorems.{neither-agreed, neither-agreed-picked}
 use Rattle.writer_state.specs.declared.Writer.{Writer}
-use Rattle.readback.specs.Runs.{writeRun, Accepted, objectIn, AllHeld, openSession}
+use Rattle.readback.specs.Runs.{writeRun, Accepted, objectIn, AllTyped, openSession}
 use Rattle.readback.proofs.Theorems as inner
 
-module _ (ero : Bool) (pst : ℕ) (gs : List Segment) (b : List ℕ) (w : Writer) (held : AllHeld gs) (accepted : Accepted (writeRun b w ero pst gs)) (addresses : List ℕ)
+module _ (ero : Bool) (pst : ℕ) (gs : List Segment) (b : List ℕ) (w : Writer) (typed : AllTyped gs) (accepted : Accepted (writeRun b w gs ero pst)) (addresses : List ℕ)
     (usable : rule28 addresses ≡ false) (both : Sessions) (agreed : sessionUnder both (formOf pst .setup) ≡ openSession) where
-  pub read-back : judgedFor (objectIn (writeRun b w ero pst gs)) ero both (formOf pst .setup) addresses ≡ acceptedWith (length gs)
+  pub read-back : judgedFor (objectIn (writeRun b w gs ero pst)) ero both (formOf pst .setup) addresses ≡ acceptedWith (length gs)
   read-back =
-      ap (λ (x : Session). judgedIn (objectIn (writeRun b w ero pst gs)) ero x (formOf pst .setup) addresses) agreed
-      ∙ neither-agreed (objectIn (writeRun b w ero pst gs)) ero openSession (formOf pst .setup) addresses usable refl refl
-      ∙ inner.read-back ero pst gs b w held accepted
+      ap (λ (x : Session). judgedIn (objectIn (writeRun b w gs ero pst)) ero x (formOf pst .setup) addresses) agreed
+      ∙ neither-agreed (objectIn (writeRun b w gs ero pst)) ero openSession (formOf pst .setup) addresses usable refl refl
+      ∙ inner.read-back ero pst gs b w typed accepted
 
-  pub segments-back : (i : ℕ) → i < length gs → segmentFor (objectIn (writeRun b w ero pst gs)) ero both (formOf pst .setup) addresses i
+  pub segments-back : (i : ℕ) → i < length gs → segmentFor (objectIn (writeRun b w gs ero pst)) ero both (formOf pst .setup) addresses i
       ≡ record { verdict = acceptedWith (length gs); segment = getD gs i noSegment; strays = noStrays }
   segments-back i h =
-      ap (λ (x : Session). segmentIn (objectIn (writeRun b w ero pst gs)) ero x (formOf pst .setup) addresses i) agreed
-      ∙ neither-agreed-picked (objectIn (writeRun b w ero pst gs)) ero openSession (formOf pst .setup) addresses i usable refl refl
-      ∙ inner.segments-back ero pst gs b w held accepted i h
+      ap (λ (x : Session). segmentIn (objectIn (writeRun b w gs ero pst)) ero x (formOf pst .setup) addresses i) agreed
+      ∙ neither-agreed-picked (objectIn (writeRun b w gs ero pst)) ero openSession (formOf pst .setup) addresses i usable refl refl
+      ∙ inner.segments-back ero pst gs b w typed accepted i h

@@ -89,16 +89,16 @@ pub finish-number : (b : List ℕ) (w : Writer) → finishAnswer b w .verdict .n
 unfolding finishAnswer
 finish-number b w = number-answered (finishNumber (w .at) (length b)) w w
 
-pub add-number : (b : List ℕ) (w : Writer) (g : Segment) → addAnswer b w g .verdict .number ≡ addNumber (formOf (w .form)) (w .ero) (w .at) (length b) g
+pub add-number : (b : List ℕ) (w : Writer) (g : Segment) → addAnswer b w g .verdict .number ≡ addNumber (formOf (w .form)) g (w .ero) (w .at) (length b)
 unfolding addAnswerIn
-add-number b w g = number-answered (addNumber (formOf (w .form)) (w .ero) (w .at) (length b) g) w _
+add-number b w g = number-answered (addNumber (formOf (w .form)) g (w .ero) (w .at) (length b)) w _
 
 pub begin-number : (b : List ℕ) (w : Writer) (ero : Bool) (pst : ℕ) → beginAnswer b w ero pst .verdict .number ≡ beginNumber (length b)
 unfolding beginAnswer
 begin-number b w ero pst = number-answered (beginNumber (length b)) w _
 
 -- A call that accepts hands on its state and its buffer.
-pub add-onward : (b : List ℕ) (w : Writer) (g : Segment) (next : List ℕ → Writer → Run) → addNumber (formOf (w .form)) (w .ero) (w .at) (length b) g ≡ 0
+pub add-onward : (b : List ℕ) (w : Writer) (g : Segment) (next : List ℕ → Writer → Run) → addNumber (formOf (w .form)) g (w .ero) (w .at) (length b) ≡ 0
     → onward (addRun b w g) next
     ≡ next (placed b (w .at) (subobjectOf (formOf (w .form)) g)) (record { ero = w .ero; at = w .at + length (subobjectOf (formOf (w .form)) g); form = w .form })
 unfolding addAnswerIn addBufferIn
@@ -118,7 +118,7 @@ unfolding addsRun headerOf
 adds [] body rest b w ee ea eb a = finished (formOf (w .form)) body rest b w ea eb (sym (finish-number b w) ∙ a)
 adds {ero} (g ∷ gs) body rest b w ee ea eb a =
     let form = formOf (w .form) in
-    let n = went-on (addRun b w g) (λ b′ w′. addsRun b′ w′ gs) a (addNumber form (w .ero) (w .at) (length b) g) (add-number b w g) in
+    let n = went-on (addRun b w g) (λ b′ w′. addsRun b′ w′ gs) a (addNumber form g (w .ero) (w .at) (length b)) (add-number b w g) in
     let x = subobjectOf form g in
     let q = add-onward b w g (λ b′ w′. addsRun b′ w′ gs) n in
     let e1 : placed b (w .at) x ≡ (headerOf ero 4 ++ body) ++ (x ++ drop (length x) rest)
@@ -136,29 +136,29 @@ adds-in form gs b w ef ee ea eb a = rw (← ef) (adds gs [] (drop 4 b) b w ee ea
 
 -- What an accepted run leaves.
 pub record Image (form : Form) (ero : Bool) (gs : List Segment) (r : Run) : Type 0 where
-  pub at : r .written .writer .at ≡ length (objectOf form ero gs)
-  pub object : objectIn r ≡ objectOf form ero gs
+  pub at : r .written .writer .at ≡ length (objectOf form gs ero)
+  pub object : objectIn r ≡ objectOf form gs ero
   pub fits : AllFit form ero gs
   pub most : 4 + length (writtenBody form gs) ≤ 65532
   pub fours : (4 + length (writtenBody form gs)) % 4 ≡ 0
   pub filled : length (writtenBody form gs) ≡ 0 → ⊥
 
-pub length-object : (form : Form) (ero : Bool) (gs : List Segment) → length (objectOf form ero gs) ≡ 4 + length (writtenBody form gs)
+pub length-object : (form : Form) (ero : Bool) (gs : List Segment) → length (objectOf form gs ero) ≡ 4 + length (writtenBody form gs)
 unfolding objectOf headerOf
 length-object form ero gs = omega arith
 
 -- The octets of a buffer that starts with an object, up to its place.
 cut : (form : Form) (ero : Bool) (gs : List Segment) (b rest : List ℕ) (at : ℕ) → at ≡ 4 + length (writtenBody form gs)
-    → b ≡ headerOf ero (4 + length (writtenBody form gs)) ++ (writtenBody form gs ++ rest) → take at b ≡ objectOf form ero gs
+    → b ≡ headerOf ero (4 + length (writtenBody form gs)) ++ (writtenBody form gs ++ rest) → take at b ≡ objectOf form gs ero
 unfolding objectOf headerOf
-cut form ero gs b rest at ea eb = rw (eb, ea) (take-at (objectOf form ero gs) rest (4 + length (writtenBody form gs)) (length-object form ero gs))
+cut form ero gs b rest at ea eb = rw (eb, ea) (take-at (objectOf form gs ero) rest (4 + length (writtenBody form gs)) (length-object form ero gs))
 
 begun : (b : List ℕ) (ero : Bool) → over (headerOf ero 4) b ≡ headerOf ero 4 ++ ([] ++ drop 4 (over (headerOf ero 4) b))
 unfolding headerOf over
 begun b ero = refl
 
-pub image : (ero : Bool) (pst : ℕ) (gs : List Segment) (b : List ℕ) (w : Writer) → Accepted (writeRun b w ero pst gs)
-    → Image (formOf pst) ero gs (writeRun b w ero pst gs)
+pub image : (ero : Bool) (pst : ℕ) (gs : List Segment) (b : List ℕ) (w : Writer) → Accepted (writeRun b w gs ero pst)
+    → Image (formOf pst) ero gs (writeRun b w gs ero pst)
 unfolding writeRun
 image ero pst gs b w a =
     let form = formOf pst in
@@ -178,6 +178,6 @@ image ero pst gs b w a =
 -- the second theorem: one object -------------------------------------------------------------------------------
 
 -- Any two finished objects of the same kind, form and segments are equal octet for octet, whatever the buffers and the states were.
-pub one-object : (ero : Bool) (pst : ℕ) (gs : List Segment) (b c : List ℕ) (v w : Writer) → Accepted (writeRun b v ero pst gs) → Accepted (writeRun c w ero pst gs)
-    → objectIn (writeRun b v ero pst gs) ≡ objectIn (writeRun c w ero pst gs)
+pub one-object : (ero : Bool) (pst : ℕ) (gs : List Segment) (b c : List ℕ) (v w : Writer) → Accepted (writeRun b v gs ero pst) → Accepted (writeRun c w gs ero pst)
+    → objectIn (writeRun b v gs ero pst) ≡ objectIn (writeRun c w gs ero pst)
 one-object ero pst gs b c v w p q = image ero pst gs b v p .object ∙ sym (image ero pst gs c w q .object)

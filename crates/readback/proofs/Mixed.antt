@@ -71,19 +71,19 @@ abbrev behind : Writer → Segment → Writer
 behind w g = record { ero = w .ero; at = w .at + length (subobjectOf (formOf (w .form)) g); form = w .form }
 
 -- An add that is accepted goes on.
-adds-on : (c : List ℕ) (w : Writer) (g : Segment) (gs : List Segment) → addNumber (formOf (w .form)) (w .ero) (w .at) (length c) g ≡ 0
+adds-on : (c : List ℕ) (w : Writer) (g : Segment) (gs : List Segment) → addNumber (formOf (w .form)) g (w .ero) (w .at) (length c) ≡ 0
     → addsRun c w (g ∷ gs) ≡ addsRun (placed c (w .at) (subobjectOf (formOf (w .form)) g)) (behind w g) gs
 unfolding addsRun
 adds-on c w g gs e = add-onward c w g (λ b′ w′. addsRun b′ w′ gs) e
 
 -- What a call leaves, by its number.
-after-add : (b : List ℕ) (w : Writer) (g : Segment) (cs : List WriterCall) → addNumber (formOf (w .form)) (w .ero) (w .at) (length b) g ≡ 0
+after-add : (b : List ℕ) (w : Writer) (g : Segment) (cs : List WriterCall) → addNumber (formOf (w .form)) g (w .ero) (w .at) (length b) ≡ 0
     → (actsRun b w (adding g ∷ cs) ≡ actsRun (placed b (w .at) (subobjectOf (formOf (w .form)) g)) (behind w g) cs)
     × (takenFrom b w (adding g ∷ cs) ≡ g ∷ takenFrom (placed b (w .at) (subobjectOf (formOf (w .form)) g)) (behind w g) cs)
 unfolding actsRun takenFrom addAnswerIn addBufferIn
 after-add b w g cs e = (rw e, rw e)
 
-after-refused : (b : List ℕ) (w : Writer) (g : Segment) (cs : List WriterCall) (k : ℕ) → addNumber (formOf (w .form)) (w .ero) (w .at) (length b) g ≡ suc k
+after-refused : (b : List ℕ) (w : Writer) (g : Segment) (cs : List WriterCall) (k : ℕ) → addNumber (formOf (w .form)) g (w .ero) (w .at) (length b) ≡ suc k
     → (actsRun b w (adding g ∷ cs) ≡ actsRun b w cs) × (takenFrom b w (adding g ∷ cs) ≡ takenFrom b w cs)
 unfolding actsRun takenFrom addAnswerIn addBufferIn
 after-refused b w g cs k e = (rw e, rw e)
@@ -104,7 +104,7 @@ abbrev Same : Bool → List WriterCall → Type 0
 Same ero cs = (b c : List ℕ) (w : Writer) → Alike ero b c → Accepted (actsRun b w cs) → actsRun b w cs ≡ addsRun c w (takenFrom b w cs)
 
 add-turn : {ero : Bool} (g : Segment) (cs : List WriterCall) → Same ero cs → (b c : List ℕ) (w : Writer) → Alike ero b c → Accepted (actsRun b w (adding g ∷ cs))
-    → (n : ℕ) → addNumber (formOf (w .form)) (w .ero) (w .at) (length b) g ≡ n → actsRun b w (adding g ∷ cs) ≡ addsRun c w (takenFrom b w (adding g ∷ cs))
+    → (n : ℕ) → addNumber (formOf (w .form)) g (w .ero) (w .at) (length b) ≡ n → actsRun b w (adding g ∷ cs) ≡ addsRun c w (takenFrom b w (adding g ∷ cs))
 add-turn g cs ih b c w a e ℕ.zero q =
     let x = subobjectOf (formOf (w .form)) g in
     let w′ = behind w g in
@@ -131,7 +131,7 @@ finish-turn cs ih b c w a e (ℕ.suc k) q =
 
 acts : {ero : Bool} (cs : List WriterCall) → Same ero cs
 acts [] b c w a e = none-left b c w a e
-acts (adding g ∷ cs) b c w a e = add-turn g cs (acts cs) b c w a e (addNumber (formOf (w .form)) (w .ero) (w .at) (length b) g) refl
+acts (adding g ∷ cs) b c w a e = add-turn g cs (acts cs) b c w a e (addNumber (formOf (w .form)) g (w .ero) (w .at) (length b)) refl
 acts (finishing ∷ cs) b c w a e = finish-turn cs (acts cs) b c w a e (finishNumber (w .at) (length b)) refl
 
 begun : (b : List ℕ) (ero : Bool) → over (headerOf ero 4) b ≡ headerOf ero 4 ++ drop 4 b
@@ -139,8 +139,8 @@ unfolding headerOf over
 begun b ero = refl
 
 -- Begin, adds and finishes in any order, then a finish that is accepted: all is as after begin, the adds that were accepted, and finish.
-pub any-run : (b : List ℕ) (w : Writer) (ero : Bool) (pst : ℕ) (cs : List WriterCall) → Accepted (anyRun b w ero pst cs)
-    → anyRun b w ero pst cs ≡ writeRun b w ero pst (takenIn b w ero pst cs)
+pub any-run : (b : List ℕ) (w : Writer) (ero : Bool) (pst : ℕ) (cs : List WriterCall) → Accepted (anyRun b w cs ero pst)
+    → anyRun b w cs ero pst ≡ writeRun b w (takenIn b w cs ero pst) ero pst
 unfolding anyRun writeRun takenIn beginAnswer beginBuffer
 any-run b w ero pst cs e =
     let n = went-on (beginRun b w ero pst) (λ b′ w′. actsRun b′ w′ cs) e (beginNumber (length b)) (begin-number b w ero pst) in
@@ -148,6 +148,6 @@ any-run b w ero pst cs e =
     let w′ : Writer = record { ero = ero; at = 4; form = formOf pst .setup } in
     let q = begin-onward b w ero pst (λ b″ w″. actsRun b″ w″ cs) n in
     let a : Alike ero h h = record { n = 4; m = 4; tail = drop 4 b; first = begun b ero; second = begun b ero } in
-    let t : takenIn b w ero pst cs ≡ takenFrom h w′ cs = rw n in
+    let t : takenIn b w cs ero pst ≡ takenFrom h w′ cs = rw n in
     let o = begin-onward b w ero pst (λ b″ w″. addsRun b″ w″ (takenFrom h w′ cs)) n in
-    q ∙ acts cs h h w′ a (rw q at e) ∙ sym o ∙ sym (ap (writeRun b w ero pst) t)
+    q ∙ acts cs h h w′ a (rw q at e) ∙ sym o ∙ sym (ap (λ (gs : List Segment). writeRun b w gs ero pst) t)

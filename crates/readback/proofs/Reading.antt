@@ -9,7 +9,7 @@ use lib.Seq.{getD-take, length-take-le}
 use lib.ListN.{length, getD, take, drop, replicate, length-append, List·getD-append}
 use native.Mathlib.Nat.{add-zero}
 use native.Mathlib.Omega.{arith}
-use borrow.Author.Tests.{eq-eqb, ne-eqb, eqb-true, eqb-false, not-false, le-ltb, lt-ltb, le-leb}
+use borrow.Author.Tests.{eq-eqb, ne-eqb, eqb-true, eqb-false, not-false, lt-ltb}
 use Rattle.octets.specs.Octets.{octetOf, be16, hi, lo, part, over, partOf}
 use Rattle.octets.proofs.Laws.{length-part, getD-part}
 use Rattle.octets.proofs.Said.{both-true, and-false, and-no}
@@ -28,13 +28,14 @@ use Rattle.subobject_strays.specs.Strays.{straysAt, noStrays, strayIn}
 use Rattle.frame.specs.Checks.{Check, check, firstBroken}
 use Rattle.frame.specs.Frames.{classOf, headed, fitsIn, Apart, apart, apartOf, placesOf, kindAt, anyIs, otherThan, mixedAt, rule4, rule5, rule6, rule6Place, rule14, frameChecks}
 use Rattle.frame.proofs.Checks.{None, none-first, none-append}
+use Rattle.frame.proofs.Laws.{fits-made}
 use Rattle.frame_rules.proofs.Laws.{headed-last}
 use Rattle.route.specs.declared.picking.Picked.{Picked}
 use Rattle.route_walk.specs.Walk.{checksAt, subobjectChecks}
 use Rattle.route.specs.Routes.{rule12, rule13, rule15, wholeChecks, lastChecks, checksOf, countOf, strayCount, acceptanceOf, judgeAs, pickOf, segmentAs, judgeOf, segmentOf}
 use Rattle.route.proofs.Answer.{accepted-none}
 use Rattle.route.proofs.Strays.{none-stray, refused-unstray}
-use Rattle.writer_spare.specs.Held.{Held}
+use Rattle.writer_spare.specs.Typed.{Typed}
 use Rattle.writer_spare.specs.Spare.{zeros}
 use Rattle.writer_layout.specs.Readable.{Readable}
 use Rattle.writer_layout.proofs.Laws.{length-subobject}
@@ -44,8 +45,8 @@ use Rattle.writer_state.specs.declared.Writer.{Writer}
 use Rattle.writer_rules.specs.Refusals.{unfit}
 use Rattle.writer_rules.proofs.Laws.{Fit, size-subobject}
 use Rattle.writer_begin_finish.specs.Ends.{headerOf}
-use Rattle.readback.specs.Runs.{Run, writeRun, Accepted, objectIn, writtenBody, objectOf, AllHeld, openSession}
-use Rattle.readback.specs.Runs.AllHeld.{more}
+use Rattle.readback.specs.Runs.{Run, writeRun, Accepted, objectIn, writtenBody, objectOf, AllTyped, openSession}
+use Rattle.readback.specs.Runs.AllTyped.{more}
 use Rattle.readback.specs.Ignored.{ignoredAt, ignoredIn, ignoredOf}
 use Rattle.readback.proofs.Parts.{zeros-append, zeros-cons}
 use Rattle.readback.proofs.Images.AllFit.{also}
@@ -66,7 +67,7 @@ fixed-fours {form} z = go (form .behaves) (form .fixed) (z .fixed)
     go true n e = (omega arith, omega arith)
     go false n e = (omega arith, omega arith)
 
-pub sub-fours : {form : Form} → Sized form → Readable form → (g : Segment) → Held g → (4 ≤ length (subobjectOf form g)) × (length (subobjectOf form g) % 4 ≡ 0)
+pub sub-fours : {form : Form} → Sized form → Readable form → (g : Segment) → Typed g → (4 ≤ length (subobjectOf form g)) × (length (subobjectOf form g) % 4 ≡ 0)
 sub-fours {form} z r g h =
     let e = length-subobject z g h in
     let f = fixed-fours z in
@@ -84,15 +85,11 @@ placesFrom form at (g ∷ gs) = at ∷ placesFrom form (at + length (subobjectOf
 next-stands : (form : Form) (p : List ℕ) (g : Segment) (gs : List Segment) → Stands (p ++ (subobjectOf form g ++ writtenBody form gs)) (length p) (subobjectOf form g)
 next-stands form p g gs = record { before = p; behind = writtenBody form gs; whole = refl; place = refl }
 
-size-at : {form : Form} → Sized form → Readable form → (p : List ℕ) (g : Segment) (gs : List Segment) → Held g
+size-at : {form : Form} → Sized form → Readable form → (p : List ℕ) (g : Segment) (gs : List Segment) → Typed g
     → octetOf (p ++ (subobjectOf form g ++ writtenBody form gs)) (length p + 1) ≡ length (subobjectOf form g)
 size-at {form} z r p g gs h = stands-octet _ (stands-four z r g (next-stands form p g gs)) 1 (omega arith) ∙ size-subobject z g h
 
-fits : (len room : ℕ) → 4 ≤ len → len % 4 ≡ 0 → len ≤ room → fitsIn len room ≡ true
-unfolding fitsIn
-fits len room l f r = rw (le-ltb len 4 l, eq-eqb (len % 4) 0 f, le-leb len room r)
-
-apart-body : {form : Form} → Sized form → Readable form → (gs : List Segment) (p : List ℕ) (f : ℕ) → AllHeld gs → length gs < f
+apart-body : {form : Form} → Sized form → Readable form → (gs : List Segment) (p : List ℕ) (f : ℕ) → AllTyped gs → length gs < f
     → apart (p ++ writtenBody form gs) (length p) f ≡ record { whole = true; places = placesFrom form (length p) gs }
 unfolding apart
 apart-body z r gs p zero h k = absurd (omega arith)
@@ -104,7 +101,7 @@ apart-body {form} z r (g ∷ gs) p (suc f) (more hg h) k =
     let l : length s ≡ length p + (length x + length (writtenBody form gs)) = omega (arith, length-append p (x ++ writtenBody form gs), length-append x (writtenBody form gs)) in
     let n : eqb (length p) (length s) ≡ false = ne-eqb (length p) (length s) (λ q. omega arith) in
     let e = size-at z r p g gs hg in
-    let o : fitsIn (length x) (length s - length p) ≡ true = fits (length x) (length s - length p) (y .0) (y .1) (omega arith) in
+    let o : fitsIn (length x) (length s - length p) ≡ true = fits-made (length x) (length s - length p) (y .0) (y .1) (omega arith) in
     let ih = apart-body z r gs (p ++ x) f h (omega arith) in
     let ih' : apart s (length p + length x) f ≡ record { whole = true; places = placesFrom form (length p + length x) gs }
     = simp (append-assoc, length-append) at ih in
@@ -192,7 +189,7 @@ sum-back {s} {at} x t l =
     let e3 = stands-octet x t 3 (omega arith) in
     rw (e0, e1, e2, e3)
 
-module _ {form : Form} (z : Sized form) (r : Readable form) {s : List ℕ} {at : ℕ} (g : Segment) (t : Stands s at (subobjectOf form g)) (h : Held g) where
+module _ {form : Form} (z : Sized form) (r : Readable form) {s : List ℕ} {at : ℕ} (g : Segment) (t : Stands s at (subobjectOf form g)) (h : Typed g) where
   bits-back : (g .structured && not (g .hassid)) ≡ false → rule11 (headOfSegment form g) (bitsOf g) ≡ false → (b : Bool) → g .structured ≡ b
       → rule11 (headOfSegment form g) (bitsAt form (headOfSegment form g) s at) ≡ false
   unfolding bitsOf headOfSegment
@@ -235,7 +232,7 @@ pub data AllRead (form : Form) (ero : Bool) (s : List ℕ) : List ℕ → List S
   none : AllRead form ero s [] []
   next : {p : ℕ} {ps : List ℕ} {g : Segment} {gs : List Segment} → Reads form ero s p g → AllRead form ero s ps gs → AllRead form ero s (p ∷ ps) (g ∷ gs)
 
-all-read : {form : Form} → Sized form → Readable form → (ero : Bool) (gs : List Segment) (p : List ℕ) → AllHeld gs → AllFit form ero gs
+all-read : {form : Form} → Sized form → Readable form → (ero : Bool) (gs : List Segment) (p : List ℕ) → AllTyped gs → AllFit form ero gs
     → AllRead form ero (p ++ writtenBody form gs) (placesFrom form (length p) gs) gs
 all-read z r ero [] p h f = none
 all-read {form} z r ero (g ∷ gs) p (more hg h) (also fg f) =
@@ -379,13 +376,13 @@ module _ (form : Form) (s : List ℕ) (ero : Bool) (ps : List ℕ) (gs : List Se
 
 module _ (form : Form) (ero : Bool) (gs : List Segment) where
   -- The object's octets, as a header in front of a body.
-  object-headed : 4 + length (writtenBody form gs) ≤ 65532 → (4 + length (writtenBody form gs)) % 4 ≡ 0 → headed (objectOf form ero gs) ero ≡ true
+  object-headed : 4 + length (writtenBody form gs) ≤ 65532 → (4 + length (writtenBody form gs)) % 4 ≡ 0 → headed (objectOf form gs ero) ero ≡ true
   unfolding objectOf headerOf be16
   object-headed m f =
       let l = length-object form ero gs in
-      sym (headed-last ero (objectOf form ero gs) (omega arith) refl refl (omega arith)) ∙ eq-eqb (length (objectOf form ero gs) % 4) 0 (rw l f)
+      sym (headed-last ero (objectOf form gs ero) (omega arith) refl refl (omega arith)) ∙ eq-eqb (length (objectOf form gs ero) % 4) 0 (rw l f)
 
-long-enough : {form : Form} → Sized form → Readable form → (gs : List Segment) → AllHeld gs → length gs ≤ length (writtenBody form gs)
+long-enough : {form : Form} → Sized form → Readable form → (gs : List Segment) → AllTyped gs → length gs ≤ length (writtenBody form gs)
 long-enough z r [] h = omega arith
 long-enough {form} z r (g ∷ gs) (more hg h) =
     let ih = long-enough z r gs h in
@@ -393,14 +390,14 @@ long-enough {form} z r (g ∷ gs) (more hg h) =
     let y = sub-fours z r g hg in
     omega arith
 
-object-apart : {form : Form} → Sized form → Readable form → (ero : Bool) (gs : List Segment) → AllHeld gs
-    → apartOf (objectOf form ero gs) ≡ record { whole = true; places = placesFrom form 4 gs }
+object-apart : {form : Form} → Sized form → Readable form → (ero : Bool) (gs : List Segment) → AllTyped gs
+    → apartOf (objectOf form gs ero) ≡ record { whole = true; places = placesFrom form 4 gs }
 unfolding apartOf objectOf headerOf
 object-apart {form} z r ero gs h =
-    apart-body z r gs (headerOf ero (4 + length (writtenBody form gs))) (suc (length (objectOf form ero gs))) h (omega (arith, long-enough z r gs h))
+    apart-body z r gs (headerOf ero (4 + length (writtenBody form gs))) (suc (length (objectOf form gs ero))) h (omega (arith, long-enough z r gs h))
 
-object-read : {form : Form} → Sized form → Readable form → (ero : Bool) (gs : List Segment) → AllHeld gs → AllFit form ero gs
-    → AllRead form ero (objectOf form ero gs) (placesFrom form 4 gs) gs
+object-read : {form : Form} → Sized form → Readable form → (ero : Bool) (gs : List Segment) → AllTyped gs → AllFit form ero gs
+    → AllRead form ero (objectOf form gs ero) (placesFrom form 4 gs) gs
 unfolding objectOf headerOf
 object-read {form} z r ero gs h f = all-read z r ero gs (headerOf ero (4 + length (writtenBody form gs))) h f
 
@@ -409,7 +406,7 @@ some-there form [] h e = h refl
 some-there form (g ∷ gs) h e = absurd (omega arith)
 
 -- The header's low bits are 0.
-header-zero : (form : Form) (ero : Bool) (gs : List Segment) → octetOf (objectOf form ero gs) 1 % 16 ≡ 0
+header-zero : (form : Form) (ero : Bool) (gs : List Segment) → octetOf (objectOf form gs ero) 1 % 16 ≡ 0
 unfolding octetOf objectOf headerOf
 header-zero form ero gs = refl
 
@@ -438,12 +435,12 @@ unstray-any pst s ero kinds e session any = go (eqb (judgeAs (formOf any) s ero 
 
 -- Whatever list of segments begin, adds and finish accept, the finished object is accepted, with that number of segments,
 -- in a session with the form agreed, N set and no limit, under its setup type; and segment i read is segment i given.
-module _ (ero : Bool) (pst : ℕ) (gs : List Segment) (b : List ℕ) (w : Writer) (held : AllHeld gs) (accepted : Accepted (writeRun b w ero pst gs)) where
-  m : Image (formOf pst) ero gs (writeRun b w ero pst gs)
+module _ (ero : Bool) (pst : ℕ) (gs : List Segment) (b : List ℕ) (w : Writer) (typed : AllTyped gs) (accepted : Accepted (writeRun b w gs ero pst)) where
+  m : Image (formOf pst) ero gs (writeRun b w gs ero pst)
   m = image ero pst gs b w accepted
 
-  abbrev body : AllRead (formOf pst) ero (objectOf (formOf pst) ero gs) (placesFrom (formOf pst) 4 gs) gs
-  body = object-read (sized-by pst) (readable-by pst) ero gs held (m .fits)
+  abbrev body : AllRead (formOf pst) ero (objectOf (formOf pst) gs ero) (placesFrom (formOf pst) 4 gs) gs
+  body = object-read (sized-by pst) (readable-by pst) ero gs typed (m .fits)
 
   abbrev setup : ℕ
   setup = formOf pst .setup
@@ -452,37 +449,37 @@ module _ (ero : Bool) (pst : ℕ) (gs : List Segment) (b : List ℕ) (w : Writer
   again : formOf setup ≡ formOf pst
   again = readable-by pst .setup
 
-  pub read-back : judgeOf (objectIn (writeRun b w ero pst gs)) ero openSession setup ≡ acceptedWith (length gs)
+  pub read-back : judgeOf (objectIn (writeRun b w gs ero pst)) ero openSession setup ≡ acceptedWith (length gs)
   unfolding judgeOf
   read-back =
-      ap (λ (x : Form). judgeAs x (objectIn (writeRun b w ero pst gs)) ero openSession setup) again
+      ap (λ (x : Form). judgeAs x (objectIn (writeRun b w gs ero pst)) ero openSession setup) again
       ∙ rw (m .object)
-      (judged (formOf pst) (objectOf (formOf pst) ero gs) ero (placesFrom (formOf pst) 4 gs) gs (object-headed (formOf pst) ero gs (m .most) (m .fours))
-      (object-apart (sized-by pst) (readable-by pst) ero gs held) body (some-there (formOf pst) gs (m .filled)))
+      (judged (formOf pst) (objectOf (formOf pst) gs ero) ero (placesFrom (formOf pst) 4 gs) gs (object-headed (formOf pst) ero gs (m .most) (m .fours))
+      (object-apart (sized-by pst) (readable-by pst) ero gs typed) body (some-there (formOf pst) gs (m .filled)))
 
-  pub segments-back : (i : ℕ) → i < length gs → segmentOf (objectIn (writeRun b w ero pst gs)) ero openSession setup i
+  pub segments-back : (i : ℕ) → i < length gs → segmentOf (objectIn (writeRun b w gs ero pst)) ero openSession setup i
       ≡ record { verdict = acceptedWith (length gs); segment = getD gs i noSegment; strays = noStrays }
   unfolding segmentOf
   segments-back i h =
-      ap (λ (x : Form). segmentAs x (objectIn (writeRun b w ero pst gs)) ero openSession setup i) again
+      ap (λ (x : Form). segmentAs x (objectIn (writeRun b w gs ero pst)) ero openSession setup i) again
       ∙ rw (m .object)
-      (handed (formOf pst) (objectOf (formOf pst) ero gs) ero (placesFrom (formOf pst) 4 gs) gs (object-headed (formOf pst) ero gs (m .most) (m .fours))
-      (object-apart (sized-by pst) (readable-by pst) ero gs held) body (some-there (formOf pst) gs (m .filled)) i h)
+      (handed (formOf pst) (objectOf (formOf pst) gs ero) ero (placesFrom (formOf pst) 4 gs) gs (object-headed (formOf pst) ero gs (m .most) (m .fours))
+      (object-apart (sized-by pst) (readable-by pst) ero gs typed) body (some-there (formOf pst) gs (m .filled)) i h)
 
-  places : placesOf (objectOf (formOf pst) ero gs) ≡ placesFrom (formOf pst) 4 gs
-  places = ap (λ (a : Apart). a .places) (object-apart (sized-by pst) (readable-by pst) ero gs held)
+  places : placesOf (objectOf (formOf pst) gs ero) ≡ placesFrom (formOf pst) 4 gs
+  places = ap (λ (a : Apart). a .places) (object-apart (sized-by pst) (readable-by pst) ero gs typed)
 
   -- In no session is one of them stray,
-  pub written-unstray : (session : Session) (any : ℕ) → judgeOf (objectIn (writeRun b w ero pst gs)) ero session any .stray ≡ 0
+  pub written-unstray : (session : Session) (any : ℕ) → judgeOf (objectIn (writeRun b w gs ero pst)) ero session any .stray ≡ 0
   written-unstray session any =
       rw (m .object)
-      (unstray-any pst (objectOf (formOf pst) ero gs) ero (λ k e. any-kind body k (rw places at e))
-      (unstray (formOf pst) (objectOf (formOf pst) ero gs) ero (placesFrom (formOf pst) 4 gs) gs (object-headed (formOf pst) ero gs (m .most) (m .fours))
-      (object-apart (sized-by pst) (readable-by pst) ero gs held) body (some-there (formOf pst) gs (m .filled))) session any)
+      (unstray-any pst (objectOf (formOf pst) gs ero) ero (λ k e. any-kind body k (rw places at e))
+      (unstray (formOf pst) (objectOf (formOf pst) gs ero) ero (placesFrom (formOf pst) 4 gs) gs (object-headed (formOf pst) ero gs (m .most) (m .fours))
+      (object-apart (sized-by pst) (readable-by pst) ero gs typed) body (some-there (formOf pst) gs (m .filled))) session any)
 
   -- and every ignored bit is 0.
-  pub written-zero : zeros (ignoredOf (formOf pst) (objectIn (writeRun b w ero pst gs)) ero) ≡ true
+  pub written-zero : zeros (ignoredOf (formOf pst) (objectIn (writeRun b w gs ero pst)) ero) ≡ true
   written-zero =
-      let s = objectOf (formOf pst) ero gs in
+      let s = objectOf (formOf pst) gs ero in
       let inside : zeros (ignoredIn (formOf pst) s ero (placesOf s)) ≡ true = rw places (ignored-all body) in
       rw (m .object) (zeros-cons (octetOf s 1 % 16) (ignoredIn (formOf pst) s ero (placesOf s)) (header-zero (formOf pst) ero gs) inside)

@@ -1,10 +1,10 @@
--- The third theorem: rewriting what was read gives the same octets exactly if all ignored bits were 0. An acceptance says that the subobjects form a chain to the end (`Chain`), all of
+-- The third theorem: rewriting what was read gives the same octets exactly if all ignored bits were 0. An acceptance says that the subobjects fill the object (`whole-chain`), all of
 -- the form's type and sound (`all-sound`); then each run of octets, header and subobjects, is compared with the written one by itself (`header-same`, `header-back`; Subobjects).
 use Prim.Native.Nat.{ℕ, zero, suc, _+_, _-_, _*_, _/_, _%_, _≤_, _<_}
 use mathlib.Core.Path.{_≡_, refl, sym, _∙_, ap}
 use mathlib.Core.Bool.{Bool, true, false, cond, not, _&&_, _||_}
 use mathlib.Core.List.{List, [], _∷_, _++_, append-assoc, append-nil}
-use lib.Dec.{eqb, ltb, leb}
+use lib.Dec.{eqb, ltb}
 use lib.ListN.{length, getD, take, drop, length-append, length-drop, take-append-drop, drop-of-length-le}
 use lib.Seq.{drop-cons, drop-drop, take-at, drop-at, length-take-le}
 use native.Mathlib.Omega.{arith}
@@ -21,13 +21,15 @@ use Rattle.subobject.specs.Layout.{headAt}
 use Rattle.subobject.specs.Rules.{rule7, rule8, rule9, rule11, bitsAt}
 use Rattle.subobject.specs.Segments.{segmentAt, noSegment, subobjectOf}
 use Rattle.frame.specs.Checks.{check, firstBroken}
-use Rattle.frame.specs.Frames.{classOf, headed, fitsIn, Apart, apart, apartOf, placesOf, ended, unfilled, from, kindAt, anyIs, otherThan, mixedAt, rule4, rule5, rule6, rule6Place, rule14}
+use Rattle.frame.specs.Frames.{classOf, headed, fitsIn, placesOf, kindAt, anyIs, otherThan, mixedAt, rule4, rule5, rule6, rule6Place, rule14}
+use Rattle.frame.specs.Chains.{Chain, stop, link}
+use Rattle.frame.proofs.Chains.{whole-chain}
 use Rattle.frame.proofs.Checks.{None, none-first, none-append, none-split}
 use Rattle.frame.proofs.Laws.{fits-true, headed-sized}
 use Rattle.route_walk.specs.Walk.{checksAt, subobjectChecks}
 use Rattle.route.specs.Routes.{lastChecks, checksOf, countOf, acceptanceOf, judgeAs, pickOf, segmentAs, judgeOf, segmentOf, rule15}
 use Rattle.route.proofs.Answer.{accepted-none, accepted-count, accepted-frame}
-use Rattle.writer_spare.specs.Held.{Held}
+use Rattle.writer_spare.specs.Typed.{Typed}
 use Rattle.writer_spare.specs.Spare.{zeros}
 use Rattle.writer_layout.specs.Readable.{Readable}
 use Rattle.forms.proofs.Laws.{sized-by}
@@ -35,8 +37,8 @@ use Rattle.writer_layout.proofs.Forms.{readable-by}
 use Rattle.writer_state.specs.declared.Writer.{Writer}
 use Rattle.writer_rules.specs.Refusals.{mostOctets, addNumber, finishNumber, unfit, noRoom, badPlace, passes}
 use Rattle.writer_begin_finish.specs.Ends.{headerOf, beginNumber}
-use Rattle.readback.specs.Runs.{Run, onward, beginRun, addRun, finishRun, addsRun, writeRun, Accepted, objectIn, writtenBody, objectOf, AllHeld}
-use Rattle.readback.specs.Runs.AllHeld.{none as held-none, more}
+use Rattle.readback.specs.Runs.{Run, onward, beginRun, addRun, finishRun, addsRun, writeRun, Accepted, objectIn, writtenBody, objectOf, AllTyped}
+use Rattle.readback.specs.Runs.AllTyped.{none as typed-none, more}
 use Rattle.readback.specs.Ignored.{EachOctet, ignoredAt, ignoredIn, ignoredOf, askedFrom, segmentsRead}
 use Rattle.writer_rules.proofs.Laws.{Fit}
 use Rattle.readback.proofs.Images.{AllFit, Image, image, length-object, finish-number, add-number, begin-number, add-onward, begin-onward}
@@ -44,30 +46,13 @@ use Rattle.readback.proofs.Images.AllFit.{none as fit-none, also}
 use Rattle.octets.proofs.Said.{both-true}
 use Rattle.readback.proofs.Reading.{sub-fours}
 use Rattle.readback.proofs.Parts.{append-same, zeros-append, zeros-split, zeros-cons, zeros-uncons, octet-small}
-use Rattle.readback.proofs.Subobjects.{Sound, held, fit, length-written, same-octets, ignored-zero}
+use Rattle.readback.proofs.Subobjects.{Sound, typed, fit, length-written, same-octets, ignored-zero}
 
--- the chain of subobjects --------------------------------------------------------------------------------------
+-- the subobjects fill the object -----------------------------------------------------------------------------
 
--- Subobjects from a place to the end, one right behind the other.
-data Chain (s : List ℕ) : ℕ → List ℕ → Type 0 where
-  ends : {at : ℕ} → at ≡ length s → Chain s at []
-  links : {at : ℕ} {ps : List ℕ} → 4 ≤ octetOf s (at + 1) → at + octetOf s (at + 1) ≤ length s → Chain s (at + octetOf s (at + 1)) ps → Chain s at (at ∷ ps)
-
-chain-of : (f : ℕ) (s : List ℕ) (at : ℕ) → at ≤ length s → apart s at f .whole ≡ true → Chain s at (apart s at f .places)
-unfolding apart
-chain-of zero s at h e = absurd (let z : _≡_ {A = ℕ} 0 1 = cc in omega arith)
-chain-of (suc f) s at h e =
-    go (eqb at (length s)) (fitsIn (octetOf s (at + 1)) (length s - at)) refl refl e (λ k r. chain-of f s (at + octetOf s (at + 1)) k r)
-  where
-    go : (x y : Bool) → eqb at (length s) ≡ x → fitsIn (octetOf s (at + 1)) (length s - at) ≡ y
-        → cond x ended (cond y (from at (apart s (at + octetOf s (at + 1)) f)) unfilled) .whole ≡ true
-        → (at + octetOf s (at + 1) ≤ length s → apart s (at + octetOf s (at + 1)) f .whole ≡ true → Chain s (at + octetOf s (at + 1)) (apart s (at + octetOf s (at + 1)) f .places))
-        → Chain s at (cond x ended (cond y (from at (apart s (at + octetOf s (at + 1)) f)) unfilled) .places)
-    go true y ex ey w rest = ends (eqb-true at (length s) ex)
-    go false false ex ey w rest = absurd (let z : _≡_ {A = ℕ} 0 1 = cc in omega arith)
-    go false true ex ey w rest =
-        let t = fits-true (octetOf s (at + 1)) (length s - at) ey in
-        links (t .0) (omega arith) (rest (omega arith) w)
+-- A subobject of them lies within the object.
+lies-within : (s : List ℕ) (at : ℕ) → fitsIn (octetOf s (at + 1)) (length s - at) ≡ true → at + octetOf s (at + 1) ≤ length s
+lies-within s at d = omega (arith, fits-true (octetOf s (at + 1)) (length s - at) d)
 
 -- The octets of the subobjects, one behind the other.
 abbrev partsOf : List ℕ → List ℕ → List ℕ
@@ -76,8 +61,8 @@ partsOf s (p ∷ ps) = part s p (octetOf s (p + 1)) ++ partsOf s ps
 
 parts-all : {s : List ℕ} {at : ℕ} {ps : List ℕ} → Chain s at ps → drop at s ≡ partsOf s ps
 unfolding part
-parts-all {s} {at} (ends e) = let h : length s ≤ at = omega arith in drop-of-length-le s h
-parts-all {s} {at} (links l i c) =
+parts-all {s} {at} (stop e) = let h : length s ≤ at = omega arith in drop-of-length-le s h
+parts-all {s} {at} (link l d c) =
     let n = octetOf s (at + 1) in
     let ih = parts-all c in
     sym (take-append-drop n (drop at s)) ∙ rw (drop-drop n at s, ih)
@@ -90,8 +75,8 @@ data Behind : List ℕ → Type 0 where
   next : {p : ℕ} {ps : List ℕ} → 0 < p → Behind ps → Behind (p ∷ ps)
 
 behind : {s : List ℕ} {at : ℕ} {ps : List ℕ} → 0 < at → Chain s at ps → Behind ps
-behind h (ends e) = none
-behind h (links l i c) = next h (behind (omega arith) c)
+behind h (stop e) = none
+behind h (link n d c) = next h (behind (omega arith) c)
 
 data AllKind (kinds : ℕ → ℕ) (kind : ℕ) : List ℕ → Type 0 where
   none : AllKind kinds kind []
@@ -144,10 +129,10 @@ sound-at form ero n s p o k i c =
 
 all-sound : (form : Form) (ero n : Bool) (s : List ℕ) {at : ℕ} {ps : List ℕ} → EachOctet s → Chain s at ps → AllKind (kindAt s ero) (form .kind) ps
     → None (subobjectChecks form s ero n ps) → AllSound form ero s ps
-all-sound form ero n s o (ends e) k c = none
-all-sound form ero n s {at} o (links {ps = ps} l i r) (next q k) c =
+all-sound form ero n s o (stop e) k c = none
+all-sound form ero n s {at} o (link {ps = ps} l d r) (next q k) c =
     let t = none-split (checksAt form s ero n at) (subobjectChecks form s ero n ps) c in
-    next (sound-at form ero n s at o q i (t .0)) (all-sound form ero n s o r k (t .1))
+    next (sound-at form ero n s at o q (lies-within s at d) (t .0)) (all-sound form ero n s o r k (t .1))
 
 -- the segments read --------------------------------------------------------------------------------------------
 
@@ -156,9 +141,9 @@ segmentsAt form ero s [] = []
 segmentsAt form ero s (p ∷ ps) = segmentAt form s ero p ∷ segmentsAt form ero s ps
 
 module _ {form : Form} (z : Sized form) (r : Readable form) {ero : Bool} {s : List ℕ} where
-  all-held : {ps : List ℕ} → AllSound form ero s ps → AllHeld (segmentsAt form ero s ps)
-  all-held none = held-none
-  all-held (next d a) = more (held z r d) (all-held a)
+  all-typed : {ps : List ℕ} → AllSound form ero s ps → AllTyped (segmentsAt form ero s ps)
+  all-typed none = typed-none
+  all-typed (next d a) = more (typed z r d) (all-typed a)
 
   all-fit : {ps : List ℕ} → AllSound form ero s ps → AllFit form ero (segmentsAt form ero s ps)
   all-fit none = fit-none
@@ -166,8 +151,8 @@ module _ {form : Form} (z : Sized form) (r : Readable form) {ero : Bool} {s : Li
 
   -- As many octets are written as were read.
   body-length : {at : ℕ} {ps : List ℕ} → Chain s at ps → AllSound form ero s ps → at + length (writtenBody form (segmentsAt form ero s ps)) ≡ length s
-  body-length {at} (ends e) none = omega arith
-  body-length {at} (links {ps = ps} l i c) (next d a) =
+  body-length {at} (stop e) none = omega arith
+  body-length {at} (link {ps = ps} l i c) (next d a) =
       let ih = body-length c a in
       let n = length-written z r d in
       let m = length-append (subobjectOf form (segmentAt form s ero at)) (writtenBody form (segmentsAt form ero s ps)) in
@@ -198,7 +183,7 @@ unfolding badPlace
 proper at room l f h k = rw (le-ltb at 4 l, eq-eqb (at % 4) 0 f, within at room h k)
 
 add-taken : (form : Form) (ero : Bool) (room at : ℕ) (g : Segment) → Fit form ero g → 4 ≤ at → at % 4 ≡ 0
-    → at + length (subobjectOf form g) ≤ room → at + length (subobjectOf form g) ≤ 65532 → addNumber form ero at room g ≡ 0
+    → at + length (subobjectOf form g) ≤ room → at + length (subobjectOf form g) ≤ 65532 → addNumber form g ero at room ≡ 0
 unfolding addNumber noRoom
 add-taken form ero room at g t l f h k =
     rw (
@@ -216,7 +201,7 @@ finish-taken : (room : ℕ) (w : Writer) → 4 < w .at → w .at % 4 ≡ 0 → w
 unfolding finishNumber
 finish-taken room w l f h k = rw (proper (w .at) room (omega arith) f h k, ne-eqb (w .at) 4 (λ z. omega arith))
 
-adds-taken : (gs : List Segment) (b : List ℕ) (w : Writer) → AllHeld gs → AllFit (formOf (w .form)) (w .ero) gs → 4 ≤ w .at → w .at % 4 ≡ 0
+adds-taken : (gs : List Segment) (b : List ℕ) (w : Writer) → AllTyped gs → AllFit (formOf (w .form)) (w .ero) gs → 4 ≤ w .at → w .at % 4 ≡ 0
     → 4 < w .at + length (writtenBody (formOf (w .form)) gs) → w .at + length (writtenBody (formOf (w .form)) gs) ≤ length b
     → w .at + length (writtenBody (formOf (w .form)) gs) ≤ 65532 → Accepted (addsRun b w gs)
 unfolding addsRun
@@ -241,13 +226,13 @@ unfolding headerOf
 header-long ero n = refl
 
 -- The same of a state that names a form.
-adds-in : (form : Form) (gs : List Segment) (b : List ℕ) (w : Writer) → formOf (w .form) ≡ form → AllHeld gs → AllFit form (w .ero) gs → 4 ≤ w .at
+adds-in : (form : Form) (gs : List Segment) (b : List ℕ) (w : Writer) → formOf (w .form) ≡ form → AllTyped gs → AllFit form (w .ero) gs → 4 ≤ w .at
     → w .at % 4 ≡ 0 → 4 < w .at + length (writtenBody form gs) → w .at + length (writtenBody form gs) ≤ length b → w .at + length (writtenBody form gs) ≤ 65532
     → Accepted (addsRun b w gs)
 adds-in form gs b w e h t l f m r k = adds-taken gs b w h (rw (← e) at t) l f (rw (← e) at m) (rw (← e) at r) (rw (← e) at k)
 
-write-taken : (ero : Bool) (pst : ℕ) (gs : List Segment) (b : List ℕ) (w : Writer) → AllHeld gs → AllFit (formOf pst) ero gs → 0 < length (writtenBody (formOf pst) gs)
-    → 4 + length (writtenBody (formOf pst) gs) ≤ length b → 4 + length (writtenBody (formOf pst) gs) ≤ 65532 → Accepted (writeRun b w ero pst gs)
+write-taken : (ero : Bool) (pst : ℕ) (gs : List Segment) (b : List ℕ) (w : Writer) → AllTyped gs → AllFit (formOf pst) ero gs → 0 < length (writtenBody (formOf pst) gs)
+    → 4 + length (writtenBody (formOf pst) gs) ≤ length b → 4 + length (writtenBody (formOf pst) gs) ≤ 65532 → Accepted (writeRun b w gs ero pst)
 unfolding writeRun
 write-taken ero pst gs b w h t m r k =
     let y = header-long ero 4 in
@@ -342,8 +327,8 @@ and-rest true b e f = f
 and-rest false b e f = absurd (let z : _≡_ {A = ℕ} 0 1 = cc in omega arith)
 
 not-filled : {s : List ℕ} {at : ℕ} {ps : List ℕ} → Chain s at ps → (length ps ≡ 0 → ⊥) → at < length s
-not-filled (ends e) h = absurd (h refl)
-not-filled (links l i c) h = omega arith
+not-filled (stop e) h = absurd (h refl)
+not-filled {s} {at} (link n d c) h = omega (arith, fits-true (octetOf s (at + 1)) (length s - at) d)
 
 -- An object of octets that was accepted, in any session and under any setup type.
 module _ (s : List ℕ) (ero : Bool) (session : Session) (pst : ℕ) (octets : EachOctet s) (taken : judgeOf s ero session pst .number ≡ 0) where
@@ -357,9 +342,8 @@ module _ (s : List ℕ) (ero : Bool) (session : Session) (pst : ℕ) (octets : E
   header : Header ero s
   header = header-of ero s (accepted-frame (formOf pst) s ero session pst accepted .0)
 
-  chain : Chain s 4 (placesOf s)
-  unfolding apartOf
-  chain = chain-of (suc (length s)) s 4 (header .low) (accepted-frame (formOf pst) s ero session pst accepted .1)
+  filled : Chain s 4 (placesOf s)
+  filled = whole-chain s (accepted-frame (formOf pst) s ero session pst accepted .1)
 
   present : anyIs (kindAt s ero) (placesOf s) (formOf pst .kind) ≡ true
   unfolding rule14
@@ -371,7 +355,7 @@ module _ (s : List ℕ) (ero : Bool) (session : Session) (pst : ℕ) (octets : E
 
   sound : AllSound (formOf pst) ero s (placesOf s)
   sound =
-      all-sound (formOf pst) ero (session .n) s octets chain (all-kind (kindAt s ero) (formOf pst .kind) (behind (omega arith) chain) present unmixed)
+      all-sound (formOf pst) ero (session .n) s octets filled (all-kind (kindAt s ero) (formOf pst .kind) (behind (omega arith) filled) present unmixed)
       (none-split (subobjectChecks (formOf pst) s ero (session .n) (placesOf s)) (lastChecks (placesOf s) ero (session .limit) (countOf s))
       (no-check .1 .1 .1 .1 .1) .0)
 
@@ -380,7 +364,7 @@ module _ (s : List ℕ) (ero : Bool) (session : Session) (pst : ℕ) (octets : E
   segments = segmentsAt (formOf pst) ero s (placesOf s)
 
   length-same : 4 + length (writtenBody (formOf pst) segments) ≡ length s
-  length-same = body-length (sized-by pst) (readable-by pst) chain sound
+  length-same = body-length (sized-by pst) (readable-by pst) filled sound
 
   short : length s ≤ 65532
   unfolding be16 octetOf
@@ -394,20 +378,20 @@ module _ (s : List ℕ) (ero : Bool) (session : Session) (pst : ℕ) (octets : E
   some : 0 < length (writtenBody (formOf pst) segments)
   unfolding rule5
   some =
-      let n = not-filled chain (λ z. eqb-false (length (placesOf s)) 0 (no-check .1 .0) z) in
+      let n = not-filled filled (λ z. eqb-false (length (placesOf s)) 0 (no-check .1 .0) z) in
       let l = length-same in
       omega arith
 
   split : s ≡ take 4 s ++ partsOf s (placesOf s)
-  split = sym (take-append-drop 4 s) ∙ rw (parts-all chain)
+  split = sym (take-append-drop 4 s) ∙ rw (parts-all filled)
 
-  object-same : zeros (ignoredOf (formOf pst) s ero) ≡ true → objectOf (formOf pst) ero segments ≡ s
+  object-same : zeros (ignoredOf (formOf pst) s ero) ≡ true → objectOf (formOf pst) segments ero ≡ s
   unfolding objectOf
   object-same e =
       let z = zeros-uncons (octetOf s 1 % 16) (ignoredIn (formOf pst) s ero (placesOf s)) e in
       rw (length-same, header-same header octets (z .0), body-same (sized-by pst) (readable-by pst) sound (z .1)) (sym split)
 
-  object-back : objectOf (formOf pst) ero segments ≡ s → zeros (ignoredOf (formOf pst) s ero) ≡ true
+  object-back : objectOf (formOf pst) segments ero ≡ s → zeros (ignoredOf (formOf pst) s ero) ≡ true
   unfolding objectOf
   object-back e =
       let x : headerOf ero (length s) ++ writtenBody (formOf pst) segments ≡ take 4 s ++ partsOf s (placesOf s) = (rw length-same at e) ∙ split in
@@ -418,21 +402,21 @@ module _ (s : List ℕ) (ero : Bool) (session : Session) (pst : ℕ) (octets : E
 
   -- Writing the segments read again: in any buffer with room for the object and with any state, every call accepts;
   module _ (b : List ℕ) (w : Writer) (room : length s ≤ length b) where
-    pub rewritten : Accepted (writeRun b w ero pst (segmentsRead s ero session pst))
+    pub rewritten : Accepted (writeRun b w (segmentsRead s ero session pst) ero pst)
     rewritten =
         let l = length-same in
         let k = short in
         rw (all-read s ero session pst accepted)
-        (write-taken ero pst segments b w (all-held (sized-by pst) (readable-by pst) sound) (all-fit (sized-by pst) (readable-by pst) sound) some (omega arith)
+        (write-taken ero pst segments b w (all-typed (sized-by pst) (readable-by pst) sound) (all-fit (sized-by pst) (readable-by pst) sound) some (omega arith)
         (omega arith))
 
-    object-is : objectIn (writeRun b w ero pst (segmentsRead s ero session pst)) ≡ objectOf (formOf pst) ero segments
+    object-is : objectIn (writeRun b w (segmentsRead s ero session pst) ero pst) ≡ objectOf (formOf pst) segments ero
     object-is = image ero pst (segmentsRead s ero session pst) b w rewritten .object ∙ rw (all-read s ero session pst accepted)
 
     -- the finished object is the object read, if all ignored bits were 0,
-    pub rewritten-same : zeros (ignoredOf (formOf pst) s ero) ≡ true → objectIn (writeRun b w ero pst (segmentsRead s ero session pst)) ≡ s
+    pub rewritten-same : zeros (ignoredOf (formOf pst) s ero) ≡ true → objectIn (writeRun b w (segmentsRead s ero session pst) ero pst) ≡ s
     rewritten-same e = object-is ∙ object-same e
 
     -- and only if they were.
-    pub rewritten-zero : objectIn (writeRun b w ero pst (segmentsRead s ero session pst)) ≡ s → zeros (ignoredOf (formOf pst) s ero) ≡ true
+    pub rewritten-zero : objectIn (writeRun b w (segmentsRead s ero session pst) ero pst) ≡ s → zeros (ignoredOf (formOf pst) s ero) ≡ true
     rewritten-zero e = object-back (sym object-is ∙ e)

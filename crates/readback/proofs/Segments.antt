@@ -22,7 +22,7 @@ use Rattle.subobject.specs.Layout.{sidLength, structureThere, structureLength, 
 use Rattle.subobject.specs.Rules.{rule8, rule9, malformed, rule11, flagF, hasStructure, sumAt, bitsAt}
 use Rattle.subobject.specs.Segments.{segmentBy, segmentAt, outlineOf, headOfSegment, flagsOctet, fixedOctets, structureOctets, subobjectOf, bitsOf, bit}
 use Rattle.subobject_strays.specs.Strays.{strayFlags, structureFlags, reservedOctets, anySet, straysBy, straysAt, noStrays}
-use Rattle.writer_spare.specs.Held.{Held}
+use Rattle.writer_spare.specs.Typed.{Typed}
 use Rattle.writer_spare.specs.Spare.{zeros, tidyOf}
 use Rattle.writer_layout.specs.Readable.{together, Marks, FlagsApart, Readable}
 use Rattle.writer_layout.proofs.Laws.{length-fixed, length-sid, length-nai, length-subobject, length-structure, flags-small, bit-most, four}
@@ -44,7 +44,7 @@ pub record Plain (form : Form) (ero : Bool) (g : Segment) : Type 0 where
   pub no-behaviour : (not (form .behaves) && not (eqb (g .behaviour) 0)) ≡ false
   pub formed : malformed (headOfSegment form g) ≡ false
 
-pub plain : (form : Form) (ero : Bool) (g : Segment) → unfit form ero g ≡ false → Plain form ero g
+pub plain : (form : Form) (ero : Bool) (g : Segment) → unfit form g ero ≡ false → Plain form ero g
 unfolding unfit foreign
 plain form ero g e =
     let p = either-false (g .structured && not (g .hassid)) _ e in
@@ -207,13 +207,13 @@ module _ {form : Form} (z : Sized form) (r : Readable form) {s : List ℕ} {at :
   pub stands-sid : Stands s (at + form .fixed) (sidPart form g)
   stands-sid = stands-left (sidPart form g) _ stands-parts
 
-  stands-behind : Held g → Stands s (at + form .fixed + sidLength form (headOfSegment form g .s)) (naiPart form g ++ lastPart form g)
+  stands-behind : Typed g → Stands s (at + form .fixed + sidLength form (headOfSegment form g .s)) (naiPart form g ++ lastPart form g)
   stands-behind h = rw (length-sid z g h) at (stands-right (sidPart form g) _ stands-parts)
 
-  pub stands-nai : Held g → Stands s (at + form .fixed + sidLength form (headOfSegment form g .s)) (naiPart form g)
+  pub stands-nai : Typed g → Stands s (at + form .fixed + sidLength form (headOfSegment form g .s)) (naiPart form g)
   stands-nai h = stands-left (naiPart form g) _ (stands-behind h)
 
-  pub stands-last : Held g → Stands s (at + form .fixed + sidLength form (headOfSegment form g .s) + naiLength form (g .nt)) (lastPart form g)
+  pub stands-last : Typed g → Stands s (at + form .fixed + sidLength form (headOfSegment form g .s) + naiLength form (g .nt)) (lastPart form g)
   stands-last h = rw (length-nai z g h) at (stands-right (naiPart form g) _ (stands-behind h))
 
   -- reading ------------------------------------------------------------------------------------------------------
@@ -228,7 +228,7 @@ module _ {form : Form} (z : Sized form) (r : Readable form) {s : List ℕ} {at :
         stands-octet (firstPart form g) stands-four 3 (omega arith),
       ) (head-made r ero g p)
 
-  behaviour-by : Held g → (b : Bool) → Stands s (at + 4) (secondPart b (g .behaviour)) → (not b && not (eqb (g .behaviour) 0)) ≡ false
+  behaviour-by : Typed g → (b : Bool) → Stands s (at + 4) (secondPart b (g .behaviour)) → (not b && not (eqb (g .behaviour) 0)) ≡ false
       → cond b (be16 s (at + 6)) 0 ≡ g .behaviour
   unfolding be16 octetOf
   behaviour-by h true u e =
@@ -239,10 +239,10 @@ module _ {form : Form} (z : Sized form) (r : Readable form) {s : List ℕ} {at :
       rw (add-assoc at 6 1, e6, e7) (omega arith)
   behaviour-by h false u e = sym (eqb-true (g .behaviour) 0 (not-false _ e))
 
-  pub behaviour-back : Held g → (not (form .behaves) && not (eqb (g .behaviour) 0)) ≡ false → cond (form .behaves) (be16 s (at + 6)) 0 ≡ g .behaviour
+  pub behaviour-back : Typed g → (not (form .behaves) && not (eqb (g .behaviour) 0)) ≡ false → cond (form .behaves) (be16 s (at + 6)) 0 ≡ g .behaviour
   behaviour-back h e = behaviour-by h (form .behaves) stands-second e
 
-  pub sid-back : Held g → tidyOf form g ≡ true → partOf s (at + form .fixed) (sidLength form (headOfSegment form g .s)) 16 ≡ g .sid
+  pub sid-back : Typed g → tidyOf form g ≡ true → partOf s (at + form .fixed) (sidLength form (headOfSegment form g .s)) 16 ≡ g .sid
   unfolding partOf
   sid-back h e =
       let k = sidLength form (headOfSegment form g .s) in
@@ -251,7 +251,7 @@ module _ {form : Form} (z : Sized form) (r : Readable form) {s : List ℕ} {at :
       (padded-back (g .sid) k 16 (h .sid) (omega (arith, z .sid, cond-most (eqb (headOfSegment form g .s) 0) (form .sid)))
       (rw (sid-there form g) (tidied form g e .sid)))
 
-  pub nai-back : Held g → tidyOf form g ≡ true → partOf s (at + form .fixed + sidLength form (headOfSegment form g .s)) (naiLength form (g .nt)) 40 ≡ g .nai
+  pub nai-back : Typed g → tidyOf form g ≡ true → partOf s (at + form .fixed + sidLength form (headOfSegment form g .s)) (naiLength form (g .nt)) 40 ≡ g .nai
   unfolding partOf
   nai-back h e =
       let p : part s (at + form .fixed + sidLength form (headOfSegment form g .s)) (naiLength form (g .nt)) ≡ naiPart form g
@@ -259,34 +259,34 @@ module _ {form : Form} (z : Sized form) (r : Readable form) {s : List ℕ} {at :
       rw p (padded-back (g .nai) (naiLength form (g .nt)) 40 (h .nai) (nai-most z (g .nt)) (tidied form g e .nai))
 
   -- The four bit lengths stand where a structure is looked for.
-  stands-structure : Held g → g .structured ≡ true → (g .structured && not (g .hassid)) ≡ false
+  stands-structure : Typed g → g .structured ≡ true → (g .structured && not (g .hassid)) ≡ false
       → Stands s (at + form .fixed + form .sid + naiLength form (g .nt)) (structureOctets (g .structure))
   stands-structure h e n =
       let l : lastPart form g ≡ structureOctets (g .structure) = ap (λ (b : Bool). cond b (structureOctets (g .structure)) []) (there form g n ∙ e) in
       let k = full-sid form g (sided g e n) in
       rw (l, k) at (stands-last h)
 
-  pub stands-bits : Held g → g .structured ≡ true → (g .structured && not (g .hassid)) ≡ false
+  pub stands-bits : Typed g → g .structured ≡ true → (g .structured && not (g .hassid)) ≡ false
       → Stands s (at + form .fixed + form .sid + naiLength form (g .nt)) (g .structure)
   stands-bits h e n =
       let t4 : take 4 (g .structure) ≡ g .structure = take-all 4 (g .structure) (omega (arith, h .structure)) in
       rw t4 at (stands-left (take 4 (g .structure)) _ (stands-structure h e n))
 
-  bits-part : Held g → (g .structured && not (g .hassid)) ≡ false → (b : Bool) → g .structured ≡ b
+  bits-part : Typed g → (g .structured && not (g .hassid)) ≡ false → (b : Bool) → g .structured ≡ b
       → part s (at + form .fixed + form .sid + naiLength form (g .nt)) (cond (g .structured) 4 0) ≡ take (cond (g .structured) 4 0) (g .structure)
   bits-part h n true q =
       let p = stands-part (g .structure) (stands-bits h q n) in
       rw q ((rw (h .structure) at p) ∙ sym (take-all 4 (g .structure) (omega (arith, h .structure))))
   bits-part h n false q = rw q (part-none s (at + form .fixed + form .sid + naiLength form (g .nt)))
 
-  pub structure-back : Held g → tidyOf form g ≡ true → (g .structured && not (g .hassid)) ≡ false
+  pub structure-back : Typed g → tidyOf form g ≡ true → (g .structured && not (g .hassid)) ≡ false
       → partOf s (at + form .fixed + form .sid + naiLength form (g .nt)) (cond (g .structured) 4 0) 4 ≡ g .structure
   unfolding partOf
   structure-back h e n =
       rw (bits-part h n (g .structured) refl)
       (padded-back (g .structure) (cond (g .structured) 4 0) 4 (h .structure) (cond-most (g .structured) 4) (tidied form g e .structure))
 
-  segment-by : {ero : Bool} → Held g → Plain form ero g → segmentBy form (headOfSegment form g) s at ≡ g
+  segment-by : {ero : Bool} → Typed g → Plain form ero g → segmentBy form (headOfSegment form g) s at ≡ g
   unfolding headOfSegment
   segment-by h p =
       let el = bit-one (g .loose) in
@@ -314,7 +314,7 @@ module _ {form : Form} (z : Sized form) (r : Readable form) {s : List ℕ} {at :
       }
 
   -- What the octets say is the segment.
-  pub segment-back : (ero : Bool) → Held g → Plain form ero g → segmentAt form s ero at ≡ g
+  pub segment-back : (ero : Bool) → Typed g → Plain form ero g → segmentAt form s ero at ≡ g
   unfolding segmentAt
   segment-back ero h p = rw (head-back ero p) (segment-by h p)
 
@@ -341,7 +341,7 @@ module _ {form : Form} (z : Sized form) (r : Readable form) {s : List ℕ} {at :
   fixed-clean false u = refl
 
   -- The last four octets of the structure stand behind the bit lengths.
-  stands-spare : Held g → g .structured ≡ true → (g .structured && not (g .hassid)) ≡ false
+  stands-spare : Typed g → g .structured ≡ true → (g .structured && not (g .hassid)) ≡ false
       → Stands s (at + form .fixed + form .sid + naiLength form (g .nt) + 4) (0 ∷ 0 ∷ 0 ∷ 0 ∷ [])
   stands-spare h e n =
       let f : length (take 4 (g .structure)) ≡ 4 = length-take-le 4 (g .structure) (omega (arith, h .structure)) in
@@ -355,7 +355,7 @@ module _ {form : Form} (z : Sized form) (r : Readable form) {s : List ℕ} {at :
       (rw (stands-first x t (omega arith), stands-octet x t 1 (omega arith), stands-octet x t 2 (omega arith)), stands-octet x t 3 (omega arith))
   reserved-clean false p u = (refl, refl)
 
-  strays-by : {ero : Bool} → Held g → Plain form ero g → straysBy form (headOfSegment form g) s at ≡ noStrays
+  strays-by : {ero : Bool} → Typed g → Plain form ero g → straysBy form (headOfSegment form g) s at ≡ noStrays
   unfolding structureFlags reservedOctets headOfSegment
   strays-by h p =
       let b = hasStructure (headOfSegment form g) in
@@ -368,7 +368,7 @@ module _ {form : Form} (z : Sized form) (r : Readable form) {s : List ℕ} {at :
       λ i. record { flags = ef i; structure = es i; reserved = er i }
 
   -- "Writing knows none: what is written has none."
-  pub strays-back : (ero : Bool) → Held g → Plain form ero g → straysAt form s ero at ≡ noStrays
+  pub strays-back : (ero : Bool) → Typed g → Plain form ero g → straysAt form s ero at ≡ noStrays
   unfolding straysAt
   strays-back ero h p = rw (head-back ero p) (strays-by h p)
 
@@ -411,7 +411,7 @@ module _ {form : Form} (z : Sized form) (r : Readable form) {s : List ℕ} {at :
       unstructured false false q = refl
       unstructured false true q = absurd (let w : _≡_ {A = ℕ} 0 1 = cc in omega arith)
 
-  ending-zero : (ero : Bool) → Held g → Plain form ero g → (b : Bool) → g .structured ≡ b → zeros (endingAt form s ero at) ≡ true
+  ending-zero : (ero : Bool) → Typed g → Plain form ero g → (b : Bool) → g .structured ≡ b → zeros (endingAt form s ero at) ≡ true
   unfolding headOfSegment
   ending-zero ero h p true e =
       let there-now : hasStructure (headOfSegment form g) ≡ true = there form g (p .sided) ∙ e in
@@ -420,7 +420,7 @@ module _ {form : Form} (z : Sized form) (r : Readable form) {s : List ℕ} {at :
       let there-now : hasStructure (headOfSegment form g) ≡ false = there form g (p .sided) ∙ e in
       rw (head-back ero p, there-now)
 
-  pub ignored-back : (ero : Bool) → Held g → Plain form ero g → zeros (ignoredAt form s ero at) ≡ true
+  pub ignored-back : (ero : Bool) → Typed g → Plain form ero g → zeros (ignoredAt form s ero at) ≡ true
   ignored-back ero h p =
       zeros-append (unassignedAt form s at) (assignedAt form s ero at ++ endingAt form s ero at) (unassigned-zero p)
       (zeros-append (assignedAt form s ero at) (endingAt form s ero at) (assigned-zero ero p) (ending-zero ero h p (g .structured) refl))

@@ -22,7 +22,7 @@ use Rattle.subobject.specs.Layout.{sidLength, structureThere, structureLength, 
 use Rattle.subobject.specs.Rules.{rule7, rule8, rule9, malformed, rule11, flagF, hasStructure, sumAt, bitsAt, labelAt, timeAt, hasLabel, rule29, rule30}
 use Rattle.subobject.specs.Segments.{segmentBy, segmentAt, outlineOf, headOfSegment, flagsOctet, fixedOctets, structureOctets, subobjectOf, bitsOf, bit}
 use Rattle.frame.specs.Frames.{kindAt}
-use Rattle.writer_spare.specs.Held.{Held}
+use Rattle.writer_spare.specs.Typed.{Typed}
 use Rattle.writer_spare.specs.Spare.{zeros, tidyOf}
 use Rattle.writer_layout.specs.Readable.{together, Readable}
 use Rattle.writer_layout.proofs.Laws.{length-fixed, four}
@@ -260,9 +260,9 @@ module _ {form : Form} (z : Sized form) (r : Readable form) {ero : Bool} {s : Li
   sid-fits : sidLength form (headAt form s ero at .s) ≤ 16
   sid-fits = omega (arith, z .sid, cond-most (eqb (headAt form s ero at .s) 0) (form .sid))
 
-  pub held : Held (segmentAt form s ero at)
+  pub typed : Typed (segmentAt form s ero at)
   unfolding segmentAt hasStructure
-  held =
+  typed =
       let h = headAt form s ero at in
       record {
         nt = nt-small;
@@ -342,7 +342,7 @@ module _ {form : Form} (z : Sized form) (r : Readable form) {ero : Bool} {s : Li
   unfolding segmentAt
   plain-flags = flags-off form ero s at
 
-  fitting : unfit form ero (segmentAt form s ero at) ≡ false
+  fitting : unfit form (segmentAt form s ero at) ero ≡ false
   unfolding unfit
   fitting = five-off _ _ _ _ _ apart-flags plain-flags tidy (foreign-off form ero s at) formed
 
@@ -566,7 +566,7 @@ module _ {form : Form} (z : Sized form) (r : Readable form) {ero : Bool} {s : Li
       rw (e, part-add s at f (k + (n + m)), part-add s (at + f) k (n + m), part-add s (at + f + k) n m, p)
 
   pub length-written : length (subobjectOf form (segmentAt form s ero at)) ≡ octetOf s (at + 1)
-  length-written = sym (size-subobject z (segmentAt form s ero at) (held z r d)) ∙ ap (λ (h : Head). h .size) (head-written z r d) ∙ size-read
+  length-written = sym (size-subobject z (segmentAt form s ero at) (typed z r d)) ∙ ap (λ (h : Head). h .size) (head-written z r d) ∙ size-read
 
   -- the first four octets, by the ignored bits in them
   abbrev flags : ℕ

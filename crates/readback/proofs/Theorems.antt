@@ -25,7 +25,7 @@ use Rattle.writer_spare.specs.Spare.{zeros}
 use Rattle.forms.proofs.Laws.{sized-by}
 use Rattle.writer_layout.proofs.Forms.{readable-by}
 use Rattle.writer_state.specs.declared.Writer.{Writer}
-use Rattle.readback.specs.Runs.{WriterCall, writeRun, anyRun, takenIn, Accepted, objectIn, AllHeld, openSession}
+use Rattle.readback.specs.Runs.{WriterCall, writeRun, anyRun, takenIn, Accepted, objectIn, AllTyped, openSession}
 use Rattle.objects.specs.Objects.{typePlace, typeWorth}
 use Rattle.readback.specs.Ignored.{EachOctet, strayBitsAt, strayBitsIn, assignedIn, ignoredOf, segmentsRead}
 use Rattle.readback.proofs.Images as images
@@ -43,26 +43,26 @@ three-is-srv6 = refl
 
 -- 1. Whatever list of segments begin, adds and finish accept, ERO or RRO, of either form, in any buffer and from any state: the finished object
 -- is accepted in a session with that form agreed, N set and no limit, under the form's setup type, with that number of segments, none of them stray,
-module _ (ero : Bool) (pst : ℕ) (gs : List Segment) (b : List ℕ) (w : Writer) (held : AllHeld gs) (accepted : Accepted (writeRun b w ero pst gs)) where
-  pub read-back : judgeOf (objectIn (writeRun b w ero pst gs)) ero openSession (formOf pst .setup) ≡ acceptedWith (length gs)
-  read-back = reading.read-back ero pst gs b w held accepted
+module _ (ero : Bool) (pst : ℕ) (gs : List Segment) (b : List ℕ) (w : Writer) (typed : AllTyped gs) (accepted : Accepted (writeRun b w gs ero pst)) where
+  pub read-back : judgeOf (objectIn (writeRun b w gs ero pst)) ero openSession (formOf pst .setup) ≡ acceptedWith (length gs)
+  read-back = reading.read-back ero pst gs b w typed accepted
 
   -- and segment i read is segment i given.
-  pub segments-back : (i : ℕ) → i < length gs → segmentOf (objectIn (writeRun b w ero pst gs)) ero openSession (formOf pst .setup) i
+  pub segments-back : (i : ℕ) → i < length gs → segmentOf (objectIn (writeRun b w gs ero pst)) ero openSession (formOf pst .setup) i
       ≡ record { verdict = acceptedWith (length gs); segment = getD gs i noSegment; strays = noStrays }
-  segments-back i h = reading.segments-back ero pst gs b w held accepted i h
+  segments-back i h = reading.segments-back ero pst gs b w typed accepted i h
 
   -- Every ignored bit of it is 0.
-  pub written-zero : zeros (ignoredOf (formOf pst) (objectIn (writeRun b w ero pst gs)) ero) ≡ true
-  written-zero = reading.written-zero ero pst gs b w held accepted
+  pub written-zero : zeros (ignoredOf (formOf pst) (objectIn (writeRun b w gs ero pst)) ero) ≡ true
+  written-zero = reading.written-zero ero pst gs b w typed accepted
 
   -- In any session and under any setup type it carries no stray segment.
-  pub written-unstray : (session : Session) (any : ℕ) → judgeOf (objectIn (writeRun b w ero pst gs)) ero session any .stray ≡ 0
-  written-unstray session any = reading.written-unstray ero pst gs b w held accepted session any
+  pub written-unstray : (session : Session) (any : ℕ) → judgeOf (objectIn (writeRun b w gs ero pst)) ero session any .stray ≡ 0
+  written-unstray session any = reading.written-unstray ero pst gs b w typed accepted session any
 
 -- 2. Any two finished objects of the same kind, form and segments are equal octet for octet, whatever the buffers and the states were.
-pub one-object : (ero : Bool) (pst : ℕ) (gs : List Segment) (b c : List ℕ) (v w : Writer) → Accepted (writeRun b v ero pst gs) → Accepted (writeRun c w ero pst gs)
-    → objectIn (writeRun b v ero pst gs) ≡ objectIn (writeRun c w ero pst gs)
+pub one-object : (ero : Bool) (pst : ℕ) (gs : List Segment) (b c : List ℕ) (v w : Writer) → Accepted (writeRun b v gs ero pst) → Accepted (writeRun c w gs ero pst)
+    → objectIn (writeRun b v gs ero pst) ≡ objectIn (writeRun c w gs ero pst)
 one-object ero pst gs b c v w p q = images.one-object ero pst gs b c v w p q
 
 -- 3. "Rewriting what was read gives the same octets exactly if all ignored bits were 0": octets that were accepted, ERO or RRO, in any
@@ -70,19 +70,19 @@ one-object ero pst gs b c v w p q = images.one-object ero pst gs b c v w p q
 module _ (s : List ℕ) (ero : Bool) (session : Session) (pst : ℕ) (octets : EachOctet s) (accepted : judgeOf s ero session pst .number ≡ 0)
     (b : List ℕ) (w : Writer) (room : length s ≤ length b) where
   -- The segments read can be written,
-  pub rewritten : Accepted (writeRun b w ero pst (segmentsRead s ero session pst))
+  pub rewritten : Accepted (writeRun b w (segmentsRead s ero session pst) ero pst)
   rewritten = rewriting.rewritten s ero session pst octets accepted b w room
 
   -- the object is the one that was read if all ignored bits were 0,
-  pub rewritten-same : zeros (ignoredOf (formOf pst) s ero) ≡ true → objectIn (writeRun b w ero pst (segmentsRead s ero session pst)) ≡ s
+  pub rewritten-same : zeros (ignoredOf (formOf pst) s ero) ≡ true → objectIn (writeRun b w (segmentsRead s ero session pst) ero pst) ≡ s
   rewritten-same e = rewriting.rewritten-same s ero session pst octets accepted b w room e
 
   -- and only if they were.
-  pub rewritten-zero : objectIn (writeRun b w ero pst (segmentsRead s ero session pst)) ≡ s → zeros (ignoredOf (formOf pst) s ero) ≡ true
+  pub rewritten-zero : objectIn (writeRun b w (segmentsRead s ero session pst) ero pst) ≡ s → zeros (ignoredOf (formOf pst) s ero) ≡ true
   rewritten-zero e = rewriting.rewritten-zero s ero session pst octets accepted b w room e
 
   -- What is rewritten octet for octet has no stray segment.
-  pub rewritten-unstray : objectIn (writeRun b w ero pst (segmentsRead s ero session pst)) ≡ s → judgeOf s ero session pst .stray ≡ 0
+  pub rewritten-unstray : objectIn (writeRun b w (segmentsRead s ero session pst) ero pst) ≡ s → judgeOf s ero session pst .stray ≡ 0
   unfolding judgeOf
   rewritten-unstray e =
       let form = formOf pst in
@@ -94,10 +94,10 @@ module _ (s : List ℕ) (ero : Bool) (session : Session) (pst : ℕ) (octets : E
 
   -- Every accepted object whose ignored bits were 0 is the written one of its segments, whoever wrote it and wherever.
   pub the-written : zeros (ignoredOf (formOf pst) s ero) ≡ true → (gs : List Segment) → segmentsRead s ero session pst ≡ gs
-      → (c : List ℕ) (v : Writer) → Accepted (writeRun c v ero pst gs) → objectIn (writeRun c v ero pst gs) ≡ s
+      → (c : List ℕ) (v : Writer) → Accepted (writeRun c v gs ero pst) → objectIn (writeRun c v gs ero pst) ≡ s
   the-written e gs q c v p =
       let r = segmentsRead s ero session pst in
-      let p′ : Accepted (writeRun c v ero pst r) = rw (← q) at p in
+      let p′ : Accepted (writeRun c v r ero pst) = rw (← q) at p in
       rw (← q) (one-object ero pst r c b v w p′ rewritten) ∙ rewritten-same e
 
 -- 4. An accepted route carries 0 exactly if every bit named in `strayBitsAt` is 0, in each of its subobjects.
@@ -127,6 +127,6 @@ stray-bits pst s ero at o = strays.stray-bits (sized-by pst) (readable-by pst) s
 
 -- 5. Adds that are refused, and finishes in between, change nothing: begin, adds and finishes in any order and then a finish that is
 -- accepted end, state and buffer, as begin, the adds that were accepted, and finish. So 1, 2 and 3 hold of such runs too.
-pub any-run : (b : List ℕ) (w : Writer) (ero : Bool) (pst : ℕ) (cs : List WriterCall) → Accepted (anyRun b w ero pst cs)
-    → anyRun b w ero pst cs ≡ writeRun b w ero pst (takenIn b w ero pst cs)
+pub any-run : (b : List ℕ) (w : Writer) (ero : Bool) (pst : ℕ) (cs : List WriterCall) → Accepted (anyRun b w cs ero pst)
+    → anyRun b w cs ero pst ≡ writeRun b w (takenIn b w cs ero pst) ero pst
 any-run b w ero pst cs e = mixed.any-run b w ero pst cs e

@@ -41,14 +41,14 @@ tidyAlone g =
     && (zeros (drop (srv6Nai (g .nt)) (g .nai)) && zeros (drop (cond (g .structured) 4 0) (g .structure)))
 
 -- "7 (structure without a SID, L or V in an RRO, such octets not 0)"
-abbrev pub unfitAlone : Bool → Segment → Bool
-unfitAlone ero g = (g .structured && not (g .hassid)) || ((not ero && (g .loose || g .verify)) || not (tidyAlone g))
+abbrev pub unfitAlone : Segment → Bool → Bool
+unfitAlone g ero = (g .structured && not (g .hassid)) || ((not ero && (g .loose || g .verify)) || not (tidyAlone g))
 
 -- "Adding checks 8, 9, 7 (..), 11, then 16."
-abbrev pub numberAlone : Bool → ℕ → ℕ → Segment → ℕ
-numberAlone ero at room g =
+abbrev pub numberAlone : Segment → Bool → ℕ → ℕ → ℕ
+numberAlone g ero at room =
     cond (not (eqb (g .nt) 0 || (eqb (g .nt) 2 || (eqb (g .nt) 4 || eqb (g .nt) 6)))) 8
     (cond (eqb (sOf g) 1 && eqb (fOf g) 1) 9
-    (cond (unfitAlone ero g) 7
+    (cond (unfitAlone g ero) 7
     (cond (structured (sOf g) (tOf g) && ltb 128 (fourFrom (g .structure) 0)) 11
     (cond (badPlace at room || passes (at + length (octetsAlone g)) room) 16 0))))

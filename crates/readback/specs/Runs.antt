@@ -13,7 +13,7 @@ use Rattle.forms.specs.declared.Form.{Form}
 use Rattle.subobject.specs.declared.segment.Segment.{Segment}
 use Rattle.subobject.specs.Segments.{subobjectOf}
 use Rattle.objects.specs.Objects.{header}
-use Rattle.writer_spare.specs.Held.{Held}
+use Rattle.writer_spare.specs.Typed.{Typed}
 use Rattle.writer_state.specs.declared.Writer.{Writer}
 use Rattle.writer_state.specs.declared.Written.{Written}
 use Rattle.writer_begin_finish.specs.Ends.{headerOf, beginAnswer, beginBuffer, finishAnswer, finishBuffer}
@@ -45,8 +45,8 @@ addsRun b w [] = finishRun b w
 addsRun b w (g ∷ gs) = onward (addRun b w g) (λ b′ w′. addsRun b′ w′ gs)
 
 -- Begin in any buffer with any state and for any setup type, an add for each segment, then finish.
-unfoldable pub writeRun : List ℕ → Writer → Bool → ℕ → List Segment → Run
-writeRun b w ero pst gs = onward (beginRun b w ero pst) (λ b′ w′. addsRun b′ w′ gs)
+unfoldable pub writeRun : List ℕ → Writer → List Segment → Bool → ℕ → Run
+writeRun b w gs ero pst = onward (beginRun b w ero pst) (λ b′ w′. addsRun b′ w′ gs)
 
 -- Every call accepted.
 abbrev pub Accepted : Run → Type 0
@@ -67,8 +67,8 @@ actsRun b w [] = finishRun b w
 actsRun b w (adding g ∷ cs) = actsRun (addBuffer b w g) (addAnswer b w g .writer) cs
 actsRun b w (finishing ∷ cs) = actsRun (finishBuffer b w) (finishAnswer b w .writer) cs
 
-unfoldable pub anyRun : List ℕ → Writer → Bool → ℕ → List WriterCall → Run
-anyRun b w ero pst cs = onward (beginRun b w ero pst) (λ b′ w′. actsRun b′ w′ cs)
+unfoldable pub anyRun : List ℕ → Writer → List WriterCall → Bool → ℕ → Run
+anyRun b w cs ero pst = onward (beginRun b w ero pst) (λ b′ w′. actsRun b′ w′ cs)
 
 -- The segments of the adds that were accepted.
 unfoldable pub takenFrom : List ℕ → Writer → List WriterCall → List Segment
@@ -78,8 +78,8 @@ takenFrom b w (adding g ∷ cs) =
     (g ∷ takenFrom (addBuffer b w g) (addAnswer b w g .writer) cs)
 takenFrom b w (finishing ∷ cs) = takenFrom (finishBuffer b w) (finishAnswer b w .writer) cs
 
-unfoldable pub takenIn : List ℕ → Writer → Bool → ℕ → List WriterCall → List Segment
-takenIn b w ero pst cs = takenFrom (beginBuffer b w ero) (beginAnswer b w ero pst .writer) cs
+unfoldable pub takenIn : List ℕ → Writer → List WriterCall → Bool → ℕ → List Segment
+takenIn b w cs ero pst = takenFrom (beginBuffer b w ero) (beginAnswer b w ero pst .writer) cs
 
 -- what stands in it --------------------------------------------------------------------------------------------
 
@@ -88,13 +88,13 @@ abbrev pub writtenBody : Form → List Segment → List ℕ
 writtenBody form [] = []
 writtenBody form (g ∷ gs) = subobjectOf form g ++ writtenBody form gs
 
-unfoldable pub objectOf : Form → Bool → List Segment → List ℕ
-objectOf form ero gs = headerOf ero (header + length (writtenBody form gs)) ++ writtenBody form gs
+unfoldable pub objectOf : Form → List Segment → Bool → List ℕ
+objectOf form gs ero = headerOf ero (header + length (writtenBody form gs)) ++ writtenBody form gs
 
 -- Segments as the code holds them.
-pub data AllHeld : List Segment → Type 0 where
-  none : AllHeld []
-  more : {g : Segment} {gs : List Segment} → Held g → AllHeld gs → AllHeld (g ∷ gs)
+pub data AllTyped : List Segment → Type 0 where
+  none : AllTyped []
+  more : {g : Segment} {gs : List Segment} → Typed g → AllTyped gs → AllTyped (g ∷ gs)
 
 -- The session in which everything that can be written is read: the form agreed, N set, no limit; neither flag, nor v or m.
 abbrev pub openSession : Session

@@ -11,13 +11,14 @@ use Rattle.answers.specs.Verdicts.{refusedBy}
 use Rattle.session.specs.declared.Sessions.{Sessions}
 use Rattle.session.specs.Sessions.{sessionUnder}
 use Rattle.forms.specs.Forms.{formOf}
+use Rattle.frame.proofs.Checks.{ByFirst, by-first}
 use Rattle.route.specs.Routes.{acceptanceOf}
 use Rattle.route_limit.specs.FirstOff.{sessionFor}
 use Rattle.route_call.specs.Called.{rule28}
 use Rattle.board_record.specs.declared.record.Board.{Board}
 use Rattle.board_record.specs.Record.{tableIn}
 use Rattle.board_rules.specs.OnRecord.{isRecord, Result, resultOf, reportOn}
-use Rattle.board_rules.proofs.Checks.{ByFirst, by-first, report-numbered, report-checked-on}
+use Rattle.board_rules.proofs.Checks.{report-numbered, report-checked-on}
 use Rattle.report_call.specs.Reported.{reportForOn}
 use Rattle.report_call.specs.Checks.{reportForChecks}
 

@@ -13,10 +13,10 @@ module _ (b : List ℕ) (w : Writer) {r s : Written} {after other : List ℕ} wh
       → (r ≡ s) × (after ≡ other)
   add-determined g p q p' q' = (p ∙ sym p', q ∙ sym q')
 
-  pub add-srv6-determined : (g : Segment) → r ≡ addAnswerIn srv6Form b w g → after ≡ addBufferIn srv6Form b w g → s ≡ addAnswerIn srv6Form b w g
-      → other ≡ addBufferIn srv6Form b w g → (r ≡ s) × (after ≡ other)
+  pub add-srv6-determined : (g : Segment) → r ≡ addAnswerIn b srv6Form w g → after ≡ addBufferIn b srv6Form w g → s ≡ addAnswerIn b srv6Form w g
+      → other ≡ addBufferIn b srv6Form w g → (r ≡ s) × (after ≡ other)
   add-srv6-determined g p q p' q' = (p ∙ sym p', q ∙ sym q')
 
-  pub add-mpls-determined : (g : Segment) → r ≡ addAnswerIn mplsForm b w g → after ≡ addBufferIn mplsForm b w g → s ≡ addAnswerIn mplsForm b w g
-      → other ≡ addBufferIn mplsForm b w g → (r ≡ s) × (after ≡ other)
+  pub add-mpls-determined : (g : Segment) → r ≡ addAnswerIn b mplsForm w g → after ≡ addBufferIn b mplsForm w g → s ≡ addAnswerIn b mplsForm w g
+      → other ≡ addBufferIn b mplsForm w g → (r ≡ s) × (after ≡ other)
   add-mpls-determined g p q p' q' = (p ∙ sym p', q ∙ sym q')

@@ -18,7 +18,7 @@ use Rattle.subobject.specs.declared.segment.Outline.{Outline}
 use Rattle.subobject.specs.declared.segment.Segment.{Segment}
 use Rattle.subobject.specs.Rules.{rule8, rule9, hasStructure}
 use Rattle.subobject.specs.Segments.{outlineOf, headOfOutline, headOfSegment, subobjectOf}
-use Rattle.writer_spare.specs.Held.{Held}
+use Rattle.writer_spare.specs.Typed.{Typed}
 use Rattle.writer_front.specs.Foreign.{foreign}
 use Rattle.writer_front.specs.Front.{barred, frontOf}
 use Rattle.writer_layout.specs.Readable.{Readable}
@@ -56,18 +56,18 @@ mpls-unstructured o sid front ef e n = go (o .structured) refl
 
 -- A call's answer and the buffer that it leaves, by what was found of the segment: a refusal,
 module _ {form : Form} {g : Segment} {h : Head} {front n size : ℕ} (k : Looked form g h front n size) (b : List ℕ) (w : Writer) where
-  pub refused-added : {m : ℕ} {r : Written} → m ≡ addNumber form (w .ero) (w .at) (length b) g → (m ≡ 0 → ⊥) → r ≡ refusedAs m w
-      → (r ≡ addAnswerIn form b w g) × (b ≡ addBufferIn form b w g)
+  pub refused-added : {m : ℕ} {r : Written} → m ≡ addNumber form g (w .ero) (w .at) (length b) → (m ≡ 0 → ⊥) → r ≡ refusedAs m w
+      → (r ≡ addAnswerIn b form w g) × (b ≡ addBufferIn b form w g)
   unfolding addAnswerIn addBufferIn
   refused-added {m} e z q = (answered-refused m _ _ _ q e z, buffer-refused m _ _ _ e z)
 
   pub barred-added : {m : ℕ} {r : Written} → front ≡ 0 → m ≡ cond (rule8 form h) naiUnknown (cond (rule9 h) nothingThere lengthWrong) → r ≡ refusedAs m w
-      → (r ≡ addAnswerIn form b w g) × (b ≡ addBufferIn form b w g)
+      → (r ≡ addAnswerIn b form w g) × (b ≡ addBufferIn b form w g)
   barred-added {m} z e q =
       refused-added (barred-number k (length b) (w .ero) (w .at) m z e) (barred-refused (rule8 form h) (rule9 h) m e) q
 
   -- and an acceptance: what it says of the place, what writing asks for, and what is then left.
-  module _ (z : addNumber form (w .ero) (w .at) (length b) g ≡ 0) where
+  module _ (z : addNumber form g (w .ero) (w .at) (length b) ≡ 0) where
     pub placed-in : Taken form (length b) (w .ero) (w .at) g
     placed-in = taken form (length b) (w .ero) (w .at) g z
 
@@ -77,13 +77,13 @@ module _ {form : Form} {g : Segment} {h : Head} {front n size : ℕ} (k : Looked
     pub end-most : w .at + size ≤ 65532
     end-most = omega (arith, fit .all, placed-in .end .most)
 
-    pub write-asks : (Held g) × (h ≡ headOfOutline form (outlineOf g)) × (rule8 form h ≡ false)
+    pub write-asks : (Typed g) × (h ≡ headOfOutline form (outlineOf g)) × (rule8 form h ≡ false)
         × (length (subobjectOf form g) ≤ length (take (length b - w .at) (drop (w .at) b)))
         × (Sized form) × (Readable form) × (Parts form h front n size) × (g .structured ≡ hasStructure h)
     unfolding headOfSegment
     write-asks =
         let t = placed-in in (
-          k .held,
+          k .typed,
           k .head,
           ap (rule8 form) (k .head) ∙ t .segment .r8,
           simp (rest-lent, length-drop) (omega (arith, t .place .inside, t .end .inside)),
@@ -95,7 +95,7 @@ module _ {form : Form} {g : Segment} {h : Head} {front n size : ℕ} (k : Looked
 
     pub accepted-added : {y : List ℕ} {r : Written} → r ≡ acceptedAs (record { ero = w .ero; at = w .at + size; form = w .form })
         → y ≡ over (subobjectOf form g) (take (length b - w .at) (drop (w .at) b))
-        → (r ≡ addAnswerIn form b w g) × (putMid (w .at) (length b - w .at) b y ≡ addBufferIn form b w g)
+        → (r ≡ addAnswerIn b form w g) × (putMid (w .at) (length b - w .at) b y ≡ addBufferIn b form w g)
     unfolding addAnswerIn addBufferIn
     accepted-added q e =
         let s = ap (λ (x : ℕ). acceptedAs (record { ero = w .ero; at = w .at + x; form = w .form })) (fit .all) in

@@ -15,17 +15,17 @@ use Rattle.writer_state.specs.declared.Written.{Written}
 use Rattle.writer_state.specs.Answers.{answered}
 
 -- A segment of a form:
-unfoldable pub addAnswerIn : Form → List ℕ → Writer → Segment → Written
-addAnswerIn form b w g =
-    answered (addNumber form (w .ero) (w .at) (length b) g) w (record { ero = w .ero; at = w .at + length (subobjectOf form g); form = w .form })
+unfoldable pub addAnswerIn : List ℕ → Form → Writer → Segment → Written
+addAnswerIn b form w g =
+    answered (addNumber form g (w .ero) (w .at) (length b)) w (record { ero = w .ero; at = w .at + length (subobjectOf form g); form = w .form })
 
 -- "each segment is written into the rest of the lent buffer from the present place on; octets behind it stay."
-unfoldable pub addBufferIn : Form → List ℕ → Writer → Segment → List ℕ
-addBufferIn form b w g = kept (addNumber form (w .ero) (w .at) (length b) g) b (placed b (w .at) (subobjectOf form g))
+unfoldable pub addBufferIn : List ℕ → Form → Writer → Segment → List ℕ
+addBufferIn b form w g = kept (addNumber form g (w .ero) (w .at) (length b)) b (placed b (w .at) (subobjectOf form g))
 
 -- The form is the one that the state names.
 abbrev pub addAnswer : List ℕ → Writer → Segment → Written
-addAnswer b w g = addAnswerIn (formOf (w .form)) b w g
+addAnswer b w g = addAnswerIn b (formOf (w .form)) w g
 
 abbrev pub addBuffer : List ℕ → Writer → Segment → List ℕ
-addBuffer b w g = addBufferIn (formOf (w .form)) b w g
+addBuffer b w g = addBufferIn b (formOf (w .form)) w g

@@ -3,7 +3,7 @@
 ghost use mathlib.Core.Path.{_≡_};
 ghost use Rattle.forms.specs.Forms.{srv6Form, mplsForm, formOf};
 ghost use Rattle.subobject.specs.Segments.{segmentWith};
-ghost use Rattle.writer_spare.specs.Held.{Held};
+ghost use Rattle.writer_spare.specs.Typed.{Typed};
 ghost use Rattle.writer.specs.Writing.{addAnswerIn, addBufferIn, addAnswer, addBuffer};
 use forms::Form;
 use subobject::Outline;
@@ -24,9 +24,9 @@ pub fn add_srv6(
     nai: &[u8],
     bits: &[u8],
 ) -> Written
-    requires { ⌜ (Held (segmentWith o (now sid) (now nai) (now bits))) × (form ≡ srv6Form) ⌝ }
-    ensures answer { λ r. ⌜ r ≡ addAnswerIn form (now (buf .entry)) writer (segmentWith o (now (sid .entry)) (now (nai .entry)) (now (bits .entry))) ⌝ }
-    ensures buffer { λ _. ⌜ now (buf .exit) ≡ addBufferIn form (now (buf .entry)) writer (segmentWith o (now (sid .entry)) (now (nai .entry)) (now (bits .entry))) ⌝ }
+    requires { ⌜ (Typed (segmentWith o (now sid) (now nai) (now bits))) × (form ≡ srv6Form) ⌝ }
+    ensures answer { λ r. ⌜ r ≡ addAnswerIn (now (buf .entry)) form writer (segmentWith o (now (sid .entry)) (now (nai .entry)) (now (bits .entry))) ⌝ }
+    ensures buffer { λ _. ⌜ now (buf .exit) ≡ addBufferIn (now (buf .entry)) form writer (segmentWith o (now (sid .entry)) (now (nai .entry)) (now (bits .entry))) ⌝ }
 {
     let h = subobject::head_of(form, o);
     let n = writer_front::nai_octets(form, h.nt);
@@ -37,23 +37,23 @@ pub fn add_srv6(
     let size = front + n + octets::pick(o.structured, subobject::STRUCTURE_SIZE, 0);
     let number = writer_rules::adding_unlabelled(
         form,
-        buf.len(),
-        writer.ero,
-        writer.at,
         h,
-        front,
-        n,
-        size,
         o,
         sid,
         nai,
         bits,
+        writer.ero,
+        writer.at,
+        buf.len(),
+        front,
+        n,
+        size,
     );
     if number != 0 {
         return writer_state::refuse(number, writer);
     }
     let at = writer.at;
-    writer_layout::write(&mut buf[at..], form, h, front, n, size, o, sid, nai, bits);
+    writer_layout::write(&mut buf[at..], form, h, o, sid, nai, bits, front, n, size);
     writer_state::accept(Writer {
         ero: writer.ero,
         at: at + size,
@@ -71,9 +71,9 @@ pub fn add_mpls(
     nai: &[u8],
     bits: &[u8],
 ) -> Written
-    requires { ⌜ (Held (segmentWith o (now sid) (now nai) (now bits))) × (form ≡ mplsForm) ⌝ }
-    ensures answer { λ r. ⌜ r ≡ addAnswerIn form (now (buf .entry)) writer (segmentWith o (now (sid .entry)) (now (nai .entry)) (now (bits .entry))) ⌝ }
-    ensures buffer { λ _. ⌜ now (buf .exit) ≡ addBufferIn form (now (buf .entry)) writer (segmentWith o (now (sid .entry)) (now (nai .entry)) (now (bits .entry))) ⌝ }
+    requires { ⌜ (Typed (segmentWith o (now sid) (now nai) (now bits))) × (form ≡ mplsForm) ⌝ }
+    ensures answer { λ r. ⌜ r ≡ addAnswerIn (now (buf .entry)) form writer (segmentWith o (now (sid .entry)) (now (nai .entry)) (now (bits .entry))) ⌝ }
+    ensures buffer { λ _. ⌜ now (buf .exit) ≡ addBufferIn (now (buf .entry)) form writer (segmentWith o (now (sid .entry)) (now (nai .entry)) (now (bits .entry))) ⌝ }
 {
     let h = subobject::head_of(form, o);
     let n = writer_front::nai_octets(form, h.nt);
@@ -84,23 +84,23 @@ pub fn add_mpls(
     let size = front + n + octets::pick(o.structured, subobject::STRUCTURE_SIZE, 0);
     let number = writer_rules::adding_unstructured(
         form,
-        buf.len(),
-        writer.ero,
-        writer.at,
         h,
-        front,
-        n,
-        size,
         o,
         sid,
         nai,
         bits,
+        writer.ero,
+        writer.at,
+        buf.len(),
+        front,
+        n,
+        size,
     );
     if number != 0 {
         return writer_state::refuse(number, writer);
     }
     let from = writer.at;
-    writer_layout::write(&mut buf[from..], form, h, front, n, size, o, sid, nai, bits);
+    writer_layout::write(&mut buf[from..], form, h, o, sid, nai, bits, front, n, size);
     writer_state::accept(Writer {
         ero: writer.ero,
         at: from + size,
@@ -117,7 +117,7 @@ fn add_parts(
     nai: &[u8],
     bits: &[u8],
 ) -> Written
-    requires { ⌜ Held (segmentWith o (now sid) (now nai) (now bits)) ⌝ }
+    requires { ⌜ Typed (segmentWith o (now sid) (now nai) (now bits)) ⌝ }
     ensures answer { λ r. ⌜ r ≡ addAnswer (now (buf .entry)) writer (segmentWith o (now (sid .entry)) (now (nai .entry)) (now (bits .entry))) ⌝ }
     ensures buffer { λ _. ⌜ now (buf .exit) ≡ addBuffer (now (buf .entry)) writer (segmentWith o (now (sid .entry)) (now (nai .entry)) (now (bits .entry))) ⌝ }
 {

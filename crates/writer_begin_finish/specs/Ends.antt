@@ -1,10 +1,9 @@
--- A route object is begun, and finished (document 01, "Writing a route"; document 02, C-16). What finish refuses stands in writer_rules/specs/Refusals.
+-- A route object is begun, and finished (document 01, "Writing a route"; document 02, C-16). What finish refuses stands in writer_rules/specs/Refusals, the checks of begin and finish in
+-- writer_rules/specs/Checks; that each answers by the first broken one is said in proofs/Checks.
 use Prim.Native.Nat.{ℕ, _*_}
 use mathlib.Core.List.{List, [], _∷_}
-use mathlib.Core.Bool.{Bool, cond}
-use lib.Dec.{ltb}
+use mathlib.Core.Bool.{Bool}
 use lib.ListN.{length}
-use Rattle.answers.specs.Numbers.{bufferFull}
 use Rattle.answers.specs.Verdicts.{kept}
 use Rattle.octets.specs.Octets.{hi, lo, over, placed}
 use Rattle.objects.specs.Objects.{header, lengthPlace, typeWorth, objectType}
@@ -13,6 +12,7 @@ use Rattle.frame.specs.Frames.{classOf}
 use Rattle.writer_state.specs.declared.Writer.{Writer}
 use Rattle.writer_state.specs.declared.Written.{Written}
 use Rattle.writer_state.specs.Answers.{answered}
+use Rattle.writer_rules.specs.Checks.{firstNumber, beginChecks}
 use Rattle.writer_rules.specs.Refusals.{finishNumber}
 
 -- the header ---------------------------------------------------------------------------------------------------
@@ -24,9 +24,9 @@ headerOf ero size = classOf ero ∷ (objectType * typeWorth) ∷ hi size ∷ lo 
 
 -- begin --------------------------------------------------------------------------------------------------------
 
--- "A begin without 4 octets .. is 16."
+-- The number of the first broken check, 0 if none is broken.
 unfoldable pub beginNumber : ℕ → ℕ
-beginNumber room = cond (ltb room header) bufferFull 0
+beginNumber room = firstNumber (beginChecks room)
 
 -- "Begin takes the form (the PST; not 1 is SRv6's). The state keeps it."
 unfoldable pub beginAnswer : List ℕ → Writer → Bool → ℕ → Written

@@ -51,7 +51,7 @@ pub fn finish(buf: &mut [u8], writer: Writer) -> Written
     ensures answer { λ r. ⌜ r ≡ finishAnswer (now (buf .entry)) writer ⌝ }
     ensures buffer { λ _. ⌜ now (buf .exit) ≡ finishBuffer (now (buf .entry)) writer ⌝ }
 {
-    let number = writer_rules::finishing(buf.len(), writer.at);
+    let number = writer_rules::finishing(writer.at, buf.len());
     if number != 0 {
         return writer_state::refuse(number, writer);
     }

@@ -8,7 +8,7 @@ ghost use Rattle.forms.specs.Sized.{Sized};
 ghost use Rattle.subobject.specs.Layout.{worthL, worthNT};
 ghost use Rattle.subobject.specs.Segments.{flagsOctet, fixedOctets};
 ghost use Rattle.subobject_strays.specs.Strays.{reservedPlace};
-ghost use Rattle.writer_spare.specs.Steps.{Known};
+ghost use Rattle.writer_spare.specs.NaiSizes.{Known};
 ghost use Rattle.writer_fixed.specs.Small.{Small};
 use forms::Form;
 use subobject::BEHAVIOUR_PLACE;

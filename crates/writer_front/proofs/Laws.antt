@@ -15,7 +15,7 @@ use Rattle.subobject.specs.declared.segment.Outline.{Outline}
 use Rattle.subobject.specs.Rules.{malformed}
 use Rattle.subobject.specs.Segments.{headOfOutline, bit}
 use Rattle.writer_spare.specs.Spare.{zeros}
-use Rattle.writer_spare.specs.Steps.{Known}
+use Rattle.writer_spare.specs.NaiSizes.{Known}
 use Rattle.writer_front.specs.Foreign.{foreign}
 use Rattle.writer_front.specs.Front.{strayed, barred, lead, frontOf}
 

@@ -7,7 +7,7 @@ ghost use Rattle.forms.specs.Forms.{mplsForm, naiLength};
 ghost use Rattle.subobject.specs.Layout.{sidSize};
 ghost use Rattle.subobject.specs.Rules.{malformed};
 ghost use Rattle.subobject.specs.Segments.{headOfOutline};
-ghost use Rattle.writer_spare.specs.Steps.{Known};
+ghost use Rattle.writer_spare.specs.NaiSizes.{Known};
 ghost use Rattle.writer_front.specs.Front.{strayed, lead, frontOf};
 use forms::Form;
 use subobject::Outline;

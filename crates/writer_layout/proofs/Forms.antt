@@ -9,7 +9,7 @@ use native.Mathlib.Omega.{arith}
 use Rattle.forms.specs.declared.Form.{Form}
 use Rattle.forms.specs.Forms.{srv6Form, mplsForm, formOf, flagIn, naiLength}
 use Rattle.forms.proofs.Laws.{of-both, srv6-fours, mpls-fours}
-use Rattle.writer_spare.specs.Steps.{Step}
+use Rattle.writer_spare.specs.NaiSizes.{NaiOctets}
 use Rattle.writer_layout.specs.Readable.{together, Marks, FlagsApart, Readable}
 
 srv6-apart : (v t f s c m : ℕ) → Marks srv6Form v t f s c m → FlagsApart srv6Form v t f s c m
@@ -75,18 +75,18 @@ mpls-strays a b h =
     let e : (a * 256 + b) % 4096 ≡ a % 16 * 256 + b = omega arith in
     rw e (omega arith)
 
-srv6-steps : (nt : ℕ) → Step (naiLength srv6Form nt)
+srv6-sizes : (nt : ℕ) → NaiOctets (naiLength srv6Form nt)
 unfolding naiLength
-srv6-steps nt = go (eqb nt 1) (eqb nt 2) (eqb nt 3) (eqb nt 4) (eqb nt 5) (eqb nt 6)
+srv6-sizes nt = go (eqb nt 1) (eqb nt 2) (eqb nt 3) (eqb nt 4) (eqb nt 5) (eqb nt 6)
   where
-    go : (a b c d e f : Bool) → Step (cond a 0 (cond b 16 (cond c 0 (cond d 32 (cond e 0 (cond f 40 0))))))
-    go true b c d e f = Step.none
-    go false true c d e f = Step.node
-    go false false true d e f = Step.none
-    go false false false true e f = Step.adjacency
-    go false false false false true f = Step.none
-    go false false false false false true = Step.link-local
-    go false false false false false false = Step.none
+    go : (a b c d e f : Bool) → NaiOctets (cond a 0 (cond b 16 (cond c 0 (cond d 32 (cond e 0 (cond f 40 0))))))
+    go true b c d e f = NaiOctets.none
+    go false true c d e f = NaiOctets.node
+    go false false true d e f = NaiOctets.none
+    go false false false true e f = NaiOctets.adjacency
+    go false false false false true f = NaiOctets.none
+    go false false false false false true = NaiOctets.link-local
+    go false false false false false false = NaiOctets.none
 
 pub srv6-readable : Readable srv6Form
 unfolding flagIn
@@ -97,7 +97,7 @@ srv6-readable =
       sid = refl;
       label = omega arith;
       nai = srv6-fours;
-      steps = srv6-steps;
+      sizes = srv6-sizes;
       most = omega arith;
       apart = srv6-apart;
       whole = λ a h. srv6-whole a;
@@ -105,18 +105,18 @@ srv6-readable =
       strays = srv6-strays;
     }
 
-mpls-steps : (nt : ℕ) → Step (naiLength mplsForm nt)
+mpls-sizes : (nt : ℕ) → NaiOctets (naiLength mplsForm nt)
 unfolding naiLength
-mpls-steps nt = go (eqb nt 1) (eqb nt 2) (eqb nt 3) (eqb nt 4) (eqb nt 5) (eqb nt 6)
+mpls-sizes nt = go (eqb nt 1) (eqb nt 2) (eqb nt 3) (eqb nt 4) (eqb nt 5) (eqb nt 6)
   where
-    go : (a b c d e f : Bool) → Step (cond a 4 (cond b 16 (cond c 8 (cond d 32 (cond e 16 (cond f 40 0))))))
-    go true b c d e f = Step.four
-    go false true c d e f = Step.node
-    go false false true d e f = Step.eight
-    go false false false true e f = Step.adjacency
-    go false false false false true f = Step.node
-    go false false false false false true = Step.link-local
-    go false false false false false false = Step.none
+    go : (a b c d e f : Bool) → NaiOctets (cond a 4 (cond b 16 (cond c 8 (cond d 32 (cond e 16 (cond f 40 0))))))
+    go true b c d e f = NaiOctets.four
+    go false true c d e f = NaiOctets.node
+    go false false true d e f = NaiOctets.eight
+    go false false false true e f = NaiOctets.adjacency
+    go false false false false true f = NaiOctets.node
+    go false false false false false true = NaiOctets.link-local
+    go false false false false false false = NaiOctets.none
 
 pub mpls-readable : Readable mplsForm
 unfolding flagIn
@@ -127,7 +127,7 @@ mpls-readable =
       sid = refl;
       label = omega arith;
       nai = mpls-fours;
-      steps = mpls-steps;
+      sizes = mpls-sizes;
       most = omega arith;
       apart = mpls-apart;
       whole = λ a h. mpls-whole a;

@@ -21,7 +21,7 @@ use Rattle.subobject.specs.declared.head.Head.{Head}
 use Rattle.subobject.specs.Layout.{sidLength, structureLength, expectedLength, structureThere}
 use Rattle.subobject.specs.Rules.{rule8, hasStructure, flagF}
 use Rattle.subobject.specs.Segments.{headOfSegment, flagsOctet, fixedOctets, structureOctets, subobjectOf, bit}
-use Rattle.writer_spare.specs.Held.{Held}
+use Rattle.writer_spare.specs.Typed.{Typed}
 use Rattle.writer_layout.specs.Readable.{Readable}
 use Rattle.writer_fixed.specs.Small.{Small}
 
@@ -60,14 +60,14 @@ length-fixed {form} z h behaviour = go (form .behaves) (z .fixed)
     go false e = sym e
 
 -- The octets of a SID that is there or not, of an NAI, of a structure.
-pub length-sid : {form : Form} → Sized form → (g : Segment) → Held g
+pub length-sid : {form : Form} → Sized form → (g : Segment) → Typed g
     → length (take (sidLength form (headOfSegment form g .s)) (g .sid)) ≡ sidLength form (headOfSegment form g .s)
 length-sid {form} z g h = length-take-le _ (g .sid) (omega (arith, z .sid, h .sid, cond-most (eqb (headOfSegment form g .s) 0) (form .sid)))
 
-pub length-nai : {form : Form} → Sized form → (g : Segment) → Held g → length (take (naiLength form (g .nt)) (g .nai)) ≡ naiLength form (g .nt)
+pub length-nai : {form : Form} → Sized form → (g : Segment) → Typed g → length (take (naiLength form (g .nt)) (g .nai)) ≡ naiLength form (g .nt)
 length-nai z g h = length-take-le _ (g .nai) (omega (arith, nai-most z (g .nt), h .nai))
 
-pub length-subobject : {form : Form} → Sized form → (g : Segment) → Held g
+pub length-subobject : {form : Form} → Sized form → (g : Segment) → Typed g
     → length (subobjectOf form g)
     ≡ form .fixed + sidLength form (headOfSegment form g .s) + naiLength form (g .nt) + structureLength (headOfSegment form g .s) (headOfSegment form g .t)
 unfolding subobjectOf hasStructure
@@ -179,13 +179,13 @@ small-head {form} z r g h e q =
     })
 
 -- Where a subobject fits, its parts do.
-pub room : {form : Form} → Sized form → (g : Segment) (h : Head) (most : ℕ) → Held g → h ≡ headOfSegment form g → length (subobjectOf form g) ≤ most
+pub room : {form : Form} → Sized form → (g : Segment) (h : Head) (most : ℕ) → Typed g → h ≡ headOfSegment form g → length (subobjectOf form g) ≤ most
     → form .fixed + sidLength form (h .s) + naiLength form (h .nt) + cond (hasStructure h) 8 0 ≤ most
 unfolding hasStructure headOfSegment
 room z g h most hg e hl = rw e (omega (arith, length-subobject z g hg))
 
 -- The fixed octets, SID, NAI and structure laid one behind the other are the subobject.
-pub written-subobject : {form : Form} → Sized form → (g : Segment) (h : Head) (last b w x y z : List ℕ) (l k n : ℕ) (there : Bool) → Held g → h ≡ headOfSegment form g
+pub written-subobject : {form : Form} → Sized form → (g : Segment) (h : Head) (last b w x y z : List ℕ) (l k n : ℕ) (there : Bool) → Typed g → h ≡ headOfSegment form g
     → last ≡ structureOctets (g .structure) → l ≡ form .fixed → k ≡ sidLength form (h .s) → n ≡ naiLength form (h .nt) → there ≡ hasStructure h
     → length (subobjectOf form g) ≤ length b → w ≡ over (fixedOctets form h (g .behaviour)) b → x ≡ placed w l (take k (g .sid))
     → y ≡ placed x (l + k) (take n (g .nai)) → z ≡ placed y (l + k + n) (take (cond there 8 0) last) → z ≡ over (subobjectOf form g) b

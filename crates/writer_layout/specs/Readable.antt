@@ -4,7 +4,7 @@ use Prim.Native.Nat.{ℕ, _+_, _*_, _/_, _%_, _≤_, _<_}
 use mathlib.Core.Path.{_≡_}
 use Rattle.forms.specs.declared.Form.{Form}
 use Rattle.forms.specs.Forms.{formOf, flagIn, naiLength}
-use Rattle.writer_spare.specs.Steps.{Step}
+use Rattle.writer_spare.specs.NaiSizes.{NaiOctets}
 
 -- Six flags in one octet, each at what it is worth.
 abbrev pub together : Form → ℕ → ℕ → ℕ → ℕ → ℕ → ℕ → ℕ
@@ -40,7 +40,7 @@ pub record Readable (form : Form) : Type 0 where
   pub sid : form .sid % 4 ≡ 0
   pub label : 4 ≤ form .sid
   pub nai : (nt : ℕ) → naiLength form nt % 4 ≡ 0
-  pub steps : (nt : ℕ) → Step (naiLength form nt)
+  pub sizes : (nt : ℕ) → NaiOctets (naiLength form nt)
   -- all flags fit into an octet, and stand apart in it
   pub most : form .v + form .t + form .f + form .s + form .c + form .m < 256
   pub apart : (v t f s c m : ℕ) → Marks form v t f s c m → FlagsApart form v t f s c m

@@ -9,7 +9,7 @@ ghost use Rattle.forms.specs.Sized.{Sized};
 ghost use Rattle.subobject.specs.Layout.{bitLengths};
 ghost use Rattle.subobject.specs.Rules.{rule8, hasStructure};
 ghost use Rattle.subobject.specs.Segments.{headOfOutline, segmentWith, structureOctets, subobjectOf};
-ghost use Rattle.writer_spare.specs.Held.{Held};
+ghost use Rattle.writer_spare.specs.Typed.{Typed};
 ghost use Rattle.writer_layout.specs.Readable.{Readable};
 ghost use Rattle.writer_layout.specs.Parts.{Parts};
 use forms::Form;
@@ -29,16 +29,16 @@ pub fn write(
     out: &mut [u8],
     form: Form,
     h: Head,
-    front: usize,
-    n: usize,
-    size: usize,
     o: Outline,
     sid: &[u8],
     nai: &[u8],
     bits: &[u8],
+    front: usize,
+    n: usize,
+    size: usize,
 )
     requires { let g = segmentWith o (now sid) (now nai) (now bits) in
-        ⌜ (Held g) × (h ≡ headOfOutline form o) × (rule8 form h ≡ false) × (length (subobjectOf form g) ≤ length (now out))
+        ⌜ (Typed g) × (h ≡ headOfOutline form o) × (rule8 form h ≡ false) × (length (subobjectOf form g) ≤ length (now out))
         × (Sized form) × (Readable form) × (Parts form h front n size) × (o .structured ≡ hasStructure h) ⌝ }
     ensures written { λ _. ⌜ now (out .exit) ≡ over (subobjectOf form (segmentWith o (now (sid .entry)) (now (nai .entry)) (now (bits .entry)))) (now (out .entry)) ⌝ }
 {

@@ -1,5 +1,5 @@
 -- Parts laid one by one, there or not. A part that goes through an array of its own is that array (`own`), so what is laid is the part; an absent one is a run of no octets
--- (`placed-none`). An NAI's length is one of six, and a test between two of them leaves one (`step-40` and so on). Assumes nothing.
+-- (`placed-none`). An NAI's length is one of six, and a test between two of them leaves one (`nai-octets-40` and so on). Assumes nothing.
 use Prim.Native.Nat.{ℕ, _+_, _≤_, _<_}
 use mathlib.Core.Path.{_≡_, refl, sym, _∙_, ap}
 use mathlib.Core.Bool.{Bool, true, false, cond}
@@ -10,7 +10,7 @@ use native.Mathlib.Omega.{arith}
 use Rattle.octets.specs.Octets.{part, over, placed, partOf}
 use Rattle.octets.proofs.Laws.{length-over}
 use Rattle.forms.specs.declared.Form.{Form}
-use Rattle.writer_spare.specs.Steps.{Step}
+use Rattle.writer_spare.specs.NaiSizes.{NaiOctets}
 
 -- A run of no octets.
 pub placed-none : (b : List ℕ) (at : ℕ) → placed b at [] ≡ b
@@ -59,45 +59,45 @@ first-room l a n m at room k e q d h i = let z = first-long l a m k e q h in ome
 
 -- the lengths of an NAI -----------------------------------------------------------------------------------------
 
-pub step-40 : {n : ℕ} → Step n → 32 < n → n ≡ 40
-step-40 Step.none h = omega arith
-step-40 Step.four h = omega arith
-step-40 Step.eight h = omega arith
-step-40 Step.node h = omega arith
-step-40 Step.adjacency h = omega arith
-step-40 Step.link-local h = omega arith
+pub nai-octets-40 : {n : ℕ} → NaiOctets n → 32 < n → n ≡ 40
+nai-octets-40 NaiOctets.none h = omega arith
+nai-octets-40 NaiOctets.four h = omega arith
+nai-octets-40 NaiOctets.eight h = omega arith
+nai-octets-40 NaiOctets.node h = omega arith
+nai-octets-40 NaiOctets.adjacency h = omega arith
+nai-octets-40 NaiOctets.link-local h = omega arith
 
-pub step-32 : {n : ℕ} → Step n → n ≤ 32 → 16 < n → n ≡ 32
-step-32 Step.none h l = omega arith
-step-32 Step.four h l = omega arith
-step-32 Step.eight h l = omega arith
-step-32 Step.node h l = omega arith
-step-32 Step.adjacency h l = omega arith
-step-32 Step.link-local h l = omega arith
+pub nai-octets-32 : {n : ℕ} → NaiOctets n → n ≤ 32 → 16 < n → n ≡ 32
+nai-octets-32 NaiOctets.none h l = omega arith
+nai-octets-32 NaiOctets.four h l = omega arith
+nai-octets-32 NaiOctets.eight h l = omega arith
+nai-octets-32 NaiOctets.node h l = omega arith
+nai-octets-32 NaiOctets.adjacency h l = omega arith
+nai-octets-32 NaiOctets.link-local h l = omega arith
 
-pub step-16 : {n : ℕ} → Step n → n ≤ 16 → 8 < n → n ≡ 16
-step-16 Step.none h l = omega arith
-step-16 Step.four h l = omega arith
-step-16 Step.eight h l = omega arith
-step-16 Step.node h l = omega arith
-step-16 Step.adjacency h l = omega arith
-step-16 Step.link-local h l = omega arith
+pub nai-octets-16 : {n : ℕ} → NaiOctets n → n ≤ 16 → 8 < n → n ≡ 16
+nai-octets-16 NaiOctets.none h l = omega arith
+nai-octets-16 NaiOctets.four h l = omega arith
+nai-octets-16 NaiOctets.eight h l = omega arith
+nai-octets-16 NaiOctets.node h l = omega arith
+nai-octets-16 NaiOctets.adjacency h l = omega arith
+nai-octets-16 NaiOctets.link-local h l = omega arith
 
-pub step-8 : {n : ℕ} → Step n → n ≤ 8 → 4 < n → n ≡ 8
-step-8 Step.none h l = omega arith
-step-8 Step.four h l = omega arith
-step-8 Step.eight h l = omega arith
-step-8 Step.node h l = omega arith
-step-8 Step.adjacency h l = omega arith
-step-8 Step.link-local h l = omega arith
+pub nai-octets-8 : {n : ℕ} → NaiOctets n → n ≤ 8 → 4 < n → n ≡ 8
+nai-octets-8 NaiOctets.none h l = omega arith
+nai-octets-8 NaiOctets.four h l = omega arith
+nai-octets-8 NaiOctets.eight h l = omega arith
+nai-octets-8 NaiOctets.node h l = omega arith
+nai-octets-8 NaiOctets.adjacency h l = omega arith
+nai-octets-8 NaiOctets.link-local h l = omega arith
 
-pub step-4 : {n : ℕ} → Step n → n ≤ 4 → (n ≡ 0 → ⊥) → n ≡ 4
-step-4 Step.none h l = absurd (l refl)
-step-4 Step.four h l = refl
-step-4 Step.eight h l = omega arith
-step-4 Step.node h l = omega arith
-step-4 Step.adjacency h l = omega arith
-step-4 Step.link-local h l = omega arith
+pub nai-octets-4 : {n : ℕ} → NaiOctets n → n ≤ 4 → (n ≡ 0 → ⊥) → n ≡ 4
+nai-octets-4 NaiOctets.none h l = absurd (l refl)
+nai-octets-4 NaiOctets.four h l = refl
+nai-octets-4 NaiOctets.eight h l = omega arith
+nai-octets-4 NaiOctets.node h l = omega arith
+nai-octets-4 NaiOctets.adjacency h l = omega arith
+nai-octets-4 NaiOctets.link-local h l = omega arith
 
 -- No octets laid, and the room of a SID that is there.
 pub laid-none : (b l : List ℕ) (at n : ℕ) → n ≡ 0 → b ≡ placed b at (take n l)

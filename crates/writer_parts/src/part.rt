@@ -5,7 +5,7 @@ ghost use Prim.Native.Nat.{_+_, _≤_};
 ghost use lib.ListN.{length, take};
 ghost use Rattle.octets.specs.Octets.{placed};
 ghost use Rattle.subobject.specs.Layout.{sidSize, naiSize, structureSize};
-ghost use Rattle.writer_spare.specs.Steps.{Step, Known};
+ghost use Rattle.writer_spare.specs.NaiSizes.{NaiOctets, Known};
 use forms::Form;
 
 // A SID behind the fixed part, if it is there.
@@ -38,7 +38,7 @@ fn lay_first(out: &mut [u8], at: usize, nai: &[u8], m: usize)
 
 // An NAI of n octets from the place `at` on.
 pub fn lay_nai(out: &mut [u8], at: usize, nai: &[u8], n: usize)
-    requires { ⌜ (length (now nai) ≡ naiSize) × (Step n) × (at + n ≤ length (now out)) ⌝ }
+    requires { ⌜ (length (now nai) ≡ naiSize) × (NaiOctets n) × (at + n ≤ length (now out)) ⌝ }
     ensures laid { λ _. ⌜ now (out .exit) ≡ placed (now (out .entry)) at (take n (now (nai .entry))) ⌝ }
 {
     if n == 0 {

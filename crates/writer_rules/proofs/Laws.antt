@@ -21,7 +21,7 @@ use Rattle.subobject.specs.declared.segment.Segment.{Segment}
 use Rattle.subobject.specs.Layout.{bitLengths, structureSize, sidLength, structureThere, expectedLength}
 use Rattle.subobject.specs.Rules.{rule8, flagF, rule9, malformed, hasStructure, mostBits, sumAt, rule11, labelAt, timeAt, hasLabel, rule29, rule30}
 use Rattle.subobject.specs.Segments.{outlineOf, headOfOutline, headOfSegment, subobjectOf, bitsOf, bit}
-use Rattle.writer_spare.specs.Held.{Held}
+use Rattle.writer_spare.specs.Typed.{Typed}
 use Rattle.writer_spare.specs.Spare.{zeros, tidyOf}
 use Rattle.writer_spare.proofs.Laws.{tidy-parts}
 use Rattle.writer_layout.specs.Parts.{Parts}
@@ -69,7 +69,7 @@ proper at room e =
 pub record Fit (form : Form) (ero : Bool) (g : Segment) : Type 0 where
   pub r8 : rule8 form (headOfSegment form g) ≡ false
   pub r9 : rule9 (headOfSegment form g) ≡ false
-  pub fit : unfit form ero g ≡ false
+  pub fit : unfit form g ero ≡ false
   pub r11 : rule11 (headOfSegment form g) (bitsOf g) ≡ false
   pub r29 : rule29 (headOfSegment form g) (labelAt (g .sid) 0) ≡ false
   pub r30 : rule30 (headOfSegment form g) (timeAt (g .sid) 0) ≡ false
@@ -80,13 +80,13 @@ pub record Taken (form : Form) (room : ℕ) (ero : Bool) (at : ℕ) (g : Segment
   pub place : Proper at room
   pub end : Within (at + length (subobjectOf form g)) room
 
-pub taken : (form : Form) (room : ℕ) (ero : Bool) (at : ℕ) (g : Segment) → addNumber form ero at room g ≡ 0 → Taken form room ero at g
+pub taken : (form : Form) (room : ℕ) (ero : Bool) (at : ℕ) (g : Segment) → addNumber form g ero at room ≡ 0 → Taken form room ero at g
 unfolding addNumber noRoom
 taken form room ero at g e =
     let h = headOfSegment form g in
     let e8 = no-refusal (rule8 form h) 7 _ e in
     let e9 = no-refusal (rule9 h) 8 _ (e8 .1) in
-    let e7 = no-refusal (unfit form ero g) 6 _ (e9 .1) in
+    let e7 = no-refusal (unfit form g ero) 6 _ (e9 .1) in
     let e11 = no-refusal (rule11 h (bitsOf g)) 10 _ (e7 .1) in
     let e29 = no-refusal (rule29 h (labelAt (g .sid) 0)) 28 _ (e11 .1) in
     let e30 = no-refusal (rule30 h (timeAt (g .sid) 0)) 29 _ (e29 .1) in
@@ -99,7 +99,7 @@ taken form room ero at g e =
     }
 
 -- The octets of a subobject are as many as its head says.
-pub size-subobject : {form : Form} → Sized form → (g : Segment) → Held g → headOfSegment form g .size ≡ length (subobjectOf form g)
+pub size-subobject : {form : Form} → Sized form → (g : Segment) → Typed g → headOfSegment form g .size ≡ length (subobjectOf form g)
 unfolding headOfSegment expectedLength
 size-subobject z g h = sym (length-subobject z g h)
 
@@ -183,7 +183,7 @@ nameless-none a b r e z =
 
 -- 7, by what bars a segment before its NAI.
 pub misfit-unfit : {form : Form} {g : Segment} {h : Head} {front n size : ℕ} → Looked form g h front n size → (ero m : Bool)
-    → m ≡ (eqb front 0 || ((not ero && (g .loose || g .verify)) || not ((g .structured || zeros (g .structure)) && zeros (drop n (g .nai))))) → m ≡ unfit form ero g
+    → m ≡ (eqb front 0 || ((not ero && (g .loose || g .verify)) || not ((g .structured || zeros (g .structure)) && zeros (drop n (g .nai))))) → m ≡ unfit form g ero
 unfolding unfit barred strayed headOfSegment
 misfit-unfit {form} {g} {h} {front} {n} k ero m e =
     let zs = zeros (drop (cond (g .hassid) (form .sid) 0) (g .sid)) in
@@ -191,7 +191,7 @@ misfit-unfit {form} {g} {h} {front} {n} k ero m e =
     let lv = not ero && (g .loose || g .verify) in
     let fm = foreign form (outlineOf g) || malformed (headOfOutline form (outlineOf g)) in
     let q : m ≡ (barred form (outlineOf g) (g .sid) || (lv || not y)) = e ∙ rw (front-zero (k .sized) (outlineOf g) (g .sid) front (k .front), k .nai) in
-    q ∙ go fm (g .structured && not (g .hassid)) zs lv y ∙ rw (tidy-parts form g (k .held))
+    q ∙ go fm (g .structured && not (g .hassid)) zs lv y ∙ rw (tidy-parts form g (k .typed))
   where
     go : (fm sh zs lv y : Bool) → ((fm || (sh || not zs)) || (lv || not y)) ≡ (sh || (lv || (not (zs && y) || fm)))
     go true true zs lv y = refl
@@ -216,7 +216,7 @@ tidy-sid : (form : Form) (g : Segment) → tidyOf form g ≡ true → zeros (dro
 unfolding tidyOf
 tidy-sid form g e = both-true (zeros (drop (cond (g .hassid) (form .sid) 0) (g .sid))) _ e .0
 
-fit-lead : {form : Form} → Sized form → (ero : Bool) (g : Segment) (front : ℕ) → front ≡ frontOf form (outlineOf g) (g .sid) → unfit form ero g ≡ false
+fit-lead : {form : Form} → Sized form → (ero : Bool) (g : Segment) (front : ℕ) → front ≡ frontOf form (outlineOf g) (g .sid) → unfit form g ero ≡ false
     → (front ≡ lead form (outlineOf g)) × ((g .structured && not (g .hassid)) ≡ false)
 unfolding unfit barred strayed headOfSegment
 fit-lead {form} z ero g front ef u =
@@ -228,7 +228,7 @@ fit-lead {form} z ero g front ef u =
     let b : barred form o (g .sid) ≡ false = rw (r .1, p .0, t) in
     (front-lead form o (g .sid) front ef b, p .0)
 
-pub fits-by : {form : Form} {g : Segment} {h : Head} {front n size : ℕ} → Looked form g h front n size → (ero : Bool) → unfit form ero g ≡ false
+pub fits-by : {form : Form} {g : Segment} {h : Head} {front n size : ℕ} → Looked form g h front n size → (ero : Bool) → unfit form g ero ≡ false
     → Fits form g front n size
 unfolding headOfSegment hasStructure expectedLength
 fits-by {form} {g} {h} {front} {n} {size} d ero u =
@@ -237,7 +237,7 @@ fits-by {form} {g} {h} {front} {n} {size} d ero u =
     let t : g .structured ≡ structureThere (bit (not (g .hassid))) (bit (g .structured)) = there-bit (g .structured) (g .hassid) (p .1) in
     let f : front ≡ form .fixed + sidLength form (bit (not (g .hassid))) = p .0 ∙ rw k in
     let w : size ≡ expectedLength form (g .nt) (bit (not (g .hassid))) (bit (g .structured)) = d .whole ∙ rw (f, d .nai, ← t) in
-    record { parts = record { front = f; nai = d .nai; whole = w }; there = t; all = w ∙ size-subobject (d .sized) g (d .held) }
+    record { parts = record { front = f; nai = d .nai; whole = w }; there = t; all = w ∙ size-subobject (d .sized) g (d .typed) }
   where
     sid-bit : (a : Bool) → sidLength form (bit (not a)) ≡ cond a (form .sid) 0
     sid-bit true = refl
@@ -307,10 +307,10 @@ no-label-30 form g time e = rw (no-label form g e)
 -- A segment that is barred before its NAI.
 pub barred-number : {form : Form} {g : Segment} {h : Head} {front n size : ℕ} → Looked form g h front n size → (room : ℕ) (ero : Bool) (at r : ℕ) → front ≡ 0
     → r ≡ cond (rule8 form h) naiUnknown (cond (rule9 h) nothingThere lengthWrong)
-    → r ≡ addNumber form ero at room g
+    → r ≡ addNumber form g ero at room
 unfolding addNumber headOfSegment
-barred-number {form} {g} {front = front} k room ero at r e0 e = e ∙ rw (k .head, go (unfit form ero g) refl)
+barred-number {form} {g} {front = front} k room ero at r e0 e = e ∙ rw (k .head, go (unfit form g ero) refl)
   where
-    go : (u : Bool) → unfit form ero g ≡ u → unfit form ero g ≡ true
+    go : (u : Bool) → unfit form g ero ≡ u → unfit form g ero ≡ true
     go true q = q
     go false q = absurd (omega (arith, fit-lead (k .sized) ero g front (k .front) q .0, fixed-least (k .sized), e0))

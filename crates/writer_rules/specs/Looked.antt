@@ -9,7 +9,7 @@ use Rattle.subobject.specs.declared.head.Head.{Head}
 use Rattle.subobject.specs.declared.segment.Segment.{Segment}
 use Rattle.subobject.specs.Layout.{structureSize}
 use Rattle.subobject.specs.Segments.{outlineOf, headOfOutline}
-use Rattle.writer_spare.specs.Held.{Held}
+use Rattle.writer_spare.specs.Typed.{Typed}
 use Rattle.writer_front.specs.Front.{frontOf}
 use Rattle.writer_layout.specs.Readable.{Readable}
 
@@ -17,7 +17,7 @@ use Rattle.writer_layout.specs.Readable.{Readable}
 pub record Looked (form : Form) (g : Segment) (h : Head) (x n y : ℕ) : Type 0 where
   pub sized : Sized form
   pub readable : Readable form
-  pub held : Held g
+  pub typed : Typed g
   pub head : h ≡ headOfOutline form (outlineOf g)
   pub front : x ≡ frontOf form (outlineOf g) (g .sid)
   pub nai : n ≡ naiLength form (g .nt)

@@ -43,32 +43,32 @@ pub fn adding_barred(form: Form, h: Head, n: usize) -> usize
 // Adding what has no label: 8, 9, 7, 11, then 16. The octets before the NAI, those of the NAI, and all are handed in.
 pub fn adding_unlabelled(
     form: Form,
-    room: usize,
-    ero: bool,
-    at: usize,
     h: Head,
-    front: usize,
-    n: usize,
-    size: usize,
     o: Outline,
     sid: &[u8],
     nai: &[u8],
     bits: &[u8],
+    ero: bool,
+    at: usize,
+    room: usize,
+    front: usize,
+    n: usize,
+    size: usize,
 ) -> usize
     requires { ⌜ Looked form (segmentWith o (now sid) (now nai) (now bits)) h front n size × (o .labelled ≡ false) ⌝ }
-    ensures number { λ r. ⌜ r ≡ addNumber form ero at room (segmentWith o (now (sid .entry)) (now (nai .entry)) (now (bits .entry))) ⌝ }
+    ensures number { λ r. ⌜ r ≡ addNumber form (segmentWith o (now (sid .entry)) (now (nai .entry)) (now (bits .entry))) ero at room ⌝ }
 {
     let first = nameless(form, h, n);
     if first != 0 {
         return first;
     }
-    if writer_tests::misfit(ero, front, n, o, nai, bits) {
+    if writer_tests::misfit(o, nai, bits, ero, front, n) {
         return answers::LENGTH_WRONG;
     }
-    if writer_tests::overlong(o.structured, bits) {
+    if writer_tests::overlong(bits, o.structured) {
         return answers::STRUCTURE_TOO_LONG;
     }
-    if writer_tests::crowded(room, at, size) {
+    if writer_tests::crowded(at, room, size) {
         return answers::BUFFER_FULL;
     }
     0
@@ -77,26 +77,26 @@ pub fn adding_unlabelled(
 // Adding what has no structure: 8, 9, 7, 29, 30, then 16.
 pub fn adding_unstructured(
     form: Form,
-    room: usize,
-    ero: bool,
-    at: usize,
     h: Head,
-    front: usize,
-    n: usize,
-    size: usize,
     o: Outline,
     sid: &[u8],
     nai: &[u8],
     bits: &[u8],
+    ero: bool,
+    at: usize,
+    room: usize,
+    front: usize,
+    n: usize,
+    size: usize,
 ) -> usize
     requires { ⌜ Looked form (segmentWith o (now sid) (now nai) (now bits)) h front n size × (o .structured ≡ false) ⌝ }
-    ensures number { λ r. ⌜ r ≡ addNumber form ero at room (segmentWith o (now (sid .entry)) (now (nai .entry)) (now (bits .entry))) ⌝ }
+    ensures number { λ r. ⌜ r ≡ addNumber form (segmentWith o (now (sid .entry)) (now (nai .entry)) (now (bits .entry))) ero at room ⌝ }
 {
     let first = nameless(form, h, n);
     if first != 0 {
         return first;
     }
-    if writer_tests::misfit(ero, front, n, o, nai, bits) {
+    if writer_tests::misfit(o, nai, bits, ero, front, n) {
         return answers::LENGTH_WRONG;
     }
     if writer_tests::label_bad(h, o.labelled, sid) {
@@ -105,14 +105,14 @@ pub fn adding_unstructured(
     if writer_tests::time_bad(h, o.labelled, sid) {
         return answers::LABEL_FORMAT;
     }
-    if writer_tests::crowded(room, at, size) {
+    if writer_tests::crowded(at, room, size) {
         return answers::BUFFER_FULL;
     }
     0
 }
 
 // Finishing: 16, else 5.
-pub fn finishing(room: usize, at: usize) -> usize
+pub fn finishing(at: usize, room: usize) -> usize
     ensures number { λ r. ⌜ r ≡ finishNumber at room ⌝ }
 {
     if writer_tests::misplaced(at, room) {

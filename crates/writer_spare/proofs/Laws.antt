@@ -16,9 +16,9 @@ use Rattle.forms.specs.declared.Form.{Form}
 use Rattle.forms.specs.Forms.{srv6Form, mplsForm, naiLength}
 use Rattle.subobject.specs.declared.segment.Segment.{Segment}
 use Rattle.subobject.specs.Layout.{bitLengths}
-use Rattle.writer_spare.specs.Held.{Held}
+use Rattle.writer_spare.specs.Typed.{Typed}
 use Rattle.writer_spare.specs.Spare.{zeros, tidyOf}
-use Rattle.writer_spare.specs.Steps.{Known, Step}
+use Rattle.writer_spare.specs.NaiSizes.{Known, NaiOctets}
 
 -- four octets as one number ------------------------------------------------------------------------------------
 
@@ -96,7 +96,7 @@ zeros-there true l n e = let q : length l ≤ n = omega arith in rw (drop-of-len
 zeros-there false l n e = refl
 
 -- A segment whose SID, four bit lengths and NAI are looked at in this order.
-pub tidy-parts : (form : Form) (g : Segment) → Held g
+pub tidy-parts : (form : Form) (g : Segment) → Typed g
     → tidyOf form g
     ≡ (zeros (drop (cond (g .hassid) (form .sid) 0) (g .sid)) && ((g .structured || zeros (g .structure)) && zeros (drop (naiLength form (g .nt)) (g .nai))))
 unfolding tidyOf
@@ -127,21 +127,21 @@ known-mpls form k b = go (eqb (form .setup) 1) k
     go false e = absurd (let y : _≡_ {A = Bool} true false = ap (λ (f : Form). f .behaves) e ∙ b in let z : _≡_ {A = ℕ} 0 1 = cc in omega arith)
     go true e = e
 
-pub step-most : {n : ℕ} → Step n → n ≤ 40
-step-most Step.none = omega arith
-step-most Step.four = omega arith
-step-most Step.eight = omega arith
-step-most Step.node = omega arith
-step-most Step.adjacency = omega arith
-step-most Step.link-local = omega arith
+pub nai-octets-most : {n : ℕ} → NaiOctets n → n ≤ 40
+nai-octets-most NaiOctets.none = omega arith
+nai-octets-most NaiOctets.four = omega arith
+nai-octets-most NaiOctets.eight = omega arith
+nai-octets-most NaiOctets.node = omega arith
+nai-octets-most NaiOctets.adjacency = omega arith
+nai-octets-most NaiOctets.link-local = omega arith
 
-pub step-four : {n : ℕ} → Step n → (n ≡ 40 → ⊥) → (n ≡ 0 → ⊥) → (n ≡ 32 → ⊥) → (n ≡ 16 → ⊥) → (n ≡ 8 → ⊥) → n ≡ 4
-step-four Step.none a b c d e = absurd (b refl)
-step-four Step.four a b c d e = refl
-step-four Step.eight a b c d e = absurd (e refl)
-step-four Step.node a b c d e = absurd (d refl)
-step-four Step.adjacency a b c d e = absurd (c refl)
-step-four Step.link-local a b c d e = absurd (a refl)
+pub nai-octets-four : {n : ℕ} → NaiOctets n → (n ≡ 40 → ⊥) → (n ≡ 0 → ⊥) → (n ≡ 32 → ⊥) → (n ≡ 16 → ⊥) → (n ≡ 8 → ⊥) → n ≡ 4
+nai-octets-four NaiOctets.none a b c d e = absurd (b refl)
+nai-octets-four NaiOctets.four a b c d e = refl
+nai-octets-four NaiOctets.eight a b c d e = absurd (e refl)
+nai-octets-four NaiOctets.node a b c d e = absurd (d refl)
+nai-octets-four NaiOctets.adjacency a b c d e = absurd (c refl)
+nai-octets-four NaiOctets.link-local a b c d e = absurd (a refl)
 
 -- what the code finds, from what its looks say -----------------------------------------------------------------
 

@@ -1,3 +1,3 @@
-pub mod Held
+pub mod Typed
 pub mod Spare
-pub mod Steps
+pub mod NaiSizes

@@ -6,7 +6,7 @@ ghost use lib.ListN.{length, drop};
 ghost use Rattle.octets.specs.Octets.{part};
 ghost use Rattle.subobject.specs.Layout.{naiSize, sidSize, bitLengths};
 ghost use Rattle.writer_spare.specs.Spare.{zeros};
-ghost use Rattle.writer_spare.specs.Steps.{Step, Known};
+ghost use Rattle.writer_spare.specs.NaiSizes.{NaiOctets, Known};
 use forms::Form;
 
 // Octets are looked at four at a time, as one number; the compiler joins the looks.
@@ -34,7 +34,7 @@ fn blank16(s: &[u8], at: usize) -> bool
 }
 
 // Whether the octets of four bit lengths are 0 where these are not there.
-fn unused(there: bool, bits: &[u8]) -> bool
+fn unused(bits: &[u8], there: bool) -> bool
     requires { ⌜ length (now bits) ≡ bitLengths ⌝ }
     ensures unused { λ r. ⌜ r ≡ (there || zeros (now (bits .entry))) ⌝ }
 {
@@ -65,7 +65,7 @@ pub fn sid_tidy(form: Form, sid: &[u8]) -> bool
 
 // Whether the octets behind an NAI of n octets are 0.
 fn nai_tidy(nai: &[u8], n: usize) -> bool
-    requires { ⌜ (length (now nai) ≡ naiSize) × Step n ⌝ }
+    requires { ⌜ (length (now nai) ≡ naiSize) × NaiOctets n ⌝ }
     ensures tidy { λ r. ⌜ r ≡ zeros (drop n (now (nai .entry))) ⌝ }
 {
     if n == forms::LINK_LOCAL_SIZE {
@@ -90,12 +90,12 @@ fn nai_tidy(nai: &[u8], n: usize) -> bool
 }
 
 // Whether the octets kept for an NAI of n octets and for four bit lengths are 0 where these do not stand.
-pub fn rest_tidy(n: usize, structured: bool, nai: &[u8], bits: &[u8]) -> bool
-    requires { ⌜ (length (now nai) ≡ naiSize) × (length (now bits) ≡ bitLengths) × Step n ⌝ }
+pub fn rest_tidy(nai: &[u8], bits: &[u8], n: usize, structured: bool) -> bool
+    requires { ⌜ (length (now nai) ≡ naiSize) × (length (now bits) ≡ bitLengths) × NaiOctets n ⌝ }
     ensures tidy { λ r. ⌜ r ≡ ((structured || zeros (now (bits .entry))) && zeros (drop n (now (nai .entry)))) ⌝ }
 {
     if !nai_tidy(nai, n) {
         return false;
     }
-    unused(structured, bits)
+    unused(bits, structured)
 }

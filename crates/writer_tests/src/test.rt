@@ -8,15 +8,15 @@ ghost use Rattle.subobject.specs.Layout.{naiSize, bitLengths};
 ghost use Rattle.subobject.specs.Rules.{mostBits, sumAt, labelAt, timeAt, rule29, rule30};
 ghost use Rattle.subobject.specs.Segments.{bit};
 ghost use Rattle.writer_spare.specs.Spare.{zeros};
-ghost use Rattle.writer_spare.specs.Steps.{Step};
+ghost use Rattle.writer_spare.specs.NaiSizes.{NaiOctets};
 ghost use Rattle.writer_tests.specs.Places.{passes, badPlace};
 use super::place;
 use subobject::Head;
 use subobject::Outline;
 
 // A segment that is barred before its NAI, L or V in an RRO, octets kept for an NAI that is shorter or a structure that is absent not 0.
-pub fn misfit(ero: bool, front: usize, n: usize, o: Outline, nai: &[u8], bits: &[u8]) -> bool
-    requires { ⌜ (length (now nai) ≡ naiSize) × (length (now bits) ≡ bitLengths) × Step n ⌝ }
+pub fn misfit(o: Outline, nai: &[u8], bits: &[u8], ero: bool, front: usize, n: usize) -> bool
+    requires { ⌜ (length (now nai) ≡ naiSize) × (length (now bits) ≡ bitLengths) × NaiOctets n ⌝ }
     ensures misfit { λ r. ⌜ r ≡ (eqb front 0 || ((not ero && (o .loose || o .verify)) || not ((o .structured || zeros (now (bits .entry))) && zeros (drop n (now (nai .entry)))))) ⌝ }
 {
     if front == 0 {
@@ -25,11 +25,11 @@ pub fn misfit(ero: bool, front: usize, n: usize, o: Outline, nai: &[u8], bits: &
     if octets::both(!ero, octets::either(o.loose, o.verify)) {
         return true;
     }
-    !writer_spare::rest_tidy(n, o.structured, nai, bits)
+    !writer_spare::rest_tidy(nai, bits, n, o.structured)
 }
 
 // Four bit lengths, where they are there, sum above 128.
-pub fn overlong(structured: bool, bits: &[u8]) -> bool
+pub fn overlong(bits: &[u8], structured: bool) -> bool
     ensures overlong { λ r. ⌜ r ≡ (structured && ltb mostBits (sumAt (now (bits .entry)) 0)) ⌝ }
 {
     if !structured {
@@ -61,7 +61,7 @@ pub fn time_bad(h: Head, labelled: bool, sid: &[u8]) -> bool
 }
 
 // The place: 16 where it is bad, or the segment passes the end.
-pub fn crowded(room: usize, at: usize, size: usize) -> bool
+pub fn crowded(at: usize, room: usize, size: usize) -> bool
     requires { ⌜ size < 256 ⌝ }
     ensures crowded { λ r. ⌜ r ≡ (badPlace at room || passes (at + size) room) ⌝ }
 {

@@ -33,8 +33,8 @@ returns c =
     let g : Outline → Segment = λ o. segmentWith o (a .sid .now) (a .nai .now) (a .structure .now) in
     let e = b6 .mpls .ensures ∙ form-mpls (a .state .form) (b9 .if1 .taken) in
     let o = b8 .outline-in .ensures .0 in (
-      by-form (λ (f : Form) (o : Outline). addAnswerIn f (a .buffer .now) (a .state) (g o)) (b2 .add-mpls .ensures .0) e o,
-      by-form (λ (f : Form) (o : Outline). addBufferIn f (a .buffer .now) (a .state) (g o)) (b2 .add-mpls .ensures .1) e o,
+      by-form (λ (f : Form) (o : Outline). addAnswerIn (a .buffer .now) f (a .state) (g o)) (b2 .add-mpls .ensures .0) e o,
+      by-form (λ (f : Form) (o : Outline). addBufferIn (a .buffer .now) f (a .state) (g o)) (b2 .add-mpls .ensures .1) e o,
     )
 
 outline-in-requires-2 : tie.Need-outline-in-requires-2
@@ -59,8 +59,8 @@ returns-2 c =
     let g : Outline → Segment = λ o. segmentWith o (a .sid .now) (a .nai .now) (a .structure .now) in
     let e = b6 .srv6 .ensures ∙ form-srv6 (a .state .form) (b9 .if1 .left) in
     let o = b8 .outline-in2 .ensures .0 in (
-      by-form (λ (f : Form) (o : Outline). addAnswerIn f (a .buffer .now) (a .state) (g o)) (b2 .add-srv6 .ensures .0) e o,
-      by-form (λ (f : Form) (o : Outline). addBufferIn f (a .buffer .now) (a .state) (g o)) (b2 .add-srv6 .ensures .1) e o,
+      by-form (λ (f : Form) (o : Outline). addAnswerIn (a .buffer .now) f (a .state) (g o)) (b2 .add-srv6 .ensures .0) e o,
+      by-form (λ (f : Form) (o : Outline). addBufferIn (a .buffer .now) f (a .state) (g o)) (b2 .add-srv6 .ensures .1) e o,
     )
 
 pub added-spec : {M : Type 1} → statement M

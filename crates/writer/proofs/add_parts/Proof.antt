@@ -25,8 +25,8 @@ returns c =
     let a = b11 .args in
     let g = segmentWith (a .o) (a .sid .now) (a .nai .now) (a .bits .now) in
     let e = b3 .mpls .ensures ∙ form-mpls (a .writer .form) (b3 .before .before .if1 .taken) in (
-      b2 .add-mpls .ensures .0 ∙ ap (λ (f : Form). addAnswerIn f (a .buf .now) (a .writer) g) e,
-      b2 .add-mpls .ensures .1 ∙ ap (λ (f : Form). addBufferIn f (a .buf .now) (a .writer) g) e,
+      b2 .add-mpls .ensures .0 ∙ ap (λ (f : Form). addAnswerIn (a .buf .now) f (a .writer) g) e,
+      b2 .add-mpls .ensures .1 ∙ ap (λ (f : Form). addBufferIn (a .buf .now) f (a .writer) g) e,
     )
 
 srv6-requires : tie.Need-srv6-requires
@@ -47,8 +47,8 @@ returns-2 c =
     let a = b11 .args in
     let g = segmentWith (a .o) (a .sid .now) (a .nai .now) (a .bits .now) in
     let e = b3 .srv6 .ensures ∙ form-srv6 (a .writer .form) (b3 .before .before .if1 .left) in (
-      b2 .add-srv6 .ensures .0 ∙ ap (λ (f : Form). addAnswerIn f (a .buf .now) (a .writer) g) e,
-      b2 .add-srv6 .ensures .1 ∙ ap (λ (f : Form). addBufferIn f (a .buf .now) (a .writer) g) e,
+      b2 .add-srv6 .ensures .0 ∙ ap (λ (f : Form). addAnswerIn (a .buf .now) f (a .writer) g) e,
+      b2 .add-srv6 .ensures .1 ∙ ap (λ (f : Form). addBufferIn (a .buf .now) f (a .writer) g) e,
     )
 
 pub add-parts-spec : {M : Type 1} → statement M

@@ -56,7 +56,7 @@ lay-nai-requires c κs =
     let b8 = b3 .before .before .before .before .before in
     let b15 = b8 .before .before .before .before .before .before .before in (
       b15 .pre .0 .nai,
-      rw (b15 .pre .6 .nai) (b15 .pre .5 .steps (b15 .args .h .nt)),
+      rw (b15 .pre .6 .nai) (b15 .pre .5 .sizes (b15 .args .h .nt)),
       omega (arith, parts b15, b3 .lay-sid .kept .0, b8 .fixed .kept .0, b15 .pre .6 .front, b15 .pre .6 .nai),
     )
 

@@ -1,7 +1,7 @@
 -- Each way out joins the looks made so far to what stands behind an NAI of that length.
 use mathlib.Core.Path.{refl}
 use native.Mathlib.Omega.{arith}
-use Rattle.writer_spare.proofs.Laws.{run-none, last-eight, behind, step-four}
+use Rattle.writer_spare.proofs.Laws.{run-none, last-eight, behind, nai-octets-four}
 use borrow.Author.Needs.{needs}
 use Rattle.writer_spare.proofs.spare.nai_tidy.Statement.{statement}
 use Rattle.writer_spare.proofs.spare.nai_tidy.Tie as tie
@@ -101,7 +101,7 @@ returns-6 c =
     let last = last-eight s _ (b13 .pre .0) (b10 .blank8 .ensures) in
     let node = behind s 16 16 32 _ _ _ refl (b7 .blank163 .ensures) last (b6 .both3 .ensures) in
     let eight = behind s 8 8 16 _ _ _ refl (b4 .blank82 .ensures) node (b3 .both4 .ensures) in
-    rw (step-four (b13 .pre .1) (b11 .if1 .left) (b9 .if2 .left) (b8 .if3 .left) (b5 .if4 .left) (b2 .if5 .left))
+    rw (nai-octets-four (b13 .pre .1) (b11 .if1 .left) (b9 .if2 .left) (b8 .if3 .left) (b5 .if4 .left) (b2 .if5 .left))
     (behind s 4 4 8 _ _ _ refl (c .before .blank4 .ensures) eight (c .both5 .ensures))
 
 pub nai-tidy-spec : {M : Type 1} → statement M

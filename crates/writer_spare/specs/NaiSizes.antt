@@ -8,10 +8,10 @@ use Rattle.forms.specs.Forms.{formOf}
 abbrev pub Known : Form → Type 0
 Known form = formOf (form .setup) ≡ form
 
-pub data Step : ℕ → Type 0 where
-  none : Step 0
-  four : Step 4
-  eight : Step 8
-  node : Step 16
-  adjacency : Step 32
-  link-local : Step 40
+pub data NaiOctets : ℕ → Type 0 where
+  none : NaiOctets 0
+  four : NaiOctets 4
+  eight : NaiOctets 8
+  node : NaiOctets 16
+  adjacency : NaiOctets 32
+  link-local : NaiOctets 40

@@ -5,7 +5,7 @@ use lib.ListN.{length}
 use Rattle.subobject.specs.declared.segment.Segment.{Segment}
 use Rattle.subobject.specs.Layout.{sidSize, naiSize, bitLengths}
 
-pub record Held (g : Segment) : Type 0 where
+pub record Typed (g : Segment) : Type 0 where
   pub nt : g .nt < 256
   pub behaviour : g .behaviour < 65536
   pub sid : length (g .sid) ≡ sidSize
