@@ -1,36 +1,21 @@
 // The board's calls that only look at it, with the record by value (document 01, "The board"): body hands back a part of the lent store,
 // and its form by a call of its own; next hands out a change, moved says if a key of a range changed. Each lends the record's arrays
 // to the call of board_body or board_look.
+mod path;
+
 ghost use mathlib.Core.Path.{_≡_};
-ghost use Rattle.board_look_by_value.specs.ByValue.{bodyNumberByValue, bodyByValue, bodyFormByValue, nextByValue, movedByValue, freshMarkOn};
+ghost use Rattle.board_look_by_value.specs.ByValue.{bodyNumberByValue, bodyFormByValue, nextByValue, movedByValue, freshMarkOn};
 use answers::Verdict;
 use board_record::Board;
 use board_rules::Handed;
 use board_rules::Mark;
+pub use path::body;
 
 // The number of Body (key).
 pub fn body_number(b: Board, store: &[u8], key: u64) -> Verdict
     ensures number { λ r. ⌜ r ≡ bodyNumberByValue b (now (store .entry)) key ⌝ }
 {
     board_body::body_number(
-        &b.keys,
-        &b.versions,
-        &b.lengths,
-        b.version,
-        b.floor,
-        &b.order,
-        &b.tops,
-        &b.forms,
-        store,
-        key,
-    )
-}
-
-// Body (key): the path's octets, a part of the store; empty on refusal.
-pub fn body<'a>(b: Board, store: &'a [u8], key: u64) -> &'a [u8]
-    ensures body { λ r. ⌜ now r ≡ bodyByValue b (now (store .entry)) key ⌝ }
-{
-    board_body::body(
         &b.keys,
         &b.versions,
         &b.lengths,

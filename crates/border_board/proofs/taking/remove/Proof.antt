@@ -1,7 +1,7 @@
 use Rattle.border_board.proofs.Laws.{told}
 use borrow.Author.Needs.{needs}
-use Rattle.border_board.proofs.remove.Statement.{statement}
-use Rattle.border_board.proofs.remove.Tie as tie
+use Rattle.border_board.proofs.taking.remove.Statement.{statement}
+use Rattle.border_board.proofs.taking.remove.Tie as tie
 
 remove-requires : tie.Need-remove-requires
 remove-requires c κs = search needs

@@ -1,6 +1,6 @@
 use borrow.Author.Needs.{needs}
-use Rattle.board_look_by_value.proofs.body.Statement.{statement}
-use Rattle.board_look_by_value.proofs.body.Tie as tie
+use Rattle.board_look_by_value.proofs.path.body.Statement.{statement}
+use Rattle.board_look_by_value.proofs.path.body.Tie as tie
 
 body-requires : tie.Need-body-requires
 body-requires c κs = search needs

@@ -1,7 +1,7 @@
 use Rattle.border_board.proofs.Laws.{told}
 use borrow.Author.Needs.{needs}
-use Rattle.border_board.proofs.compact.Statement.{statement}
-use Rattle.border_board.proofs.compact.Tie as tie
+use Rattle.border_board.proofs.taking.compact.Statement.{statement}
+use Rattle.border_board.proofs.taking.compact.Tie as tie
 
 compact-requires : tie.Need-compact-requires
 compact-requires c κs = search needs
