@@ -1,5 +1,5 @@
 #!/bin/sh
-# Each must-fail edit fits the file that it names: its text stands there once. rt tries the edits behind all proofs; here one that does not fit is told at once.
+# Each must-fail edit begins with a sentence, the rule that it breaks, and fits the file that it names: its text stands there once. rt tries the edits behind all proofs; here one that does not fit is told at once.
 #
 #     tests/edits.sh
 #
@@ -10,7 +10,7 @@ cd "$(dirname "$0")/.."
 find crates -path '*/must-fail/*.edit' | LC_ALL=C sort | LC_ALL=C xargs awk '
     function fault(what) { printf "%s: %s\n", edit, what; faults++ }
     function ended() { if (edit != "" && !pairs) fault("no text to replace") }
-    FNR == 1 { ended(); edit = FILENAME; crate = edit; sub("/must-fail/.*", "", crate); split("", text); file = ""; pairs = 0 }
+    FNR == 1 { ended(); edit = FILENAME; crate = edit; sub("/must-fail/.*", "", crate); split("", text); file = ""; pairs = 0; if ($0 !~ /^[^#].*\.$/ || $0 ~ /^(file|old|new):/) fault("it does not begin with a sentence") }
     /^file: / {
         file = crate "/" substr($0, 7)
         if (!(file in text)) {
