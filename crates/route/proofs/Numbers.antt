@@ -8,6 +8,7 @@ use Rattle.forms.specs.declared.Form.{Form}
 use Rattle.answers.specs.declared.verdict.Verdict.{Verdict}
 use Rattle.answers.specs.Numbers.{noSuchSegment, notUsable}
 use Rattle.answers.specs.Verdicts.{refusedBy}
+use Rattle.answers.proofs.First.{EachOf, each-append}
 use Rattle.session.specs.declared.Session.{Session}
 use Rattle.frame.specs.Checks.{Check, firstBroken}
 use Rattle.frame.specs.Frames.{placesOf}
@@ -19,12 +20,10 @@ abbrev pub Apart : ℕ → Type 0
 Apart n = (n < noSuchSegment) ⊎ (notUsable < n)
 
 abbrev Low : List Check → Type 0
-Low [] = Unit {0}
-Low (c ∷ cs) = Apart (c .number) × Low cs
+Low cs = EachOf (λ c. Apart (c .number)) cs
 
 low-append : (xs ys : List Check) → Low xs → Low ys → Low (xs ++ ys)
-low-append [] ys p q = q
-low-append (x ∷ xs) ys p q = (p .0, low-append xs ys (p .1) q)
+low-append xs ys p q = each-append (λ (c : Check). Apart (c .number)) xs ys p q
 
 low-first : (cs : List Check) (after : Verdict) → Low cs → Apart (after .number) → Apart (firstBroken cs after .number)
 low-first [] after p h = h
