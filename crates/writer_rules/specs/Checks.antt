@@ -10,7 +10,7 @@ use Rattle.answers.specs.Numbers.{routeEmpty, lengthWrong, sidNeeded, bufferFul
 use Rattle.objects.specs.Objects.{header}
 use Rattle.forms.specs.declared.Form.{Form}
 use Rattle.subobject.specs.declared.segment.Segment.{Segment}
-use Rattle.subobject.specs.Rules.{malformed, labelAt, timeAt, Subject, Row, ruleRow, rules}
+use Rattle.subobject.specs.Rules.{rule7, labelAt, timeAt, Subject, Row, ruleRow, rules}
 use Rattle.subobject.specs.Segments.{outlineOf, headOfSegment, subobjectOf, bitsOf}
 use Rattle.frame.specs.Checks.{Check, check}
 use Rattle.frame.specs.Rows.{checksBy, without}
@@ -46,11 +46,11 @@ subjectOf form g ero =
       n = true;
     }
 
--- 7: "structure without a SID, L or V in an RRO, such octets not 0"; what is foreign to the form, and flags that are malformed, as in reading.
+-- 7: "structure without a SID, L or V in an RRO, such octets not 0"; what is foreign to the form; and what breaks 7 in reading, which of this head can only be its flags.
 unfoldable pub unfit : Form → Segment → Bool → Bool
 unfit form g ero =
     (g .structured && not (g .hassid))
-    || ((not ero && (g .loose || g .verify)) || (not (tidyOf form g) || (foreign form (outlineOf g) || malformed (headOfSegment form g))))
+    || ((not ero && (g .loose || g .verify)) || (not (tidyOf form g) || (foreign form (outlineOf g) || rule7 form (headOfSegment form g))))
 
 -- 16: the object would pass that end, or the place is bad.
 unfoldable pub noRoom : Form → Segment → ℕ → ℕ → Bool
