@@ -57,14 +57,14 @@ unfoldable pub noRoom : Form → Segment → ℕ → ℕ → Bool
 noRoom form g at room = badPlace at room || passes (at + length (subobjectOf form g)) room
 
 -- A table in which the rule of a number is broken by something else.
-abbrev pub insteadOf : ℕ → (Subject → Bool) → List Row → List Row
-insteadOf number broken [] = []
-insteadOf number broken (r ∷ rs) = cond (eqb number (r .number)) (ruleRow number (r .placed) broken) r ∷ insteadOf number broken rs
+abbrev pub insteadOf : List Row → ℕ → (Subject → Bool) → List Row
+insteadOf [] number broken = []
+insteadOf (r ∷ rs) number broken = cond (eqb number (r .number)) (ruleRow number (r .placed) broken) r ∷ insteadOf rs number broken
 
 -- "Adding checks 8, 9, 7 (..), 11, then 16"; "29 and 30 after 11": the rules of a subobject in the order of their table, but for 10, and 7 as adding has it; then 16.
 abbrev pub addChecks : Form → Segment → Bool → ℕ → ℕ → List Check
 addChecks form g ero at room =
-    checksBy (insteadOf lengthWrong (λ _. unfit form g ero) (without sidNeeded rules)) (subjectOf form g ero) 0
+    checksBy (insteadOf (without sidNeeded rules) lengthWrong (λ _. unfit form g ero)) (subjectOf form g ero) 0
     ++ (check bufferFull 0 (noRoom form g at room) ∷ [])
 
 -- finish -------------------------------------------------------------------------------------------------------
