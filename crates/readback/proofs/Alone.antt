@@ -21,6 +21,7 @@ use Rattle.subobject.specs.Rules.{rule8, rule9, malformed, rule11, hasStructure
 use Rattle.subobject.specs.Segments.{outlineOf, headOfSegment, flagsOctet, fixedOctets, subobjectOf, bitsOf, bit}
 use Rattle.writer_spare.specs.Spare.{tidyOf}
 use Rattle.writer_rules.specs.Refusals.{foreign, unfit, noRoom, addNumber}
+use Rattle.writer_rules.proofs.Checks.{seven-written}
 use Rattle.writer_state.specs.declared.Writer.{Writer}
 use Rattle.writer_state.specs.Answers.{answered}
 use Rattle.writer.specs.Writing.{addAnswerIn, addBufferIn, addAnswer, addBuffer}
@@ -64,7 +65,7 @@ module _ (g : Segment) (no-m : g .labelled ≡ false) (no-c : g .complete ≡ fa
   unfolding unfit
   unfit-alone ero =
       rw (tidy-alone g)
-      (or-last (g .structured && not (g .hassid)) (not ero && (g .loose || g .verify)) (not (tidyAlone g)) _ (rw (own, formed)))
+      (or-last (g .structured && not (g .hassid)) (not ero && (g .loose || g .verify)) (not (tidyAlone g)) _ (rw (own, seven-written srv6Form g, formed)))
 
   r8 : rule8 srv6Form (headOfSegment srv6Form g) ≡ not (eqb (g .nt) 0 || (eqb (g .nt) 2 || (eqb (g .nt) 4 || eqb (g .nt) 6)))
   unfolding rule8 headOfSegment

@@ -8,7 +8,7 @@ use Rattle.octets.specs.Octets.{octetOf, over, placed}
 use Rattle.forms.specs.Forms.{flagIn, naiLength, knows}
 use Rattle.subobject.specs.declared.segment.Segment.{Segment}
 use Rattle.subobject.specs.Layout.{expectedLength}
-use Rattle.subobject.specs.Rules.{rule8, rule9, malformed, rule11, hasStructure, hasLabel, labelAt, timeAt, rule29, rule30, sumAt}
+use Rattle.subobject.specs.Rules.{rule7, rule8, rule9, malformed, rule11, hasStructure, hasLabel, labelAt, timeAt, rule29, rule30, sumAt}
 use Rattle.subobject.specs.Segments.{headOfSegment, flagsOctet, fixedOctets, subobjectOf, bitsOf}
 use Rattle.writer_spare.specs.Spare.{tidyOf}
 use Rattle.writer_state.specs.declared.Writer.{Writer}
@@ -65,14 +65,14 @@ abbrev told : Run → List ℕ
 told r = r .written .verdict .number ∷ objectIn r
 
 pub written : told (writeRun (replicate 28 0xFF) start (segment ∷ []) true 3) ≡ 0 ∷ E
-unfolding octetOf over placed flagIn naiLength knows expectedLength rule8 rule9 malformed rule11 hasStructure hasLabel labelAt timeAt rule29 rule30 sumAt headOfSegment flagsOctet
+unfolding octetOf over placed flagIn naiLength knows expectedLength rule7 rule8 rule9 malformed rule11 hasStructure hasLabel labelAt timeAt rule29 rule30 sumAt headOfSegment flagsOctet
     fixedOctets subobjectOf bitsOf tidyOf headerOf passes badPlace foreign unfit noRoom beginNumber beginAnswer beginBuffer addNumber addAnswerIn addBufferIn finishNumber
     finishAnswer finishBuffer addsRun writeRun
 written = refl
 
 -- One octet less: 16, and the place is still behind the header that begin wrote.
 pub refused : told (writeRun (replicate 27 0xFF) start (segment ∷ []) true 3) ≡ 16 ∷ 0x07 ∷ 0x10 ∷ 0x00 ∷ 0x04 ∷ []
-unfolding octetOf over placed flagIn naiLength knows expectedLength rule8 rule9 malformed rule11 hasStructure hasLabel labelAt timeAt rule29 rule30 sumAt headOfSegment flagsOctet
+unfolding octetOf over placed flagIn naiLength knows expectedLength rule7 rule8 rule9 malformed rule11 hasStructure hasLabel labelAt timeAt rule29 rule30 sumAt headOfSegment flagsOctet
     fixedOctets subobjectOf bitsOf tidyOf headerOf passes badPlace foreign unfit noRoom beginNumber beginAnswer beginBuffer addNumber addAnswerIn addBufferIn finishNumber
     finishAnswer finishBuffer addsRun writeRun
 refused = refl
@@ -85,14 +85,14 @@ unfilled = refl
 -- The MPLS segment, begun for setup type 1: type 36, 12 octets, NT 1, M.
 pub labelled : told (writeRun (replicate 16 0xFF) start (label ∷ []) true 1)
     ≡ 0 ∷ 0x07 ∷ 0x10 ∷ 0x00 ∷ 0x10 ∷ 0x24 ∷ 0x0C ∷ 0x10 ∷ 0x01 ∷ 0x00 ∷ 0x01 ∷ 0x01 ∷ 0x00 ∷ 192 ∷ 0 ∷ 2 ∷ 1 ∷ []
-unfolding octetOf over placed flagIn naiLength knows expectedLength rule8 rule9 malformed rule11 hasStructure hasLabel labelAt timeAt rule29 rule30 sumAt headOfSegment flagsOctet
+unfolding octetOf over placed flagIn naiLength knows expectedLength rule7 rule8 rule9 malformed rule11 hasStructure hasLabel labelAt timeAt rule29 rule30 sumAt headOfSegment flagsOctet
     fixedOctets subobjectOf bitsOf tidyOf headerOf passes badPlace foreign unfit noRoom beginNumber beginAnswer beginBuffer addNumber addAnswerIn addBufferIn finishNumber
     finishAnswer finishBuffer addsRun writeRun
 labelled = refl
 
 -- Begun for setup type 3 it is refused by 8: SRv6 knows no NT 1.
 pub mislaid : told (writeRun (replicate 16 0xFF) start (label ∷ []) true 3) ≡ 8 ∷ 0x07 ∷ 0x10 ∷ 0x00 ∷ 0x04 ∷ []
-unfolding octetOf over placed flagIn naiLength knows expectedLength rule8 rule9 malformed rule11 hasStructure hasLabel labelAt timeAt rule29 rule30 sumAt headOfSegment flagsOctet
+unfolding octetOf over placed flagIn naiLength knows expectedLength rule7 rule8 rule9 malformed rule11 hasStructure hasLabel labelAt timeAt rule29 rule30 sumAt headOfSegment flagsOctet
     fixedOctets subobjectOf bitsOf tidyOf headerOf passes badPlace foreign unfit noRoom beginNumber beginAnswer beginBuffer addNumber addAnswerIn addBufferIn finishNumber
     finishAnswer finishBuffer addsRun writeRun
 mislaid = refl

@@ -19,7 +19,7 @@ use Rattle.forms.proofs.Laws.{nai-most}
 use Rattle.subobject.specs.declared.head.Head.{Head}
 use Rattle.subobject.specs.declared.segment.Segment.{Segment}
 use Rattle.subobject.specs.Layout.{sidLength, structureThere, structureLength, expectedLength, kindOf, headOf, headAt}
-use Rattle.subobject.specs.Rules.{rule8, rule9, malformed, rule11, flagF, hasStructure, sumAt, bitsAt}
+use Rattle.subobject.specs.Rules.{rule7, rule8, rule9, malformed, rule11, flagF, hasStructure, sumAt, bitsAt}
 use Rattle.subobject.specs.Segments.{segmentBy, segmentAt, outlineOf, headOfSegment, flagsOctet, fixedOctets, structureOctets, subobjectOf, bitsOf, bit}
 use Rattle.subobject_strays.specs.Strays.{strayFlags, structureFlags, reservedOctets, anySet, straysBy, straysAt, noStrays}
 use Rattle.writer_spare.specs.Typed.{Typed}
@@ -28,6 +28,7 @@ use Rattle.writer_layout.specs.Readable.{together, Marks, FlagsApart, Readable}
 use Rattle.writer_layout.proofs.Laws.{length-fixed, length-sid, length-nai, length-subobject, length-structure, flags-small, bit-most, four}
 use Rattle.octets.proofs.Said.{both-true, either-false, cond-most}
 use Rattle.writer_rules.specs.Refusals.{foreign, unfit}
+use Rattle.writer_rules.proofs.Checks.{seven-written}
 use Rattle.readback.specs.Ignored.{unassignedAt, assignedAt, endingAt, ignoredAt}
 use Rattle.readback.proofs.Parts.{zeros-append, zeros-cons}
 use Rattle.readback.proofs.Stands.{Stands, stands-octet, stands-first, stands-left, stands-right, stands-part, padded-back}
@@ -50,7 +51,7 @@ plain form ero g e =
     let p = either-false (g .structured && not (g .hassid)) _ e in
     let q = either-false (not ero && (g .loose || g .verify)) _ (p .1) in
     let r = either-false (not (tidyOf form g)) _ (q .1) in
-    let s = either-false (foreign form (outlineOf g)) (malformed (headOfSegment form g)) (r .1) in
+    let s = either-false (foreign form (outlineOf g)) (rule7 form (headOfSegment form g)) (r .1) in
     let a = either-false (eqb (form .m) 0 && g .labelled) _ (s .0) in
     let b = either-false (eqb (form .c) 0 && g .complete) _ (a .1) in
     let c = either-false (eqb (form .t) 0 && g .structured) _ (b .1) in
@@ -62,7 +63,7 @@ plain form ero g e =
       no-c = b .0;
       no-t = c .0;
       no-behaviour = c .1;
-      formed = s .1;
+      formed = sym (seven-written form g) ∙ s .1;
     }
 
 -- bits ---------------------------------------------------------------------------------------------------------

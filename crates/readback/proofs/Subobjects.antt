@@ -28,6 +28,7 @@ use Rattle.writer_layout.specs.Readable.{together, Readable}
 use Rattle.writer_layout.proofs.Laws.{length-fixed, four}
 use Rattle.octets.proofs.Said.{both-true, either-false, cond-most}
 use Rattle.writer_rules.specs.Refusals.{foreign, unfit}
+use Rattle.writer_rules.proofs.Checks.{seven-written}
 use Rattle.writer_rules.proofs.Laws.{Fit, size-subobject}
 use Rattle.readback.specs.Ignored.{EachOctet, unassignedAt, assignedAt, endingAt, ignoredAt}
 use Rattle.readback.proofs.Stands.{Stands, zeros-are}
@@ -344,7 +345,7 @@ module _ {form : Form} (z : Sized form) (r : Readable form) {ero : Bool} {s : Li
 
   fitting : unfit form (segmentAt form s ero at) ero ≡ false
   unfolding unfit
-  fitting = five-off _ _ _ _ _ apart-flags plain-flags tidy (foreign-off form ero s at) formed
+  fitting = five-off _ _ _ _ _ apart-flags plain-flags tidy (foreign-off form ero s at) (seven-written form (segmentAt form s ero at) ∙ formed)
 
   label-again : (x : ℕ) → rule29 (again form (headAt form s ero at)) x ≡ rule29 (headAt form s ero at) x
   unfolding rule29 hasLabel

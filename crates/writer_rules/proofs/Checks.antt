@@ -1,10 +1,10 @@
 -- The lists of specs/Checks: every check has a number and names place 0, so that the verdict of the first broken one's number is the list's own (`first-verdict`), and a call that gives it
 -- answers by the first broken check (`by-first-number`). What adding's list is when its table is taken apart (`add-listed`), and what of 7 is left of the head that a segment is written with
 -- (`seven-written`): its F and its length are the right ones. Assumes nothing.
-use Prim.Native.Nat.{ℕ, _<_}
+use Prim.Native.Nat.{ℕ}
 use native.Mathlib.Omega.{arith}
 use mathlib.Core.Path.{_≡_, refl, sym, _∙_, ap}
-use mathlib.Core.Bool.{Bool, true, false, not, _&&_, _||_}
+use mathlib.Core.Bool.{Bool, true, false, not}
 use mathlib.Core.List.{List, [], _∷_}
 use borrow.Author.Tests.{eq-eqb}
 use Rattle.answers.specs.declared.verdict.Verdict.{Verdict}
@@ -14,15 +14,14 @@ use Rattle.forms.specs.declared.Form.{Form}
 use Rattle.subobject.specs.declared.segment.Segment.{Segment}
 use Rattle.subobject.specs.Layout.{expectedLength}
 use Rattle.subobject.specs.Rules.{rule8, rule9, flagF, malformed, rule7, rule11, labelAt, timeAt, rule29, rule30}
-use Rattle.subobject.specs.Segments.{outlineOf, headOfSegment, bitsOf, bit}
+use Rattle.subobject.specs.Segments.{headOfSegment, bitsOf, bit}
 use Rattle.frame.specs.Checks.{Check, check, firstBroken}
 use Rattle.frame.proofs.Checks.{Numbered, ByFirst, by-first}
-use Rattle.writer_spare.specs.Spare.{tidyOf}
-use Rattle.writer_rules.specs.Checks.{firstNumber, beginChecks, foreign, unfit, noRoom, addChecks, finishChecks}
+use Rattle.writer_rules.specs.Checks.{firstNumber, beginChecks, unfit, noRoom, addChecks, finishChecks}
 
 -- any list -----------------------------------------------------------------------------------------------------
 
--- Every check of the list has a number, and names place 0.
+-- Every check of the list names place 0.
 abbrev pub AtZero : List Check → Type 0
 AtZero [] = Unit {0}
 AtZero (c ∷ cs) = (c .place ≡ 0) × AtZero cs
@@ -61,31 +60,23 @@ module _ (form : Form) (g : Segment) where
         eq-eqb (expectedLength form (g .nt) (bit (not (g .hassid))) (bit (g .structured))) (expectedLength form (g .nt) (bit (not (g .hassid))) (bit (g .structured))) refl,
       )
 
-  module _ (ero : Bool) where
-    -- So adding's 7 is the table's 7, or one of adding's own: "structure without a SID, L or V in an RRO, such octets not 0", or what is foreign to the form.
-    pub unfit-seven : unfit form g ero
-        ≡ ((g .structured && not (g .hassid))
-        || ((not ero && (g .loose || g .verify)) || (not (tidyOf form g) || (foreign form (outlineOf g) || rule7 form (headOfSegment form g)))))
-    unfolding unfit
-    unfit-seven = rw seven-written
+  module _ (ero : Bool) (at room : ℕ) where
+    -- The list one by one.
+    pub add-listed : addChecks form g ero at room
+        ≡ check 8 0 (rule8 form (headOfSegment form g))
+        ∷ check 9 0 (rule9 (headOfSegment form g))
+        ∷ check 7 0 (unfit form g ero)
+        ∷ check 11 0 (rule11 (headOfSegment form g) (bitsOf g))
+        ∷ check 29 0 (rule29 (headOfSegment form g) (labelAt (g .sid) 0))
+        ∷ check 30 0 (rule30 (headOfSegment form g) (timeAt (g .sid) 0))
+        ∷ check 16 0 (noRoom form g at room)
+        ∷ []
+    add-listed = refl
 
-    module _ (at room : ℕ) where
-      -- The list one by one.
-      pub add-listed : addChecks form g ero at room
-          ≡ check 8 0 (rule8 form (headOfSegment form g))
-          ∷ check 9 0 (rule9 (headOfSegment form g))
-          ∷ check 7 0 (unfit form g ero)
-          ∷ check 11 0 (rule11 (headOfSegment form g) (bitsOf g))
-          ∷ check 29 0 (rule29 (headOfSegment form g) (labelAt (g .sid) 0))
-          ∷ check 30 0 (rule30 (headOfSegment form g) (timeAt (g .sid) 0))
-          ∷ check 16 0 (noRoom form g at room)
-          ∷ []
-      add-listed = refl
-
-      pub add-first : (v : Verdict) → v ≡ verdictOf (firstNumber (addChecks form g ero at room)) → ByFirst v (addChecks form g ero at room) (acceptedWith 0)
-      add-first v e =
-          by-first-number v (addChecks form g ero at room) (omega arith, (omega arith, (omega arith, (omega arith, (omega arith, (omega arith, (omega arith, tt)))))))
-          (refl, (refl, (refl, (refl, (refl, (refl, (refl, tt))))))) e
+    pub add-first : (v : Verdict) → v ≡ verdictOf (firstNumber (addChecks form g ero at room)) → ByFirst v (addChecks form g ero at room) (acceptedWith 0)
+    add-first v e =
+        by-first-number v (addChecks form g ero at room) (omega arith, (omega arith, (omega arith, (omega arith, (omega arith, (omega arith, (omega arith, tt)))))))
+        (refl, (refl, (refl, (refl, (refl, (refl, (refl, tt))))))) e
 
 -- finish -------------------------------------------------------------------------------------------------------
 

@@ -28,6 +28,7 @@ use Rattle.writer_layout.specs.Parts.{Parts}
 use Rattle.writer_layout.proofs.Laws.{length-subobject}
 use Rattle.writer_rules.specs.Refusals.{mostOctets, passes, badPlace, foreign, unfit, noRoom, addNumber, finishNumber}
 use Rattle.writer_rules.specs.Looked.{Looked}
+use Rattle.writer_rules.proofs.Checks.{seven-written}
 use Rattle.writer_front.specs.Front.{strayed, barred, lead, frontOf}
 
 -- tests --------------------------------------------------------------------------------------------------------
@@ -191,7 +192,7 @@ misfit-unfit {form} {g} {h} {front} {n} k ero m e =
     let lv = not ero && (g .loose || g .verify) in
     let fm = foreign form (outlineOf g) || malformed (headOfOutline form (outlineOf g)) in
     let q : m ≡ (barred form (outlineOf g) (g .sid) || (lv || not y)) = e ∙ rw (front-zero (k .sized) (outlineOf g) (g .sid) front (k .front), k .nai) in
-    q ∙ go fm (g .structured && not (g .hassid)) zs lv y ∙ rw (tidy-parts form g (k .typed))
+    q ∙ go fm (g .structured && not (g .hassid)) zs lv y ∙ rw (tidy-parts form g (k .typed), seven-written form g)
   where
     go : (fm sh zs lv y : Bool) → ((fm || (sh || not zs)) || (lv || not y)) ≡ (sh || (lv || (not (zs && y) || fm)))
     go true true zs lv y = refl
@@ -225,7 +226,8 @@ fit-lead {form} z ero g front ef u =
     let q = either-false (not ero && (g .loose || g .verify)) _ (p .1) in
     let r = either-false (not (tidyOf form g)) _ (q .1) in
     let t = tidy-sid form g (not-false (tidyOf form g) (r .0)) in
-    let b : barred form o (g .sid) ≡ false = rw (r .1, p .0, t) in
+    let m = ap (λ (x : Bool). foreign form o || x) (sym (seven-written form g)) ∙ r .1 in
+    let b : barred form o (g .sid) ≡ false = rw (m, p .0, t) in
     (front-lead form o (g .sid) front ef b, p .0)
 
 pub fits-by : {form : Form} {g : Segment} {h : Head} {front n size : ℕ} → Looked form g h front n size → (ero : Bool) → unfit form g ero ≡ false

@@ -10,7 +10,7 @@ use Rattle.answers.specs.Numbers.{routeEmpty, lengthWrong, sidNeeded, bufferFul
 use Rattle.objects.specs.Objects.{header}
 use Rattle.forms.specs.declared.Form.{Form}
 use Rattle.subobject.specs.declared.segment.Segment.{Segment}
-use Rattle.subobject.specs.Rules.{malformed, labelAt, timeAt, Subject, Row, ruleRow, rules}
+use Rattle.subobject.specs.Rules.{rule7, labelAt, timeAt, Subject, Row, ruleRow, rules}
 use Rattle.subobject.specs.Segments.{outlineOf, headOfSegment, subobjectOf, bitsOf}
 use Rattle.frame.specs.Checks.{Check, check}
 use Rattle.frame.specs.Rows.{checksBy, without}
@@ -46,25 +46,25 @@ subjectOf form g ero =
       n = true;
     }
 
--- 7: "structure without a SID, L or V in an RRO, such octets not 0"; what is foreign to the form, and flags that are malformed, as in reading.
+-- 7: "structure without a SID, L or V in an RRO, such octets not 0"; what is foreign to the form; and what breaks 7 in reading, which of this head can only be its flags.
 unfoldable pub unfit : Form → Segment → Bool → Bool
 unfit form g ero =
     (g .structured && not (g .hassid))
-    || ((not ero && (g .loose || g .verify)) || (not (tidyOf form g) || (foreign form (outlineOf g) || malformed (headOfSegment form g))))
+    || ((not ero && (g .loose || g .verify)) || (not (tidyOf form g) || (foreign form (outlineOf g) || rule7 form (headOfSegment form g))))
 
 -- 16: the object would pass that end, or the place is bad.
 unfoldable pub noRoom : Form → Segment → ℕ → ℕ → Bool
 noRoom form g at room = badPlace at room || passes (at + length (subobjectOf form g)) room
 
 -- A table in which the rule of a number is broken by something else.
-abbrev pub insteadOf : ℕ → (Subject → Bool) → List Row → List Row
-insteadOf number broken [] = []
-insteadOf number broken (r ∷ rs) = cond (eqb number (r .number)) (ruleRow number (r .placed) broken) r ∷ insteadOf number broken rs
+abbrev pub insteadOf : List Row → ℕ → (Subject → Bool) → List Row
+insteadOf [] number broken = []
+insteadOf (r ∷ rs) number broken = cond (eqb number (r .number)) (ruleRow number (r .placed) broken) r ∷ insteadOf rs number broken
 
 -- "Adding checks 8, 9, 7 (..), 11, then 16"; "29 and 30 after 11": the rules of a subobject in the order of their table, but for 10, and 7 as adding has it; then 16.
 abbrev pub addChecks : Form → Segment → Bool → ℕ → ℕ → List Check
 addChecks form g ero at room =
-    checksBy (insteadOf lengthWrong (λ _. unfit form g ero) (without sidNeeded rules)) (subjectOf form g ero) 0
+    checksBy (insteadOf (without sidNeeded rules) lengthWrong (λ _. unfit form g ero)) (subjectOf form g ero) 0
     ++ (check bufferFull 0 (noRoom form g at room) ∷ [])
 
 -- finish -------------------------------------------------------------------------------------------------------
