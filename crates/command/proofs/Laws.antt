@@ -33,15 +33,15 @@ module _ (l : List ℕ) where
   unfolding commandOf
   read-long e h = rw (e, lt-ltb longestLine (length l) h)
 
-  pub read-out-of-form : skipped l ≡ false → length l ≤ longestLine → formed (kindsOf (verbOf (wordOf space l 0))) l ≡ false → bareCommand v.Bad ≡ commandOf l
+  pub read-out-of-form : skipped l ≡ false → length l ≤ longestLine → formed (kindsOf (verbOf (wordOf l space 0))) l ≡ false → bareCommand v.Bad ≡ commandOf l
   unfolding commandOf
   read-out-of-form e h f = rw (e, le-ltb longestLine (length l) h, f)
 
-  pub read-in-form : skipped l ≡ false → length l ≤ longestLine → formed (kindsOf (verbOf (wordOf space l 0))) l ≡ true → commanded l ≡ commandOf l
+  pub read-in-form : skipped l ≡ false → length l ≤ longestLine → formed (kindsOf (verbOf (wordOf l space 0))) l ≡ true → commanded l ≡ commandOf l
   unfolding commandOf
   read-in-form e h f = rw (e, le-ltb longestLine (length l) h, f)
 
-  pub made : {verb : Verb} {ero : Bool} {one two three four : ℕ} → verb ≡ verbOf (wordOf space l 0) → ero ≡ sameOctets (wordOf space l 1) theEro
+  pub made : {verb : Verb} {ero : Bool} {one two three four : ℕ} → verb ≡ verbOf (wordOf l space 0) → ero ≡ sameOctets (wordOf l space 1) theEro
       → one ≡ numberAt l 1 → two ≡ numberAt l 2 → three ≡ numberAt l 3 → four ≡ numberAt l 4
       → record { verb = verb; ero = ero; one = one; two = two; three = three; four = four } ≡ commanded l
   made a b c d e f = λ i. record { verb = a i; ero = b i; one = c i; two = d i; three = e i; four = f i }

@@ -30,13 +30,13 @@ bareCommand verb = record { verb = verb; ero = false; one = 0; two = 0; three = 
 
 -- word i of a line as a number
 abbrev pub numberAt : List ℕ → ℕ → ℕ
-numberAt line i = decimalValue (wordOf space line i)
+numberAt line i = decimalValue (wordOf line space i)
 
 -- A command, with what its first four words behind the name say as numbers, and whether the first is `ero`.
 abbrev pub commanded : List ℕ → Command
 commanded line = record {
-  verb = verbOf (wordOf space line 0);
-  ero = sameOctets (wordOf space line 1) theEro;
+  verb = verbOf (wordOf line space 0);
+  ero = sameOctets (wordOf line space 1) theEro;
   one = numberAt line 1;
   two = numberAt line 2;
   three = numberAt line 3;
@@ -46,4 +46,4 @@ commanded line = record {
 -- "Any other line that is not one of the commands, in just that form, is a bad line; so is one of more than 131,200 octets."
 unfoldable pub commandOf : List ℕ → Command
 commandOf line = cond (skipped line) (bareCommand v.Skip) (cond (ltb longestLine (length line)) (bareCommand v.Bad)
-    (cond (formed (kindsOf (verbOf (wordOf space line 0))) line) (commanded line) (bareCommand v.Bad)))
+    (cond (formed (kindsOf (verbOf (wordOf line space 0))) line) (commanded line) (bareCommand v.Bad)))

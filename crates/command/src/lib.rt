@@ -98,7 +98,7 @@ pub fn number_at(line: &[u8], i: usize) -> u64
 // The octets that word `i` spells, laid over the start of `out`, and their number.
 pub fn octets_at(line: &[u8], i: usize, out: &mut [u8]) -> usize
     requires { ⌜ length (now line) ≤ 2 * length (now out) ⌝ }
-    ensures octets { λ r. ⌜ (r ≡ length (octetsOf (wordOf space (now (line .entry)) i))) × (now (out .exit) ≡ over (octetsOf (wordOf space (now (line .entry)) i)) (now (out .entry))) ⌝ }
+    ensures octets { λ r. ⌜ (r ≡ length (octetsOf (wordOf (now (line .entry)) space i))) × (now (out .exit) ≡ over (octetsOf (wordOf (now (line .entry)) space i)) (now (out .entry))) ⌝ }
     ensures within { λ r. ⌜ Counts r (now (out .exit)) ⌝ }
     ensures room { λ _. ⌜ length (now (out .exit)) ≡ length (now (out .entry)) ⌝ }
 {

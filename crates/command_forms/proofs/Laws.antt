@@ -37,15 +37,15 @@ text (r ∷ s ∷ rs) = (r .name ++ behind (letters r)) ++ (newline ∷ text (s 
 abbrev pub table : List ℕ
 table = text rows
 
-pub count : wordsIn newline table ≡ length rows
+pub count : wordsIn table newline ≡ length rows
 unfolding wordsIn
 count = refl
 
-first-words : map (λ (t : List ℕ). wordOf space t 0) (allWords newline table) ≡ map (λ (r : CommandRow). r .name) rows
+first-words : map (λ (t : List ℕ). wordOf t space 0) (allWords newline table) ≡ map (λ (r : CommandRow). r .name) rows
 unfolding wordOf untilMark behindMark laterWords
 first-words = refl
 
-second-words : map (λ (t : List ℕ). wordOf space t 1) (allWords newline table) ≡ map letters rows
+second-words : map (λ (t : List ℕ). wordOf t space 1) (allWords newline table) ≡ map letters rows
 unfolding wordOf untilMark behindMark laterWords
 second-words = refl
 
@@ -63,29 +63,29 @@ none = record { name = []; verb = v.Bad }
 abbrev rowAt : ℕ → CommandRow
 rowAt i = getD rows i none
 
-word-of : (k i : ℕ) → wordOf space (wordOf newline table i) k ≡ getD (map (λ (t : List ℕ). wordOf space t k) (allWords newline table)) i (wordOf space [] k)
-word-of k i = sym (getD-map (λ (t : List ℕ). wordOf space t k) (allWords newline table) i [] ∙ ap (λ (t : List ℕ). wordOf space t k) (all-word newline table i))
+word-of : (k i : ℕ) → wordOf (wordOf table newline i) space k ≡ getD (map (λ (t : List ℕ). wordOf t space k) (allWords newline table)) i (wordOf [] space k)
+word-of k i = sym (getD-map (λ (t : List ℕ). wordOf t space k) (allWords newline table) i [] ∙ ap (λ (t : List ℕ). wordOf t space k) (all-word newline table i))
 
-name-at : (i : ℕ) → wordOf space (wordOf newline table i) 0 ≡ rowAt i .name
+name-at : (i : ℕ) → wordOf (wordOf table newline i) space 0 ≡ rowAt i .name
 unfolding wordOf untilMark
 name-at i = word-of 0 i ∙ ap (λ (l : List (List ℕ)). getD l i []) first-words ∙ getD-map (λ (r : CommandRow). r .name) rows i none
 
-pub name-in : (i : ℕ) {t x y : List ℕ} → t ≡ table → x ≡ wordOf newline t i → y ≡ wordOf space x 0 → y ≡ rowAt i .name
-name-in i p q e = e ∙ ap (λ (x : List ℕ). wordOf space x 0) (q ∙ ap (λ (t : List ℕ). wordOf newline t i) p) ∙ name-at i
+pub name-in : (i : ℕ) {t x y : List ℕ} → t ≡ table → x ≡ wordOf t newline i → y ≡ wordOf x space 0 → y ≡ rowAt i .name
+name-in i p q e = e ∙ ap (λ (x : List ℕ). wordOf x space 0) (q ∙ ap (λ (t : List ℕ). wordOf t newline i) p) ∙ name-at i
 
 verb-in : (rs : List CommandRow) (i : ℕ) → getD rs i none .verb ≡ verbIn rs i
 verb-in [] i = refl
 verb-in (r ∷ rs) zero = refl
 verb-in (r ∷ rs) (suc i) = verb-in rs i
 
-form-at : (i : ℕ) → wordOf space (wordOf newline table i) 1 ≡ map letter (kindsOf (verbAt i))
+form-at : (i : ℕ) → wordOf (wordOf table newline i) space 1 ≡ map letter (kindsOf (verbAt i))
 unfolding wordOf untilMark behindMark
 form-at i =
     word-of 1 i ∙ ap (λ (l : List (List ℕ)). getD l i []) second-words ∙ getD-map letters rows i none
     ∙ ap (λ (x : Verb). map letter (kindsOf x)) (verb-in rows i)
 
-pub form-in : (i : ℕ) {t x y : List ℕ} → t ≡ table → x ≡ wordOf newline t i → y ≡ wordOf space x 1 → y ≡ map letter (kindsOf (verbAt i))
-form-in i p q e = e ∙ ap (λ (x : List ℕ). wordOf space x 1) (q ∙ ap (λ (t : List ℕ). wordOf newline t i) p) ∙ form-at i
+pub form-in : (i : ℕ) {t x y : List ℕ} → t ≡ table → x ≡ wordOf t newline i → y ≡ wordOf x space 1 → y ≡ map letter (kindsOf (verbAt i))
+form-in i p q e = e ∙ ap (λ (x : List ℕ). wordOf x space 1) (q ∙ ap (λ (t : List ℕ). wordOf t newline i) p) ∙ form-at i
 
 verb-past : (rs : List CommandRow) (i : ℕ) → ((j : ℕ) → j < length rs → i ≡ j → ⊥) → v.Bad ≡ verbIn rs i
 verb-past [] i h = refl
@@ -150,7 +150,7 @@ verb-named w = named rows w
 
 -- ## Kinds by their letters
 
-letter-fits : (k : Kind) (w : List ℕ) → fitsLetter (letter k) w ≡ fits k w
+letter-fits : (k : Kind) (w : List ℕ) → fitsLetter w (letter k) ≡ fits w k
 unfolding fitsLetter
 letter-fits number w = refl
 letter-fits bit w = refl
@@ -163,33 +163,33 @@ letter-fits sid w = refl
 letter-fits nai w = refl
 letter-fits structure w = refl
 
-pub by-letter : (k : Kind) (w : List ℕ) {x : ℕ} {r : Bool} → x ≡ letter k → r ≡ fits k w → r ≡ fitsLetter x w
-by-letter k w p e = e ∙ sym (letter-fits k w) ∙ ap (λ (y : ℕ). fitsLetter y w) (sym p)
+pub by-letter : (k : Kind) (w : List ℕ) {x : ℕ} {r : Bool} → x ≡ letter k → r ≡ fits w k → r ≡ fitsLetter w x
+by-letter k w p e = e ∙ sym (letter-fits k w) ∙ ap (λ (y : ℕ). fitsLetter w y) (sym p)
 
 -- x is none of these letters, and A holds: what is known in the last arm of the code's `match`
 abbrev Rest : ℕ → List Kind → Type 0 → Type 0
 Rest x [] A = A
 Rest x (k ∷ ks) A = Rest x ks (A × (x ≡ letter k → ⊥))
 
-none-fits : (ks : List Kind) (x : ℕ) (w : List ℕ) (A : Type 0) → Rest x ks A → (fitsAny ks x w ≡ false) × A
+none-fits : (ks : List Kind) (x : ℕ) (w : List ℕ) (A : Type 0) → Rest x ks A → (fitsAny ks w x ≡ false) × A
 none-fits [] x w A h = (refl, h)
 none-fits (k ∷ ks) x w A h =
     let f = none-fits ks x w (A × (x ≡ letter k → ⊥)) h in
     (rw (ne-eqb x (letter k) (f .1 .1)) (f .0), f .1 .0)
 
-pub no-letter : (x : ℕ) (w : List ℕ) → Rest x kinds Unit → false ≡ fitsLetter x w
+pub no-letter : (x : ℕ) (w : List ℕ) → Rest x kinds Unit → false ≡ fitsLetter w x
 unfolding fitsLetter
 no-letter x w h = sym (none-fits kinds x w Unit h .0)
 
 -- Words i, i + 1, .. are of the kinds of these letters.
 unfoldable pub fitLetters : List ℕ → List ℕ → ℕ → Bool
 fitLetters [] line i = true
-fitLetters (x ∷ xs) line i = fitsLetter x (wordOf space line i) && fitLetters xs line (suc i)
+fitLetters (x ∷ xs) line i = fitsLetter (wordOf line space i) x && fitLetters xs line (suc i)
 
 letters-fit : (ks : List Kind) (line : List ℕ) (i : ℕ) → fitLetters (map letter ks) line i ≡ fitFrom ks line i
 unfolding fitLetters
 letters-fit [] line i = refl
-letters-fit (k ∷ ks) line i = rw (letter-fits k (wordOf space line i), letters-fit ks line (suc i))
+letters-fit (k ∷ ks) line i = rw (letter-fits k (wordOf line space i), letters-fit ks line (suc i))
 
 length-letters : (ks : List Kind) → length (map letter ks) ≡ length ks
 length-letters [] = refl
@@ -200,37 +200,37 @@ length-letters (k ∷ ks) = ap suc (length-letters ks)
 -- The walk has passed the first i letters: what is left of it gives the whole answer.
 pub record Fitting (form line : List ℕ) (i : ℕ) : Type 0 where
   pub within : i ≤ length form
-  pub many : wordsIn space line ≡ length form + 1
+  pub many : wordsIn line space ≡ length form + 1
   pub same : fitLetters (drop i form) line (i + 1) ≡ fitLetters form line 1
 
 -- the answer by letters
 abbrev byLetters : List ℕ → List ℕ → Bool
-byLetters form line = eqb (wordsIn space line) (suc (length form)) && fitLetters form line 1
+byLetters form line = eqb (wordsIn line space) (suc (length form)) && fitLetters form line 1
 
 by-kinds : (place : ℕ) (form line : List ℕ) → form ≡ map letter (kindsOf (verbAt place)) → byLetters form line ≡ formed (kindsOf (verbAt place)) line
 unfolding formed
 by-kinds place form line e = rw (e, length-letters (kindsOf (verbAt place)), letters-fit (kindsOf (verbAt place)) line 1)
 
 module _ (place : ℕ) (form line : List ℕ) (e : form ≡ map letter (kindsOf (verbAt place))) where
-  pub other-number : (wordsIn space line ≡ length form + 1 → ⊥) → false ≡ formed (kindsOf (verbAt place)) line
+  pub other-number : (wordsIn line space ≡ length form + 1 → ⊥) → false ≡ formed (kindsOf (verbAt place)) line
   other-number h =
-      let f = ne-eqb (wordsIn space line) (suc (length form)) (λ n. h (omega arith)) in
+      let f = ne-eqb (wordsIn line space) (suc (length form)) (λ n. h (omega arith)) in
       let g : byLetters form line ≡ false = rw f in sym g ∙ by-kinds place form line e
 
-  pub fitting-start : wordsIn space line ≡ length form + 1 → Fitting form line 0
+  pub fitting-start : wordsIn line space ≡ length form + 1 → Fitting form line 0
   fitting-start h = record { within = omega arith; many = h; same = refl }
 
   whole : (i : ℕ) → Fitting form line i → fitLetters (drop i form) line (i + 1) ≡ formed (kindsOf (verbAt place)) line
   whole i f =
-      let g = eq-eqb (wordsIn space line) (suc (length form)) (omega arith) in
+      let g = eq-eqb (wordsIn line space) (suc (length form)) (omega arith) in
       let k : byLetters form line ≡ fitLetters form line 1 = rw g in f .same ∙ sym k ∙ by-kinds place form line e
 
   module _ (i : ℕ) (f : Fitting form line i) where
-    pub fitting-miss : i < length form → fitsLetter (getD form i 0) (wordOf space line (i + 1)) ≡ false → false ≡ formed (kindsOf (verbAt place)) line
+    pub fitting-miss : i < length form → fitsLetter (wordOf line space (i + 1)) (getD form i 0) ≡ false → false ≡ formed (kindsOf (verbAt place)) line
     unfolding fitLetters
     fitting-miss h t = rw (drop-cons form i 0 h, t) at (whole i f)
 
-    pub fitting-hit : i < length form → fitsLetter (getD form i 0) (wordOf space line (i + 1)) ≡ true → Fitting form line (i + 1)
+    pub fitting-hit : i < length form → fitsLetter (wordOf line space (i + 1)) (getD form i 0) ≡ true → Fitting form line (i + 1)
     unfolding fitLetters
     fitting-hit h t = record {
       within = omega arith;

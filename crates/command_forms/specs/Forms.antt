@@ -85,17 +85,17 @@ pub data Kind : Type 0 where
   nai : Kind
   structure : Kind
 
-abbrev pub fits : Kind → List ℕ → Bool
-fits number w = isNumber w
-fits bit w = isAtMost 1 w
-fits octet w = isAtMost mostOctet w
-fits twoOctets w = isAtMost mostTwoOctets w
-fits size w = isAtMost mostSize w
-fits octets w = isOctets w
-fits side w = sameOctets w theEro || sameOctets w theRro
-fits sid w = isSid w
-fits nai w = isNai w
-fits structure w = isStructure w
+abbrev pub fits : List ℕ → Kind → Bool
+fits w number = isNumber w
+fits w bit = isAtMost w 1
+fits w octet = isAtMost w mostOctet
+fits w twoOctets = isAtMost w mostTwoOctets
+fits w size = isAtMost w mostSize
+fits w octets = isOctets w
+fits w side = sameOctets w theEro || sameOctets w theRro
+fits w sid = isSid w
+fits w nai = isNai w
+fits w structure = isStructure w
 
 -- `pcc OCTETS`, `ero PST OCTETS`, and so on, line by line of the table
 abbrev pub kindsOf : Verb → List Kind
@@ -126,8 +126,8 @@ kindsOf v.Moved = number ∷ number ∷ number ∷ []
 -- Words i, i + 1, .. are of these kinds.
 abbrev pub fitFrom : List Kind → List ℕ → ℕ → Bool
 fitFrom [] line i = true
-fitFrom (k ∷ ks) line i = fits k (wordOf space line i) && fitFrom ks line (suc i)
+fitFrom (k ∷ ks) line i = fits (wordOf line space i) k && fitFrom ks line (suc i)
 
 -- There are as many words as the form has, and each is of its kind.
 unfoldable pub formed : List Kind → List ℕ → Bool
-formed ks line = eqb (wordsIn space line) (suc (length ks)) && fitFrom ks line 1
+formed ks line = eqb (wordsIn line space) (suc (length ks)) && fitFrom ks line 1

@@ -42,9 +42,9 @@ abbrev pub kinds : List Kind
 kinds = number ∷ bit ∷ octet ∷ twoOctets ∷ size ∷ octets ∷ side ∷ sid ∷ nai ∷ structure ∷ []
 
 -- Is this word of the first of these kinds that has this letter?
-abbrev pub fitsAny : List Kind → ℕ → List ℕ → Bool
-fitsAny [] x w = false
-fitsAny (k ∷ ks) x w = cond (eqb x (letter k)) (fits k w) (fitsAny ks x w)
+abbrev pub fitsAny : List Kind → List ℕ → ℕ → Bool
+fitsAny [] w x = false
+fitsAny (k ∷ ks) w x = cond (eqb x (letter k)) (fits w k) (fitsAny ks w x)
 
-unfoldable pub fitsLetter : ℕ → List ℕ → Bool
-fitsLetter x w = fitsAny kinds x w
+unfoldable pub fitsLetter : List ℕ → ℕ → Bool
+fitsLetter w x = fitsAny kinds w x

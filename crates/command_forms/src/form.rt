@@ -24,8 +24,8 @@ use words::word;
 pub const MOST_SIZE: usize = 65536;
 
 // Is this word of the kind that has this letter?
-fn fits(letter: u8, w: &[u8]) -> bool
-    ensures fits { λ r. ⌜ r ≡ fitsLetter letter (now (w .entry)) ⌝ }
+fn fits(w: &[u8], letter: u8) -> bool
+    ensures fits { λ r. ⌜ r ≡ fitsLetter (now (w .entry)) letter ⌝ }
 {
     match letter {
         b'n' => is_number(w),
@@ -54,7 +54,7 @@ pub fn is_formed(line: &[u8], place: usize) -> bool
     }
     let mut i: usize = 0;
     while i < form.len() {
-        if !fits(form[i], word(line, SPACE, i + 1)) {
+        if !fits(word(line, SPACE, i + 1), form[i]) {
             return false;
         }
         i = i + 1;

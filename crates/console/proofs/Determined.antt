@@ -16,7 +16,7 @@ use Rattle.console_state.specs.declared.state.State.{State}
 use Rattle.console_state.specs.State.{consoleOf}
 use Rattle.console_dialogue.specs.Turns.{Does}
 
-pub word-determined : (m : ℕ) (line : List ℕ) (i : ℕ) {a b : List ℕ} → a ≡ wordOf m line i → b ≡ wordOf m line i → a ≡ b
+pub word-determined : (m : ℕ) (line : List ℕ) (i : ℕ) {a b : List ℕ} → a ≡ wordOf line m i → b ≡ wordOf line m i → a ≡ b
 word-determined m line i p q = p ∙ sym q
 
 pub value-determined : (w : List ℕ) {a b : ℕ} → a ≡ decimalValue w → b ≡ decimalValue w → a ≡ b

@@ -120,7 +120,7 @@ clear-depth (some v) = clear-decimal v
 clear-comma : (n : ℕ) (t : List ℕ) → clear t ≡ true → clear (decimalOf n ++ (comma ∷ t)) ≡ true
 clear-comma n t h = clear-append (decimalOf n) (comma ∷ t) (clear-decimal n) (clear-cons comma t (omega arith) h)
 
-clear-structure : (there : Bool) (bits : List ℕ) → clear (structureText there bits) ≡ true
+clear-structure : (there : Bool) (bits : List ℕ) → clear (structureText bits there) ≡ true
 unfolding clear
 clear-structure true bits = clear-comma (getD bits 0 0) _ (clear-comma (getD bits 1 0) _ (clear-comma (getD bits 2 0) _ (clear-decimal (getD bits 3 0))))
 clear-structure false bits = refl
@@ -212,7 +212,7 @@ segment-one : (form : Form) (g : Segment) (x : Strays) → OneLine (segmentLine 
 segment-one form g x =
     let sid = octetsText (take (cond (g .hassid) (form .sid) 0) (g .sid)) in
     let nai = octetsText (take (naiLength form (g .nt)) (g .nai)) in
-    let structure = structureText (g .structured) (g .structure) in
+    let structure = structureText (g .structure) (g .structured) in
     let labels = labelWords (g .labelled) (g .complete) x in
     accepted-one _ (numbers-clear (bit (g .loose)) (bit (g .verify)) _ (numbers-clear (g .nt) (g .behaviour) (sid ∷ nai ∷ structure ∷ labels)
     (all-cons sid (nai ∷ structure ∷ labels) (clear-octets (take (cond (g .hassid) (form .sid) 0) (g .sid)))

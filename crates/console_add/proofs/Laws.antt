@@ -13,9 +13,9 @@ use Rattle.console_add.specs.Added.{sidIn, naiIn, segmentSaid}
 pub segment-made : (c : Command) (line : List ℕ) {sid nai structure : List ℕ} {bare plain : Bool} {m k : ℕ}
     → sid ≡ sidIn line
     → nai ≡ naiIn line
-    → bare ≡ isNone (wordOf space line 5)
-    → plain ≡ isNone (wordOf space line 7)
-    → structure ≡ structureOf (wordOf space line 7)
+    → bare ≡ isNone (wordOf line space 5)
+    → plain ≡ isNone (wordOf line space 7)
+    → structure ≡ structureOf (wordOf line space 7)
     → m ≡ numberAt line 8
     → k ≡ numberAt line 9
     → record {

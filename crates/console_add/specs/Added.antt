@@ -28,11 +28,11 @@ segmentSaid c line = record {
   verify = eqb (c .two) 1;
   nt = c .three;
   behaviour = c .four;
-  hassid = not (isNone (wordOf space line 5));
+  hassid = not (isNone (wordOf line space 5));
   sid = sidIn line;
   nai = naiIn line;
-  structured = not (isNone (wordOf space line 7));
-  structure = structureOf (wordOf space line 7);
+  structured = not (isNone (wordOf line space 7));
+  structure = structureOf (wordOf line space 7);
   labelled = eqb (numberAt line 8) 1;
   complete = eqb (numberAt line 9) 1;
 }

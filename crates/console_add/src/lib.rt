@@ -31,7 +31,7 @@ fn nai_in(line: &[u8], room: &mut [u8]) -> [u8; 40]
     octets::part40(room, 0, n)
 }
 
-pub fn segment_in(line: &[u8], c: Command, room: &mut [u8]) -> Segment
+pub fn segment_in(c: Command, line: &[u8], room: &mut [u8]) -> Segment
     requires { ⌜ Spells (now line) (now room) × AddForm c (now line) ⌝ }
     ensures segment { λ r. ⌜ r ≡ segmentSaid c (now (line .entry)) ⌝ }
     ensures room { λ _. ⌜ length (now (room .exit)) ≡ length (now (room .entry)) ⌝ }

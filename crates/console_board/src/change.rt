@@ -21,8 +21,8 @@ pub struct Boarded {
 // `report KEY PST OCTETS`
 pub fn reported(
     b: Board,
-    line: &[u8],
     c: Command,
+    line: &[u8],
     both: Sessions,
     store: &mut [u8],
     memory: &[u8],
@@ -31,9 +31,9 @@ pub fn reported(
     out: &mut [u8],
 ) -> Boarded
     requires { ⌜ (length (now line) ≤ 2 * length (now room)) × (short ≤ length (now out)) ⌝ }
-    ensures board { λ r. ⌜ r .board ≡ reportTurn b (now (store .entry)) both (listIn given (now (memory .entry))) c (now (line .entry)) .board ⌝ }
-    ensures store { λ r. ⌜ now (store .exit) ≡ reportTurn b (now (store .entry)) both (listIn given (now (memory .entry))) c (now (line .entry)) .store ⌝ }
-    ensures told { λ r. ⌜ Behind (now (out .entry)) (now (out .exit)) 0 (r .end) (reportTurn b (now (store .entry)) both (listIn given (now (memory .entry))) c (now (line .entry)) .answer) ⌝ }
+    ensures board { λ r. ⌜ r .board ≡ reportTurn b (now (store .entry)) c (now (line .entry)) both (listIn (now (memory .entry)) given) .board ⌝ }
+    ensures store { λ r. ⌜ now (store .exit) ≡ reportTurn b (now (store .entry)) c (now (line .entry)) both (listIn (now (memory .entry)) given) .store ⌝ }
+    ensures told { λ r. ⌜ Behind (now (out .entry)) (now (out .exit)) 0 (r .end) (reportTurn b (now (store .entry)) c (now (line .entry)) both (listIn (now (memory .entry)) given) .answer) ⌝ }
 {
     let n = octets_at(line, 3, room);
     let list = listed(memory, given);

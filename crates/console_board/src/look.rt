@@ -90,7 +90,7 @@ pub fn chain(b: Board, out: &mut [u8]) -> usize
     ensures told { λ r. ⌜ Behind (now (out .entry)) (now (out .exit)) 0 r (chainLine b) ⌝ }
 {
     let order = b.order;
-    let mut row = [0u8; PLACES];
-    let n = console_chain::along(&order, &mut row);
-    console_accepted::list(out, &row[..n])
+    let mut laid = [0u8; PLACES];
+    let n = console_chain::along(&order, &mut laid);
+    console_accepted::list(out, &laid[..n])
 }

@@ -10,10 +10,10 @@ use Rattle.command_rows.specs.declared.Looking.{Looking}
 use Rattle.command_rows.specs.declared.Looking.the-variants as l
 use Rattle.console_board.specs.BoardLines.{Boarding, reportTurn, removeTurn, compactTurn, bodyLine, nextLine, movedLine, markLine, boardLine, chainLine}
 
-abbrev pub changedTurn : Changing → Board → List ℕ → Sessions → List ℕ → Command → List ℕ → Boarding
-changedTurn g.Report b store both addresses c line = reportTurn b store both addresses c line
-changedTurn g.Remove b store both addresses c line = removeTurn b store c
-changedTurn g.Compact b store both addresses c line = compactTurn b store c
+abbrev pub changedTurn : Changing → Board → List ℕ → Command → List ℕ → Sessions → List ℕ → Boarding
+changedTurn g.Report b store c line both addresses = reportTurn b store c line both addresses
+changedTurn g.Remove b store c line both addresses = removeTurn b store c
+changedTurn g.Compact b store c line both addresses = compactTurn b store c
 
 abbrev pub lookedLine : Looking → Board → List ℕ → Command → List ℕ
 lookedLine l.Body b store c = bodyLine b store c

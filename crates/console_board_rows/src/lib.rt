@@ -27,8 +27,8 @@ use session::Sessions;
 pub fn changed(
     row: Changing,
     b: Board,
-    line: &[u8],
     c: Command,
+    line: &[u8],
     both: Sessions,
     store: &mut [u8],
     memory: &[u8],
@@ -37,12 +37,12 @@ pub fn changed(
     out: &mut [u8],
 ) -> Boarded
     requires { ⌜ (length (now line) ≤ 2 * length (now room)) × (short ≤ length (now out)) ⌝ }
-    ensures board { λ r. ⌜ r .board ≡ changedTurn row b (now (store .entry)) both (listIn given (now (memory .entry))) c (now (line .entry)) .board ⌝ }
-    ensures store { λ r. ⌜ now (store .exit) ≡ changedTurn row b (now (store .entry)) both (listIn given (now (memory .entry))) c (now (line .entry)) .store ⌝ }
-    ensures told { λ r. ⌜ Behind (now (out .entry)) (now (out .exit)) 0 (r .end) (changedTurn row b (now (store .entry)) both (listIn given (now (memory .entry))) c (now (line .entry)) .answer) ⌝ }
+    ensures board { λ r. ⌜ r .board ≡ changedTurn row b (now (store .entry)) c (now (line .entry)) both (listIn (now (memory .entry)) given) .board ⌝ }
+    ensures store { λ r. ⌜ now (store .exit) ≡ changedTurn row b (now (store .entry)) c (now (line .entry)) both (listIn (now (memory .entry)) given) .store ⌝ }
+    ensures told { λ r. ⌜ Behind (now (out .entry)) (now (out .exit)) 0 (r .end) (changedTurn row b (now (store .entry)) c (now (line .entry)) both (listIn (now (memory .entry)) given) .answer) ⌝ }
 {
     match row {
-        Changing::Report => reported(b, line, c, both, store, memory, given, room, out),
+        Changing::Report => reported(b, c, line, both, store, memory, given, room, out),
         Changing::Remove => removed(b, c, store, out),
         Changing::Compact => compacted(b, c, store, out),
     }

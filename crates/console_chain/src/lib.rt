@@ -5,10 +5,10 @@ ghost use lib.ListN.{length, take};
 ghost use Rattle.board_record.specs.Sizes.{places};
 ghost use Rattle.console_chain.specs.Chain.{chainOf};
 
-// The places that the numbers of an order name go to the front of `row`; how many they are.
-pub fn along(order: &[u8], row: &mut [u8]) -> usize
-    requires { ⌜ (length (now order) ≡ places) × (length (now row) ≡ places) ⌝ }
-    ensures named { λ r. ⌜ take r (now (row .exit)) ≡ chainOf (now (order .entry)) ⌝ }
+// The places that the numbers of an order name go to the front of `laid`; how many they are.
+pub fn along(order: &[u8], laid: &mut [u8]) -> usize
+    requires { ⌜ (length (now order) ≡ places) × (length (now laid) ≡ places) ⌝ }
+    ensures named { λ r. ⌜ take r (now (laid .exit)) ≡ chainOf (now (order .entry)) ⌝ }
     ensures within { λ r. ⌜ r ≤ places ⌝ }
 {
     let mut i: usize = 0;
@@ -17,7 +17,7 @@ pub fn along(order: &[u8], row: &mut [u8]) -> usize
         if n == 0 {
             return i;
         }
-        row[i] = n - 1;
+        laid[i] = n - 1;
         i += 1;
     }
     i

@@ -45,73 +45,73 @@ longer-none g h = rw (append-nil, take-all mostKept (g .line) h)
 -- ## Lines
 
 -- Octets with a newline: the line before it is answered, and what is behind it is heard next.
-hear-on : (g : Dialogue) (p xs : List ℕ) → length (untilMark newline xs) < length xs
-    → hearAll (longer g p) xs ≡ hearAll (lineEnded (longer g (p ++ untilMark newline xs))) (behindMark newline xs)
+hear-on : (g : Dialogue) (p xs : List ℕ) → length (untilMark xs newline) < length xs
+    → hearAll (longer g p) xs ≡ hearAll (lineEnded (longer g (p ++ untilMark xs newline))) (behindMark xs newline)
 unfolding hearAll untilMark behindMark
 hear-on g p [] h = absurd (omega arith)
 hear-on g p (x ∷ xs) h = go (eqb x newline) refl (λ k. hear-on g (p ++ (x ∷ [])) xs k) where
   go : (t : Bool) → eqb x newline ≡ t
-      → (length (untilMark newline xs) < length xs
-      → hearAll (longer g (p ++ (x ∷ []))) xs ≡ hearAll (lineEnded (longer g ((p ++ (x ∷ [])) ++ untilMark newline xs))) (behindMark newline xs))
-      → hearAll (longer g p) (x ∷ xs) ≡ hearAll (lineEnded (longer g (p ++ untilMark newline (x ∷ xs)))) (behindMark newline (x ∷ xs))
+      → (length (untilMark xs newline) < length xs
+      → hearAll (longer g (p ++ (x ∷ []))) xs ≡ hearAll (lineEnded (longer g ((p ++ (x ∷ [])) ++ untilMark xs newline))) (behindMark xs newline))
+      → hearAll (longer g p) (x ∷ xs) ≡ hearAll (lineEnded (longer g (p ++ untilMark (x ∷ xs) newline))) (behindMark (x ∷ xs) newline)
   go true e ih = rw (e, append-nil)
   go false e ih =
       let k = rw e at h in
       rw (e, longer-twice) (ih (omega arith) ∙ rw append-assoc)
 
 -- Octets without one are more of the line.
-hear-in : (g : Dialogue) (p xs : List ℕ) → length xs ≤ length (untilMark newline xs) → hearAll (longer g p) xs ≡ longer g (p ++ untilMark newline xs)
+hear-in : (g : Dialogue) (p xs : List ℕ) → length xs ≤ length (untilMark xs newline) → hearAll (longer g p) xs ≡ longer g (p ++ untilMark xs newline)
 unfolding hearAll untilMark
 hear-in g p [] h = rw append-nil
 hear-in g p (x ∷ xs) h = go (eqb x newline) refl (λ k. hear-in g (p ++ (x ∷ [])) xs k) where
   go : (t : Bool) → eqb x newline ≡ t
-      → (length xs ≤ length (untilMark newline xs) → hearAll (longer g (p ++ (x ∷ []))) xs ≡ longer g ((p ++ (x ∷ [])) ++ untilMark newline xs))
-      → hearAll (longer g p) (x ∷ xs) ≡ longer g (p ++ untilMark newline (x ∷ xs))
+      → (length xs ≤ length (untilMark xs newline) → hearAll (longer g (p ++ (x ∷ []))) xs ≡ longer g ((p ++ (x ∷ [])) ++ untilMark xs newline))
+      → hearAll (longer g p) (x ∷ xs) ≡ longer g (p ++ untilMark (x ∷ xs) newline)
   go true e ih = let k = rw e at h in absurd (omega arith)
   go false e ih =
       let k = rw e at h in
       rw (e, longer-twice) (ih (omega arith) ∙ rw append-assoc)
 
-say-on : (g : Dialogue) (p xs : List ℕ) → length (untilMark newline xs) < length xs
-    → sayAll (longer g p) xs ≡ turnNow (longer g (p ++ untilMark newline xs)) .answer ++ sayAll (lineEnded (longer g (p ++ untilMark newline xs))) (behindMark newline xs)
+say-on : (g : Dialogue) (p xs : List ℕ) → length (untilMark xs newline) < length xs
+    → sayAll (longer g p) xs ≡ turnNow (longer g (p ++ untilMark xs newline)) .answer ++ sayAll (lineEnded (longer g (p ++ untilMark xs newline))) (behindMark xs newline)
 unfolding sayAll untilMark behindMark
 say-on g p [] h = absurd (omega arith)
 say-on g p (x ∷ xs) h = go (eqb x newline) refl (λ k. say-on g (p ++ (x ∷ [])) xs k) where
   go : (t : Bool) → eqb x newline ≡ t
-      → (length (untilMark newline xs) < length xs
+      → (length (untilMark xs newline) < length xs
       → sayAll (longer g (p ++ (x ∷ []))) xs
-      ≡ turnNow (longer g ((p ++ (x ∷ [])) ++ untilMark newline xs)) .answer
-      ++ sayAll (lineEnded (longer g ((p ++ (x ∷ [])) ++ untilMark newline xs))) (behindMark newline xs))
+      ≡ turnNow (longer g ((p ++ (x ∷ [])) ++ untilMark xs newline)) .answer
+      ++ sayAll (lineEnded (longer g ((p ++ (x ∷ [])) ++ untilMark xs newline))) (behindMark xs newline))
       → sayAll (longer g p) (x ∷ xs)
-      ≡ turnNow (longer g (p ++ untilMark newline (x ∷ xs))) .answer
-      ++ sayAll (lineEnded (longer g (p ++ untilMark newline (x ∷ xs)))) (behindMark newline (x ∷ xs))
+      ≡ turnNow (longer g (p ++ untilMark (x ∷ xs) newline)) .answer
+      ++ sayAll (lineEnded (longer g (p ++ untilMark (x ∷ xs) newline))) (behindMark (x ∷ xs) newline)
   go true e ih = rw (e, append-nil)
   go false e ih =
       let k = rw e at h in
       rw (e, longer-twice) (ih (omega arith) ∙ rw append-assoc)
 
-say-in : (g : Dialogue) (p xs : List ℕ) → length xs ≤ length (untilMark newline xs) → sayAll (longer g p) xs ≡ []
+say-in : (g : Dialogue) (p xs : List ℕ) → length xs ≤ length (untilMark xs newline) → sayAll (longer g p) xs ≡ []
 unfolding sayAll untilMark
 say-in g p [] h = refl
 say-in g p (x ∷ xs) h = go (eqb x newline) refl (λ k. say-in g (p ++ (x ∷ [])) xs k) where
-  go : (t : Bool) → eqb x newline ≡ t → (length xs ≤ length (untilMark newline xs) → sayAll (longer g (p ++ (x ∷ []))) xs ≡ []) → sayAll (longer g p) (x ∷ xs) ≡ []
+  go : (t : Bool) → eqb x newline ≡ t → (length xs ≤ length (untilMark xs newline) → sayAll (longer g (p ++ (x ∷ []))) xs ≡ []) → sayAll (longer g p) (x ∷ xs) ≡ []
   go true e ih = let k = rw e at h in absurd (omega arith)
   go false e ih = let k = rw e at h in rw (e, longer-twice) (ih (omega arith))
 
 -- What is left after a line, or after all that was read, gives the whole.
 module _ (g : Dialogue) (small : length (g .line) ≤ mostKept) (xs : List ℕ) where
-  pub hear-line : length (untilMark newline xs) < length xs
-      → hearAll (lineEnded (longer g (untilMark newline xs))) (drop (suc (length (untilMark newline xs))) xs) ≡ hearAll g xs
+  pub hear-line : length (untilMark xs newline) < length xs
+      → hearAll (lineEnded (longer g (untilMark xs newline))) (drop (suc (length (untilMark xs newline))) xs) ≡ hearAll g xs
   hear-line h = rw (← behind-drop newline xs) (sym (hear-on g [] xs h) ∙ rw (longer-none g small))
 
-  pub hear-part : length xs ≤ length (untilMark newline xs) → longer g (untilMark newline xs) ≡ hearAll g xs
+  pub hear-part : length xs ≤ length (untilMark xs newline) → longer g (untilMark xs newline) ≡ hearAll g xs
   hear-part h = sym (hear-in g [] xs h) ∙ rw (longer-none g small)
 
-  pub say-line : length (untilMark newline xs) < length xs
-      → turnNow (longer g (untilMark newline xs)) .answer ++ sayAll (lineEnded (longer g (untilMark newline xs))) (drop (suc (length (untilMark newline xs))) xs) ≡ sayAll g xs
+  pub say-line : length (untilMark xs newline) < length xs
+      → turnNow (longer g (untilMark xs newline)) .answer ++ sayAll (lineEnded (longer g (untilMark xs newline))) (drop (suc (length (untilMark xs newline))) xs) ≡ sayAll g xs
   say-line h = rw (← behind-drop newline xs) (sym (say-on g [] xs h) ∙ rw (longer-none g small))
 
-  pub say-part : length xs ≤ length (untilMark newline xs) → [] ≡ sayAll g xs
+  pub say-part : length xs ≤ length (untilMark xs newline) → [] ≡ sayAll g xs
   say-part h = sym (say-in g [] xs h) ∙ rw (longer-none g small)
 
 pub hear-none : (g : Dialogue) → hearAll g [] ≡ g
@@ -157,17 +157,17 @@ pub longer-made : (g : Dialogue) (part u l : List ℕ) (m : ℕ) → part ≡ u 
 unfolding longer
 longer-made g part u l m p q e = rw (e, q, p)
 
-module _ (g : Dialogue) (small : length (g .line) ≤ mostKept) (read : List ℕ) (at : ℕ) (part : List ℕ) (same : part ≡ untilMark newline (drop at read)) (there : at ≤ length read) (h : Dialogue)
-    (more : h ≡ longer g (untilMark newline (drop at read))) where
-  next-drop : drop (at + length part + 1) read ≡ drop (suc (length (untilMark newline (drop at read)))) (drop at read)
+module _ (g : Dialogue) (small : length (g .line) ≤ mostKept) (read : List ℕ) (at : ℕ) (part : List ℕ) (same : part ≡ untilMark (drop at read) newline) (there : at ≤ length read) (h : Dialogue)
+    (more : h ≡ longer g (untilMark (drop at read) newline)) where
+  next-drop : drop (at + length part + 1) read ≡ drop (suc (length (untilMark (drop at read) newline))) (drop at read)
   next-drop =
-      let e : at + length part + 1 ≡ at + suc (length (untilMark newline (drop at read))) = omega (arith, ap length same) in
+      let e : at + length part + 1 ≡ at + suc (length (untilMark (drop at read) newline)) = omega (arith, ap length same) in
       rw (e, drop-drop)
 
-  before-end : at + length part < length read → length (untilMark newline (drop at read)) < length (drop at read)
+  before-end : at + length part < length read → length (untilMark (drop at read) newline) < length (drop at read)
   before-end l = omega (arith, ap length same, length-drop at read)
 
-  at-end : length read ≤ at + length part → length (drop at read) ≤ length (untilMark newline (drop at read))
+  at-end : length read ≤ at + length part → length (drop at read) ≤ length (untilMark (drop at read) newline)
   at-end l = omega (arith, ap length same, length-drop at read)
 
   pub heard-line : {k : Dialogue} → k ≡ lineEnded h → at + length part < length read → hearAll k (drop (at + length part + 1) read) ≡ hearAll g (drop at read)

@@ -34,7 +34,7 @@ verb-in x p q = sym p ∙ ap rowVerb q
 
 -- ## The table, group by group
 
-asks-row : (x : Asking) (k : Console) (c : Command) (line : List ℕ) (n : ℕ) → turnBy (asked x) k c line n ≡ stays k (askedLine x (agreedIn k) (k .addresses) c line)
+asks-row : (x : Asking) (k : Console) (c : Command) (line : List ℕ) (n : ℕ) → turnBy (asked x) k c line n ≡ stays k (askedLine x c line (agreedIn k) (k .addresses))
 asks-row a.Ero k c line n = refl
 asks-row a.Rro k c line n = refl
 asks-row a.EroSegment k c line n = refl
@@ -47,7 +47,7 @@ writes-row w.Finish k c line n = refl
 writes-row w.Lent k c line n = refl
 
 changes-row : (x : Changing) (k : Console) (c : Command) (line : List ℕ) (n : ℕ)
-    → turnBy (changes x) k c line n ≡ boards k (changedTurn x (k .board) (k .store) (agreedIn k) (k .addresses) c line)
+    → turnBy (changes x) k c line n ≡ boards k (changedTurn x (k .board) (k .store) c line (agreedIn k) (k .addresses))
 changes-row g.Report k c line n = refl
 changes-row g.Remove k c line n = refl
 changes-row g.Compact k c line n = refl
@@ -67,12 +67,12 @@ pub asks-does : (x : Asking) (s : State) (c : Command) (store memory line : List
     → c .verb ≡ asked x
     → (r ≡ s) × (e ≡ end)
     → both ≡ agreedIn (consoleOf s store memory)
-    → Behind before after 0 end (askedLine x both (listIn (s .given) memory) c line)
+    → Behind before after 0 end (askedLine x c line both (listIn memory (s .given)))
     → Does s store memory line n r store memory before after e
 asks-does x s c store memory line n p q h g b =
     let row = asks-row x (consoleOf s store memory) c line n in
     does (asked x) p q h b
-    (ap (λ (y : Sessions). askedLine x y (listIn (s .given) memory) c line) g ∙ sym (ap (λ (t : Turned). t .answer) row))
+    (ap (λ (y : Sessions). askedLine x c line y (listIn memory (s .given))) g ∙ sym (ap (λ (t : Turned). t .answer) row))
     (sym (ap (λ (t : Turned). t .console) row))
 
 pub changes-does : (x : Changing) (s : State) (c : Command) (store memory line : List ℕ) (n : ℕ) {both : Sessions} {r : State} {b : Board} {store′ before after : List ℕ} {e end : ℕ}
@@ -80,13 +80,13 @@ pub changes-does : (x : Changing) (s : State) (c : Command) (store memory line :
     → c .verb ≡ changes x
     → (r ≡ withBoard s b) × (e ≡ end)
     → both ≡ agreedIn (consoleOf s store memory)
-    → b ≡ changedTurn x (s .board) store both (listIn (s .given) memory) c line .board
-    → store′ ≡ changedTurn x (s .board) store both (listIn (s .given) memory) c line .store
-    → Behind before after 0 end (changedTurn x (s .board) store both (listIn (s .given) memory) c line .answer)
+    → b ≡ changedTurn x (s .board) store c line both (listIn memory (s .given)) .board
+    → store′ ≡ changedTurn x (s .board) store c line both (listIn memory (s .given)) .store
+    → Behind before after 0 end (changedTurn x (s .board) store c line both (listIn memory (s .given)) .answer)
     → Does s store memory line n r store′ memory before after e
 changes-does x s c store memory line n p q h g u v b =
     let row = changes-row x (consoleOf s store memory) c line n in
-    let e = ap (λ (y : Sessions). changedTurn x (s .board) store y (listIn (s .given) memory) c line) g in
+    let e = ap (λ (y : Sessions). changedTurn x (s .board) store c line y (listIn memory (s .given))) g in
     does (changes x) p q h b
     (ap (λ (t : Boarding). t .answer) e ∙ sym (ap (λ (t : Turned). t .answer) row))
     (parts (u ∙ ap (λ (t : Boarding). t .board) e) (v ∙ ap (λ (t : Boarding). t .store) e) refl refl refl refl refl ∙ sym (ap (λ (t : Turned). t .console) row))

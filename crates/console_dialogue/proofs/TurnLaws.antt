@@ -56,14 +56,14 @@ pub parts : {board b : Board} {store s : List ℕ} {pcc o pce p : Opened} {write
 parts {at = at} a b c d e f g = λ i. record { board = a i; store = b i; pcc = c i; pce = d i; writer = e i; lent = f i; positions = at; addresses = g i }
 
 -- The writer's part of the memory after a command that wrote y into it, and the list of addresses behind, which stays.
-writer-back : (size : ℕ) (m y : List ℕ) {x : List ℕ} → length y ≡ mostSize → take size y ≡ x → writerPart size (y ++ drop mostSize m) ≡ x
+writer-back : (size : ℕ) (m y : List ℕ) {x : List ℕ} → length y ≡ mostSize → take size y ≡ x → writerPart (y ++ drop mostSize m) size ≡ x
 unfolding writerPart
 writer-back size m y {x} = go mostSize
   where
     go : (a : ℕ) → length y ≡ a → take size y ≡ x → take size (take a (y ++ drop a m)) ≡ x
     go a e f = ap (take size) (take-at y (drop a m) a e) ∙ f
 
-list-back : (given : ℕ) (m y : List ℕ) → length y ≡ mostSize → listIn given (y ++ drop mostSize m) ≡ listIn given m
+list-back : (given : ℕ) (m y : List ℕ) → length y ≡ mostSize → listIn (y ++ drop mostSize m) given ≡ listIn m given
 unfolding listIn
 list-back given m y = go mostSize
   where
@@ -71,11 +71,11 @@ list-back given m y = go mostSize
     go a e = ap (take given) (drop-at y (drop a m) a e)
 
 -- The writer's part, as its commands are lent it; it stays where the octets before the list stay.
-pub part-is : (size : ℕ) (m : List ℕ) → take size (take mostSize m) ≡ writerPart size m
+pub part-is : (size : ℕ) (m : List ℕ) → take size (take mostSize m) ≡ writerPart m size
 unfolding writerPart
 part-is size m = refl
 
-pub part-stays : (size : ℕ) (m l : List ℕ) → take mostSize l ≡ take mostSize m → writerPart size l ≡ writerPart size m
+pub part-stays : (size : ℕ) (m l : List ℕ) → take mostSize l ≡ take mostSize m → writerPart l size ≡ writerPart m size
 unfolding writerPart
 part-stays size m l e = ap (take size) e
 

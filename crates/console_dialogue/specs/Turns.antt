@@ -103,13 +103,13 @@ turnBy v.Pcc k c line n = pccTurn k line
 -- `pce OCTETS`
 turnBy v.Pce k c line n = pceTurn k line
 -- `ero PST OCTETS`: "judges a route under the session"
-turnBy v.Ero k c line n = stays k (routeLine true (agreedIn k) (k .addresses) c line)
+turnBy v.Ero k c line n = stays k (routeLine c line true (agreedIn k) (k .addresses))
 -- `rro PST OCTETS`
-turnBy v.Rro k c line n = stays k (routeLine false (agreedIn k) (k .addresses) c line)
+turnBy v.Rro k c line n = stays k (routeLine c line false (agreedIn k) (k .addresses))
 -- `ero-segment PST I OCTETS`: "asks for segment I of a route"
-turnBy v.EroSegment k c line n = stays k (segmentAnswer true (agreedIn k) (k .addresses) c line)
+turnBy v.EroSegment k c line n = stays k (segmentAnswer c line true (agreedIn k) (k .addresses))
 -- `rro-segment PST I OCTETS`
-turnBy v.RroSegment k c line n = stays k (segmentAnswer false (agreedIn k) (k .addresses) c line)
+turnBy v.RroSegment k c line n = stays k (segmentAnswer c line false (agreedIn k) (k .addresses))
 -- `begin ero PST SIZE` · `begin rro PST SIZE`
 turnBy v.Begin k c line n = composes k (beginTurn (k .writer) (k .lent) c)
 -- `add L V NT BEHAVIOUR SID NAI STRUCTURE M C`: "adds a segment"
@@ -119,7 +119,7 @@ turnBy v.Finish k c line n = composes k (finishTurn (k .writer) (k .lent))
 -- `lent`: "shows the writer's whole buffer"
 turnBy v.Lent k c line n = stays k (lentLine (k .lent))
 -- `report KEY PST OCTETS`: "reports a path to the board"
-turnBy v.Report k c line n = boards k (reportTurn (k .board) (k .store) (agreedIn k) (k .addresses) c line)
+turnBy v.Report k c line n = boards k (reportTurn (k .board) (k .store) c line (agreedIn k) (k .addresses))
 -- `remove KEY`
 turnBy v.Remove k c line n = boards k (removeTurn (k .board) (k .store) c)
 -- `compact C`

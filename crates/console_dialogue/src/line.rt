@@ -11,7 +11,7 @@ pub fn keep(line: &mut [u8], kept: usize, part: &[u8]) -> usize
     ensures kept { λ r. ⌜ take r (now (line .exit)) ≡ take (length (now (line .entry))) (take kept (now (line .entry)) ++ now (part .entry)) ⌝ }
     ensures within { λ r. ⌜ r ≤ length (now (line .entry)) ⌝ }
 {
-    let n = fit(line.len() - kept, part);
+    let n = fit(part, line.len() - kept);
     octets::lay(line, kept, &part[..n]);
     kept + n
 }

@@ -42,15 +42,15 @@ pub fn answered(
     match row {
         Row::Skip => ended(state, 0),
         Row::Bad => ended(state, console_lines::bad(out, n)),
-        Row::Sets(x) => set(x, state, line, n, c, store, memory, room, out),
-        Row::Asks(x) => ended(state, asked(x, line, c, s, memory, given, room, out)),
+        Row::Sets(x) => set(x, state, c, line, n, store, memory, room, out),
+        Row::Asks(x) => ended(state, asked(x, c, line, s, memory, given, room, out)),
         Row::Writes(x) => composed(
             state,
-            written(x, w, size, line, c, &mut memory[..MOST_SIZE], room, out),
+            written(x, w, size, c, line, &mut memory[..MOST_SIZE], room, out),
         ),
         Row::Changes(x) => boarded(
             state,
-            changed(x, b, line, c, s, store, memory, given, room, out),
+            changed(x, b, c, line, s, store, memory, given, room, out),
         ),
         Row::Looks(x) => ended(state, looked(x, b, c, store, out)),
     }

@@ -17,9 +17,9 @@ use console_state::with_positions;
 pub fn set(
     row: Setting,
     state: State,
+    c: Command,
     line: &[u8],
     n: u64,
-    c: Command,
     store: &[u8],
     memory: &mut [u8],
     room: &mut [u8],

@@ -28,8 +28,8 @@ abbrev pub openedLine : Opened → List ℕ
 openedLine o = cond (eqb (o .number) 0) (openLine o) (openRefusalLine (o .number) (o .form))
 
 -- `40,24,16,48`, or `-` for none
-abbrev pub structureText : Bool → List ℕ → List ℕ
-structureText there bits =
+abbrev pub structureText : List ℕ → Bool → List ℕ
+structureText bits there =
     cond there
     (decimalOf (getD bits 0 0) ++ (comma ∷ decimalOf (getD bits 1 0) ++ (comma ∷ decimalOf (getD bits 2 0) ++ (comma ∷ decimalOf (getD bits 3 0)))))
     (dash ∷ [])
@@ -39,4 +39,4 @@ abbrev pub segmentLine : Form → Segment → Strays → List ℕ
 segmentLine form g x =
     acceptance (decimalOf (bit (g .loose)) ∷ decimalOf (bit (g .verify)) ∷ decimalOf (g .nt) ∷ decimalOf (g .behaviour)
     ∷ octetsText (take (cond (g .hassid) (form .sid) 0) (g .sid)) ∷ octetsText (take (naiLength form (g .nt)) (g .nai))
-    ∷ structureText (g .structured) (g .structure) ∷ labelWords (g .labelled) (g .complete) x)
+    ∷ structureText (g .structure) (g .structured) ∷ labelWords (g .labelled) (g .complete) x)

@@ -61,7 +61,7 @@ fn wide(x: u8) -> u64
 // A space and four numbers joined by commas.
 fn bits_field(out: &mut [u8], at: usize, bits: [u8; 4]) -> usize
     requires { ⌜ at + 4 * fieldSize ≤ length (now out) ⌝ }
-    ensures behind { λ r. ⌜ Behind (now (out .entry)) (now (out .exit)) at r (spaced (structureText true bits)) ⌝ }
+    ensures behind { λ r. ⌜ Behind (now (out .entry)) (now (out .exit)) at r (spaced (structureText bits true)) ⌝ }
     ensures short { λ r. ⌜ r ≤ at + 4 * fieldSize ⌝ }
 {
     let a = wide(bits[0]);
@@ -78,9 +78,9 @@ fn bits_field(out: &mut [u8], at: usize, bits: [u8; 4]) -> usize
 }
 
 // The same, or `-` for none.
-fn structure_field(out: &mut [u8], at: usize, there: bool, bits: [u8; 4]) -> usize
+fn structure_field(out: &mut [u8], at: usize, bits: [u8; 4], there: bool) -> usize
     requires { ⌜ at + 4 * fieldSize ≤ length (now out) ⌝ }
-    ensures behind { λ r. ⌜ Behind (now (out .entry)) (now (out .exit)) at r (spaced (structureText there bits)) ⌝ }
+    ensures behind { λ r. ⌜ Behind (now (out .entry)) (now (out .exit)) at r (spaced (structureText bits there)) ⌝ }
     ensures short { λ r. ⌜ r ≤ at + 4 * fieldSize ⌝ }
 {
     if there {
@@ -90,7 +90,7 @@ fn structure_field(out: &mut [u8], at: usize, there: bool, bits: [u8; 4]) -> usi
 }
 
 // A space and the SID, or `-` for none.
-fn sid_field(out: &mut [u8], at: usize, form: Form, there: bool, sid: [u8; 16]) -> usize
+fn sid_field(out: &mut [u8], at: usize, form: Form, sid: [u8; 16], there: bool) -> usize
     requires { ⌜ (at + (2 * sidSize + 2) ≤ length (now out)) × (form .sid ≤ sidSize) ⌝ }
     ensures behind { λ r. ⌜ Behind (now (out .entry)) (now (out .exit)) at r (spaced (octetsText (take (cond there (form .sid) 0) sid))) ⌝ }
     ensures short { λ r. ⌜ r ≤ at + (2 * sidSize + 2) ⌝ }
@@ -100,7 +100,7 @@ fn sid_field(out: &mut [u8], at: usize, form: Form, there: bool, sid: [u8; 16]) 
 }
 
 // A space and the NAI, or `-` for none.
-fn nai_field(out: &mut [u8], at: usize, form: Form, nt: usize, nai: [u8; 40]) -> usize
+fn nai_field(out: &mut [u8], at: usize, form: Form, nai: [u8; 40], nt: usize) -> usize
     requires { ⌜ (at + (2 * naiSize + 2) ≤ length (now out)) × (Sized form) ⌝ }
     ensures behind { λ r. ⌜ Behind (now (out .entry)) (now (out .exit)) at r (spaced (octetsText (take (naiLength form nt) nai))) ⌝ }
     ensures short { λ r. ⌜ r ≤ at + (2 * naiSize + 2) ⌝ }
@@ -121,10 +121,10 @@ pub fn segment(out: &mut [u8], form: Form, g: Segment, x: Strays) -> usize
     let at = printing::field(out, at, g.nt as u64);
     let at = printing::field(out, at, g.behaviour as u64);
     let sid = g.sid;
-    let at = sid_field(out, at, form, g.hassid, sid);
+    let at = sid_field(out, at, form, sid, g.hassid);
     let nai = g.nai;
-    let at = nai_field(out, at, form, g.nt as usize, nai);
+    let at = nai_field(out, at, form, nai, g.nt as usize);
     let bits = g.structure;
-    let at = structure_field(out, at, g.structured, bits);
+    let at = structure_field(out, at, bits, g.structured);
     labels_end(out, at, g.labelled, g.complete, x)
 }

@@ -10,7 +10,7 @@ use words::word;
 // What was read from `at` on, up to the next newline.
 pub fn part(read: &[u8], at: usize) -> &[u8]
     requires { ⌜ at ≤ length (now read) ⌝ }
-    ensures part { λ r. ⌜ (now r ≡ untilMark newline (drop at (now (read .entry)))) × (at + length (now r) ≤ length (now (read .entry))) ⌝ }
+    ensures part { λ r. ⌜ (now r ≡ untilMark (drop at (now (read .entry))) newline) × (at + length (now r) ≤ length (now (read .entry))) ⌝ }
 {
     word(&read[at..], NEWLINE, 0)
 }

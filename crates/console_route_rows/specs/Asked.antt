@@ -8,8 +8,8 @@ use Rattle.command_rows.specs.declared.Asking.{Asking}
 use Rattle.command_rows.specs.declared.Asking.the-variants as a
 use Rattle.console_routes.specs.RouteLines.{routeLine, segmentAnswer}
 
-abbrev pub askedLine : Asking → Sessions → List ℕ → Command → List ℕ → List ℕ
-askedLine a.Ero both addresses c line = routeLine true both addresses c line
-askedLine a.Rro both addresses c line = routeLine false both addresses c line
-askedLine a.EroSegment both addresses c line = segmentAnswer true both addresses c line
-askedLine a.RroSegment both addresses c line = segmentAnswer false both addresses c line
+abbrev pub askedLine : Asking → Command → List ℕ → Sessions → List ℕ → List ℕ
+askedLine a.Ero c line both addresses = routeLine c line true both addresses
+askedLine a.Rro c line both addresses = routeLine c line false both addresses
+askedLine a.EroSegment c line both addresses = segmentAnswer c line true both addresses
+askedLine a.RroSegment c line both addresses = segmentAnswer c line false both addresses

@@ -15,8 +15,8 @@ use session::Sessions;
 
 pub fn asked(
     row: Asking,
-    line: &[u8],
     c: Command,
+    line: &[u8],
     both: Sessions,
     memory: &[u8],
     given: usize,
@@ -24,12 +24,12 @@ pub fn asked(
     out: &mut [u8],
 ) -> usize
     requires { ⌜ Spells (now line) (now room) × (long ≤ length (now out)) ⌝ }
-    ensures told { λ r. ⌜ Behind (now (out .entry)) (now (out .exit)) 0 r (askedLine row both (listIn given (now (memory .entry))) c (now (line .entry))) ⌝ }
+    ensures told { λ r. ⌜ Behind (now (out .entry)) (now (out .exit)) 0 r (askedLine row c (now (line .entry)) both (listIn (now (memory .entry)) given)) ⌝ }
 {
     match row {
-        Asking::Ero => judged(line, c, true, both, memory, given, room, out),
-        Asking::Rro => judged(line, c, false, both, memory, given, room, out),
-        Asking::EroSegment => picked(line, c, true, both, memory, given, room, out),
-        Asking::RroSegment => picked(line, c, false, both, memory, given, room, out),
+        Asking::Ero => judged(c, line, true, both, memory, given, room, out),
+        Asking::Rro => judged(c, line, false, both, memory, given, room, out),
+        Asking::EroSegment => picked(c, line, true, both, memory, given, room, out),
+        Asking::RroSegment => picked(c, line, false, both, memory, given, room, out),
     }
 }

@@ -25,7 +25,7 @@ pub picked-told : (ero : Bool) (both : Sessions) (pst k : ℕ) {x y l m : List �
 picked-told ero both pst k e f g = g ∙ (λ i. segmentFor (e i) ero both pst (f i) k)
 
 pub list-laid : (m y w z : List ℕ) {n : ℕ} → mostSize ≤ length m → (n ≡ length w) × (y ≡ over w z)
-    → (listIn n (putMid mostSize (length m - mostSize) m y) ≡ w) × (take mostSize (putMid mostSize (length m - mostSize) m y) ≡ take mostSize m)
+    → (listIn (putMid mostSize (length m - mostSize) m y) n ≡ w) × (take mostSize (putMid mostSize (length m - mostSize) m y) ≡ take mostSize m)
 unfolding listIn
 list-laid m y w z {n} = go mostSize
   where

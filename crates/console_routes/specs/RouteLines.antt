@@ -21,13 +21,13 @@ openIn p line = openOf p (octetsIn line 1)
 
 -- `ero PST OCTETS` · `rro PST OCTETS`: "judges a route under the session", that of the form which the PST names; "a PST is any number"; `0 0 COUNT STRAY`.
 -- The head end's addresses are those set by `addresses`.
-unfoldable pub routeLine : Bool → Sessions → List ℕ → Command → List ℕ → List ℕ
-routeLine ero both addresses c line = countLine (judgedFor (octetsIn line 2) ero both (c .one) addresses)
+unfoldable pub routeLine : Command → List ℕ → Bool → Sessions → List ℕ → List ℕ
+routeLine c line ero both addresses = countLine (judgedFor (octetsIn line 2) ero both (c .one) addresses)
 
 -- a segment of a form that was asked for, or the refusal
 unfoldable pub pickedLine : Form → Picked → List ℕ
 pickedLine form p = answerLine (p .verdict) (segmentLine form (p .segment) (p .strays))
 
 -- `ero-segment PST I OCTETS` · `rro-segment PST I OCTETS`: "asks for segment I of a route"; `0 0 L V NT BEHAVIOUR SID NAI STRUCTURE M C FLAGS SFLAGS RESERVED`
-unfoldable pub segmentAnswer : Bool → Sessions → List ℕ → Command → List ℕ → List ℕ
-segmentAnswer ero both addresses c line = pickedLine (formOf (c .one)) (segmentFor (octetsIn line 3) ero both (c .one) addresses (c .two))
+unfoldable pub segmentAnswer : Command → List ℕ → Bool → Sessions → List ℕ → List ℕ
+segmentAnswer c line ero both addresses = pickedLine (formOf (c .one)) (segmentFor (octetsIn line 3) ero both (c .one) addresses (c .two))

@@ -33,8 +33,8 @@ pub fn heard(p: Setup, line: &[u8], room: &mut [u8]) -> Opened
 
 // `ero PST OCTETS`, `rro PST OCTETS`
 pub fn judged(
-    line: &[u8],
     c: Command,
+    line: &[u8],
     ero: bool,
     both: Sessions,
     memory: &[u8],
@@ -43,7 +43,7 @@ pub fn judged(
     out: &mut [u8],
 ) -> usize
     requires { ⌜ Spells (now line) (now room) × (short ≤ length (now out)) ⌝ }
-    ensures told { λ r. ⌜ Behind (now (out .entry)) (now (out .exit)) 0 r (routeLine ero both (listIn given (now (memory .entry))) c (now (line .entry))) ⌝ }
+    ensures told { λ r. ⌜ Behind (now (out .entry)) (now (out .exit)) 0 r (routeLine c (now (line .entry)) ero both (listIn (now (memory .entry)) given)) ⌝ }
 {
     let n = octets_at(line, 2, room);
     let list = listed(memory, given);
@@ -52,7 +52,7 @@ pub fn judged(
 }
 
 // The line of a segment of the form that a setup type names.
-fn shown(out: &mut [u8], pst: u64, g: Segment, x: Strays) -> usize
+fn shown(out: &mut [u8], g: Segment, x: Strays, pst: u64) -> usize
     requires { ⌜ long ≤ length (now out) ⌝ }
     ensures told { λ r. ⌜ Behind (now (out .entry)) (now (out .exit)) 0 r (segmentLine (formOf pst) g x) ⌝ }
 {
@@ -64,8 +64,8 @@ fn shown(out: &mut [u8], pst: u64, g: Segment, x: Strays) -> usize
 
 // `ero-segment PST I OCTETS`, `rro-segment PST I OCTETS`
 pub fn picked(
-    line: &[u8],
     c: Command,
+    line: &[u8],
     ero: bool,
     both: Sessions,
     memory: &[u8],
@@ -74,7 +74,7 @@ pub fn picked(
     out: &mut [u8],
 ) -> usize
     requires { ⌜ Spells (now line) (now room) × (long ≤ length (now out)) ⌝ }
-    ensures told { λ r. ⌜ Behind (now (out .entry)) (now (out .exit)) 0 r (segmentAnswer ero both (listIn given (now (memory .entry))) c (now (line .entry))) ⌝ }
+    ensures told { λ r. ⌜ Behind (now (out .entry)) (now (out .exit)) 0 r (segmentAnswer c (now (line .entry)) ero both (listIn (now (memory .entry)) given)) ⌝ }
 {
     let n = octets_at(line, 3, room);
     let list = listed(memory, given);
@@ -85,13 +85,13 @@ pub fn picked(
     }
     let g = p.segment;
     let x = p.strays;
-    shown(out, c.one, g, x)
+    shown(out, g, x, c.one)
 }
 
 // `addresses OCTETS`: the list laid behind the writer's part, and its octets.
 pub fn addressed(line: &[u8], memory: &mut [u8]) -> usize
     requires { ⌜ (mostSize ≤ length (now memory)) × (length (now line) ≤ 2 * (length (now memory) - mostSize)) ⌝ }
-    ensures list { λ r. ⌜ listIn r (now (memory .exit)) ≡ octetsIn (now (line .entry)) 1 ⌝ }
+    ensures list { λ r. ⌜ listIn (now (memory .exit)) r ≡ octetsIn (now (line .entry)) 1 ⌝ }
     ensures writer { λ _. ⌜ take mostSize (now (memory .exit)) ≡ take mostSize (now (memory .entry)) ⌝ }
 {
     octets_at(line, 1, &mut memory[MOST_SIZE..])

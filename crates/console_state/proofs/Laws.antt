@@ -52,11 +52,11 @@ take-none : (n : ℕ) → take {A = ℕ} n [] ≡ []
 take-none zero = refl
 take-none (suc n) = refl
 
-pub list-short : (given : ℕ) (m : List ℕ) → length m < mostSize → take 0 m ≡ listIn given m
+pub list-short : (given : ℕ) (m : List ℕ) → length m < mostSize → take 0 m ≡ listIn m given
 unfolding listIn
 list-short given m h = let k : length m ≤ mostSize = omega (arith, h) in rw (drop-of-length-le m k) (sym (take-none given))
 
-pub list-part : (given : ℕ) (m : List ℕ) {n : ℕ} → n ≡ min given (length m - mostSize) → take (mostSize + n - mostSize) (drop mostSize m) ≡ listIn given m
+pub list-part : (given : ℕ) (m : List ℕ) {n : ℕ} → n ≡ min given (length m - mostSize) → take (mostSize + n - mostSize) (drop mostSize m) ≡ listIn m given
 unfolding listIn
 list-part given m {n} e =
     let k : mostSize + n - mostSize ≡ n = omega arith in

@@ -6,4 +6,4 @@ use Rattle.hexadecimal.specs.Hexadecimal.{octetsOf}
 
 -- word i of a line as OCTETS
 abbrev pub octetsIn : List ℕ → ℕ → List ℕ
-octetsIn line i = octetsOf (wordOf space line i)
+octetsIn line i = octetsOf (wordOf line space i)

@@ -50,12 +50,12 @@ atStart = record {
 }
 
 -- The writer's buffer: the first octets of the memory, of the 65,536 that are the writer's.
-unfoldable pub writerPart : ℕ → List ℕ → List ℕ
-writerPart size memory = take size (take mostSize memory)
+unfoldable pub writerPart : List ℕ → ℕ → List ℕ
+writerPart memory size = take size (take mostSize memory)
 
 -- The head end's addresses: so many octets of the memory, behind the writer's.
-unfoldable pub listIn : ℕ → List ℕ → List ℕ
-listIn given memory = take given (drop mostSize memory)
+unfoldable pub listIn : List ℕ → ℕ → List ℕ
+listIn memory given = take given (drop mostSize memory)
 
 -- The console that a state stands for with a store and a memory.
 abbrev pub consoleOf : State → List ℕ → List ℕ → Console
@@ -65,9 +65,9 @@ consoleOf s store memory = record {
   pcc = s .pcc;
   pce = s .pce;
   writer = s .writer;
-  lent = writerPart (s .size) memory;
+  lent = writerPart memory (s .size);
   positions = s .positions;
-  addresses = listIn (s .given) memory;
+  addresses = listIn memory (s .given);
 }
 
 -- ## States

@@ -7,7 +7,7 @@ ghost use Rattle.console_state.specs.State.{listIn};
 use command_forms::MOST_SIZE;
 
 // A number of octets at the start of `s`, at most `n`.
-pub fn fit(n: usize, s: &[u8]) -> usize
+pub fn fit(s: &[u8], n: usize) -> usize
     ensures counts { λ r. ⌜ Counts r (now (s .entry)) ⌝ }
     ensures cut { λ r. ⌜ r ≡ min n (length (now (s .entry))) ⌝ }
 {
@@ -22,7 +22,7 @@ fn least(a: usize, b: usize) -> usize
 
 // The list of addresses, which lies behind the writer's part of the memory.
 pub fn listed(memory: &[u8], given: usize) -> &[u8]
-    ensures listed { λ r. ⌜ now r ≡ listIn given (now (memory .entry)) ⌝ }
+    ensures listed { λ r. ⌜ now r ≡ listIn (now (memory .entry)) given ⌝ }
 {
     if memory.len() < MOST_SIZE {
         return &memory[..0];

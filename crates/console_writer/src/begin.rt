@@ -52,7 +52,7 @@ pub fn begun(old: Writer, size: usize, c: Command, memory: &mut [u8], out: &mut 
 {
     let new = narrow(c.three);
     let mut trial = [0u8; HEADER];
-    let k = fit(new, &trial);
+    let k = fit(&trial, new);
     let w = writer_begin_finish::begin(&mut trial[..k], old, c.ero, c.two);
     let v = w.verdict;
     if v.number != 0 {

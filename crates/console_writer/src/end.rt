@@ -32,7 +32,7 @@ fn close(part: &mut [u8], old: Writer, out: &mut [u8]) -> Closed
             end: console_lines::refusal(out, v.number, v.place),
         };
     }
-    let n = fit(new.at, part);
+    let n = fit(part, new.at);
     Closed {
         writer: new,
         end: console_accepted::octets(out, &part[..n]),
@@ -45,7 +45,7 @@ pub fn finished(old: Writer, size: usize, memory: &mut [u8], out: &mut [u8]) -> 
     ensures lent { λ r. ⌜ take (r .size) (now (memory .exit)) ≡ finishTurn old (take size (now (memory .entry))) .lent ⌝ }
     ensures told { λ r. ⌜ Behind (now (out .entry)) (now (out .exit)) 0 (r .end) (finishTurn old (take size (now (memory .entry))) .answer) ⌝ }
 {
-    let n = fit(size, memory);
+    let n = fit(memory, size);
     let c = close(&mut memory[..n], old, out);
     let writer = c.writer;
     Composed {
@@ -55,10 +55,10 @@ pub fn finished(old: Writer, size: usize, memory: &mut [u8], out: &mut [u8]) -> 
     }
 }
 
-pub fn shown(size: usize, memory: &[u8], out: &mut [u8]) -> usize
+pub fn shown(memory: &[u8], size: usize, out: &mut [u8]) -> usize
     requires { ⌜ 2 * length (now memory) + short ≤ length (now out) ⌝ }
     ensures told { λ r. ⌜ Behind (now (out .entry)) (now (out .exit)) 0 r (lentLine (take size (now (memory .entry)))) ⌝ }
 {
-    let n = fit(size, memory);
+    let n = fit(memory, size);
     console_accepted::octets(out, &memory[..n])
 }

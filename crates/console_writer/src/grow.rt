@@ -17,8 +17,8 @@ use writer_state::Writer;
 pub fn added(
     old: Writer,
     size: usize,
-    line: &[u8],
     c: Command,
+    line: &[u8],
     memory: &mut [u8],
     room: &mut [u8],
     out: &mut [u8],
@@ -28,8 +28,8 @@ pub fn added(
     ensures lent { λ r. ⌜ take (r .size) (now (memory .exit)) ≡ addTurn old (take size (now (memory .entry))) c (now (line .entry)) .lent ⌝ }
     ensures told { λ r. ⌜ Behind (now (out .entry)) (now (out .exit)) 0 (r .end) (addTurn old (take size (now (memory .entry))) c (now (line .entry)) .answer) ⌝ }
 {
-    let n = fit(size, memory);
-    let g = segment_in(line, c, room);
+    let n = fit(memory, size);
+    let g = segment_in(c, line, room);
     let w = writer::add(&mut memory[..n], old, g);
     let writer = w.writer;
     Composed {

@@ -21,7 +21,7 @@ use Rattle.console_add.specs.Added.{AddForm}
 
 -- ## Words
 
-at-most : (most : ℕ) (w : List ℕ) → isAtMost most w ≡ true → decimalValue w ≤ most
+at-most : (most : ℕ) (w : List ℕ) → isAtMost w most ≡ true → decimalValue w ≤ most
 unfolding isAtMost
 at-most most w e = leb-true (decimalValue w) most (both-true (isNumber w) _ e .1)
 
@@ -52,22 +52,22 @@ pub in-form : (line : List ℕ) (w : Verb) → (v.Skip ≡ w → ⊥) → (v.Bad
     → Formed (commandOf line) (commanded line) (formed (kindsOf w) line)
 unfolding commandOf
 in-form line w p q e =
-    let f = chosen (skipped line) (ltb longestLine (length line)) (formed (kindsOf (verbOf (wordOf space line 0))) line) (commanded line) w p q e in
-    let g : verbOf (wordOf space line 0) ≡ w = sym (ap (λ (c : Command). c .verb) (f .same)) ∙ e in
+    let f = chosen (skipped line) (ltb longestLine (length line)) (formed (kindsOf (verbOf (wordOf line space 0))) line) (commanded line) w p q e in
+    let g : verbOf (wordOf line space 0) ≡ w = sym (ap (λ (c : Command). c .verb) (f .same)) ∙ e in
     record { same = f .same; form = rw g at (f .form) }
 
 fit-words : (ks : List Kind) (line : List ℕ) → formed ks line ≡ true → fitFrom ks line 1 ≡ true
 unfolding formed
-fit-words ks line e = both-true (eqb (wordsIn space line) (suc (length ks))) (fitFrom ks line 1) e .1
+fit-words ks line e = both-true (eqb (wordsIn line space) (suc (length ks))) (fitFrom ks line 1) e .1
 
-fit-word : (k : Kind) (ks : List Kind) (line : List ℕ) (i : ℕ) → fitFrom (k ∷ ks) line i ≡ true → (fits k (wordOf space line i) ≡ true) × (fitFrom ks line (suc i) ≡ true)
-fit-word k ks line i e = both-true (fits k (wordOf space line i)) (fitFrom ks line (suc i)) e
+fit-word : (k : Kind) (ks : List Kind) (line : List ℕ) (i : ℕ) → fitFrom (k ∷ ks) line i ≡ true → (fits (wordOf line space i) k ≡ true) × (fitFrom ks line (suc i) ≡ true)
+fit-word k ks line i e = both-true (fits (wordOf line space i) k) (fitFrom ks line (suc i)) e
 
-begin-at : (line : List ℕ) → formed (kindsOf v.Begin) line ≡ true → decimalValue (wordOf space line 3) ≤ mostSize
+begin-at : (line : List ℕ) → formed (kindsOf v.Begin) line ≡ true → decimalValue (wordOf line space 3) ≤ mostSize
 begin-at line e =
     let a = fit-word side (number ∷ size ∷ []) line 1 (fit-words (kindsOf v.Begin) line e) in
     let b = fit-word number (size ∷ []) line 2 (a .1) in
-    at-most mostSize (wordOf space line 3) (fit-word size [] line 3 (b .1) .0)
+    at-most mostSize (wordOf line space 3) (fit-word size [] line 3 (b .1) .0)
 
 -- "SIZE octets (0 to 65,536)"
 pub begin-size : (line : List ℕ) {c : Command} → c ≡ commandOf line → c .verb ≡ v.Begin → c .three ≤ mostSize

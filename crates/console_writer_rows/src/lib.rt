@@ -23,8 +23,8 @@ pub fn written(
     row: Writing,
     old: Writer,
     size: usize,
-    line: &[u8],
     c: Command,
+    line: &[u8],
     memory: &mut [u8],
     room: &mut [u8],
     out: &mut [u8],
@@ -36,12 +36,12 @@ pub fn written(
 {
     match row {
         Writing::Begin => begun(old, size, c, memory, out),
-        Writing::Add => added(old, size, line, c, memory, room, out),
+        Writing::Add => added(old, size, c, line, memory, room, out),
         Writing::Finish => finished(old, size, memory, out),
         Writing::Lent => Composed {
             writer: old,
             size: size,
-            end: shown(size, memory, out),
+            end: shown(memory, size, out),
         },
     }
 }

@@ -20,7 +20,7 @@ pub record Reading (w : List ℕ) (v i : ℕ) : Type 0 where
   pub within : i ≤ length w
   pub some : isEmpty w ≡ false
   pub digits : allDigits (drop i w) ≡ allDigits w
-  pub same : worth v (drop i w) ≡ worth 0 w
+  pub same : worth (drop i w) v ≡ worth w 0
   pub fits : v < numberRange
 
 pub digit-is : (c : ℕ) → digitZero ≤ c → c ≤ digitNine → isDigit c ≡ true
@@ -36,7 +36,7 @@ unfolding isDigit
 digit-high c h = rw (le-leb digitZero c (omega arith), lt-leb c digitNine h)
 
 -- Digits never make a value smaller.
-pub worth-least : (v : ℕ) (w : List ℕ) → v ≤ worth v w
+pub worth-least : (v : ℕ) (w : List ℕ) → v ≤ worth w v
 unfolding worth
 worth-least v [] = omega arith
 worth-least v (c ∷ cs) = let h = worth-least (v * 10 + (c - digitZero)) cs in omega arith
@@ -69,9 +69,9 @@ module _ {w : List ℕ} {v i : ℕ} (r : Reading w v i) where
   pub overflow-refused : i < length w → isDigit (getD w i 0) ≡ true → numberRange ≤ v * 10 + (getD w i 0 - digitZero) → record { good = false; value = 0 } ≡ numberOf w
   unfolding isNumber worth
   overflow-refused h e k =
-      let s : worth (v * 10 + (getD w i 0 - digitZero)) (drop (suc i) w) ≡ worth 0 w = rw (drop-cons w i 0 h) at (r .same) in
-      let g : numberRange ≤ worth 0 w = omega (arith, worth-least (v * 10 + (getD w i 0 - digitZero)) (drop (suc i) w)) in
-      refuse w (rw (r .some, le-ltb (worth 0 w) numberRange g) (and-false (allDigits w)))
+      let s : worth (drop (suc i) w) (v * 10 + (getD w i 0 - digitZero)) ≡ worth w 0 = rw (drop-cons w i 0 h) at (r .same) in
+      let g : numberRange ≤ worth w 0 = omega (arith, worth-least (v * 10 + (getD w i 0 - digitZero)) (drop (suc i) w)) in
+      refuse w (rw (r .some, le-ltb (worth w 0) numberRange g) (and-false (allDigits w)))
 
   pub one-more : i < length w → isDigit (getD w i 0) ≡ true → v * 10 + (getD w i 0 - digitZero) < numberRange → Reading w (v * 10 + (getD w i 0 - digitZero)) (i + 1)
   unfolding allDigits worth
@@ -87,7 +87,7 @@ module _ {w : List ℕ} {v i : ℕ} (r : Reading w v i) where
   unfolding numberOf decimalValue isNumber allDigits worth
   all-read h =
       let d : allDigits w ≡ true = sym (r .digits) ∙ rw (drop-of-length-le w h) in
-      let s : worth 0 w ≡ v = sym (r .same) ∙ rw (drop-of-length-le w h) in
+      let s : worth w 0 ≡ v = sym (r .same) ∙ rw (drop-of-length-le w h) in
       rw (r .some, d, s, lt-ltb v numberRange (r .fits))
 
 -- ## A chain of tests, test by test

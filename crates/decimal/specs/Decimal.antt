@@ -18,9 +18,9 @@ allDigits [] = true
 allDigits (c ∷ cs) = isDigit c && allDigits cs
 
 -- The value of the digits `w` behind digits that are worth `v`.
-unfoldable pub worth : ℕ → List ℕ → ℕ
-worth v [] = v
-worth v (c ∷ cs) = worth (v * 10 + (c - digitZero)) cs
+unfoldable pub worth : List ℕ → ℕ → ℕ
+worth [] v = v
+worth (c ∷ cs) v = worth cs (v * 10 + (c - digitZero))
 
 abbrev pub isEmpty : List ℕ → Bool
 isEmpty [] = true
@@ -31,16 +31,16 @@ abbrev pub numberRange : ℕ
 numberRange = 18446744073709551616
 
 unfoldable pub isNumber : List ℕ → Bool
-isNumber w = not (isEmpty w) && (allDigits w && ltb (worth 0 w) numberRange)
+isNumber w = not (isEmpty w) && (allDigits w && ltb (worth w 0) numberRange)
 
 unfoldable pub decimalValue : List ℕ → ℕ
-decimalValue w = cond (isNumber w) (worth 0 w) 0
+decimalValue w = cond (isNumber w) (worth w 0) 0
 
 unfoldable pub numberOf : List ℕ → Number
 numberOf w = record { good = isNumber w; value = decimalValue w }
 
-unfoldable pub isAtMost : ℕ → List ℕ → Bool
-isAtMost most w = isNumber w && leb (decimalValue w) most
+unfoldable pub isAtMost : List ℕ → ℕ → Bool
+isAtMost w most = isNumber w && leb (decimalValue w) most
 
 -- ## None: `-`
 
@@ -57,9 +57,9 @@ abbrev pub mostTwoOctets : ℕ
 mostTwoOctets = 65535
 
 unfoldable pub isStructure : List ℕ → Bool
-isStructure w = isNone w || (eqb (wordsIn comma w) 4
-    && ((isAtMost mostOctet (wordOf comma w 0) && isAtMost mostOctet (wordOf comma w 1)) && (isAtMost mostOctet (wordOf comma w 2) && isAtMost mostOctet (wordOf comma w 3))))
+isStructure w = isNone w || (eqb (wordsIn w comma) 4
+    && ((isAtMost (wordOf w comma 0) mostOctet && isAtMost (wordOf w comma 1) mostOctet) && (isAtMost (wordOf w comma 2) mostOctet && isAtMost (wordOf w comma 3) mostOctet)))
 
 -- The four numbers; of a word that is no structure their lowest octets, which nobody asks for.
 unfoldable pub structureOf : List ℕ → List ℕ
-structureOf w = decimalValue (wordOf comma w 0) % 256 ∷ decimalValue (wordOf comma w 1) % 256 ∷ decimalValue (wordOf comma w 2) % 256 ∷ decimalValue (wordOf comma w 3) % 256 ∷ []
+structureOf w = decimalValue (wordOf w comma 0) % 256 ∷ decimalValue (wordOf w comma 1) % 256 ∷ decimalValue (wordOf w comma 2) % 256 ∷ decimalValue (wordOf w comma 3) % 256 ∷ []

@@ -95,7 +95,7 @@ pub fn value(word: &[u8]) -> u64
 
 // Is this a number of at most `most`?
 pub fn at_most(word: &[u8], most: u64) -> bool
-    ensures small { λ r. ⌜ r ≡ isAtMost most (now (word .entry)) ⌝ }
+    ensures small { λ r. ⌜ r ≡ isAtMost (now (word .entry)) most ⌝ }
 {
     let n = spelled(word);
     both(n.good, n.value <= most)

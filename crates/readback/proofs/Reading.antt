@@ -1,4 +1,4 @@
--- The first theorem: what was written is read back. The body splits at the lengths that its second octets say (`apart-body`), each subobject stands at its place and reads as its segment
+-- The first theorem: what was written is read back. The body splits at the lengths that its second octets say (`body-chain`), each subobject stands at its place and reads as its segment
 -- (`reads`, from Segments), and so no check of the whole object finds anything (`checks-all`); which object that is, Images says.
 use Prim.Native.Nat.{ℕ, zero, suc, _+_, _-_, _*_, _/_, _%_, _≤_, _<_}
 use mathlib.Core.Path.{_≡_, refl, sym, _∙_, ap}
@@ -26,7 +26,9 @@ use Rattle.subobject.specs.Rules.{rule7, rule8, rule9, malformed, rule10, rule1
 use Rattle.subobject.specs.Segments.{segmentAt, noSegment, headOfSegment, fixedOctets, structureOctets, subobjectOf, bitsOf, bit}
 use Rattle.subobject_strays.specs.Strays.{straysAt, noStrays, strayIn}
 use Rattle.frame.specs.Checks.{Check, check, firstBroken}
-use Rattle.frame.specs.Frames.{classOf, headed, fitsIn, Apart, apart, apartOf, placesOf, kindAt, anyIs, otherThan, mixedAt, rule4, rule5, rule6, rule6Place, rule14, frameChecks}
+use Rattle.frame.specs.Frames.{classOf, headed, fitsIn, Apart, apartOf, placesOf, kindAt, anyIs, otherThan, mixedAt, rule4, rule5, rule6, rule6Place, rule14, frameChecks}
+use Rattle.frame.specs.Chains.{Chain, stop, link}
+use Rattle.frame.proofs.Chains.{chain-whole}
 use Rattle.frame.proofs.Checks.{None, none-first, none-append}
 use Rattle.frame.proofs.Laws.{fits-made}
 use Rattle.frame_rules.proofs.Laws.{headed-last}
@@ -89,23 +91,19 @@ size-at : {form : Form} → Sized form → Readable form → (p : List ℕ) (g :
     → octetOf (p ++ (subobjectOf form g ++ writtenBody form gs)) (length p + 1) ≡ length (subobjectOf form g)
 size-at {form} z r p g gs h = stands-octet _ (stands-four z r g (next-stands form p g gs)) 1 (omega arith) ∙ size-subobject z g h
 
-apart-body : {form : Form} → Sized form → Readable form → (gs : List Segment) (p : List ℕ) (f : ℕ) → AllTyped gs → length gs < f
-    → apart (p ++ writtenBody form gs) (length p) f ≡ record { whole = true; places = placesFrom form (length p) gs }
-unfolding apart
-apart-body z r gs p zero h k = absurd (omega arith)
-apart-body z r [] p (suc f) h k = rw (append-nil p, eq-eqb (length p) (length p) refl)
-apart-body {form} z r (g ∷ gs) p (suc f) (more hg h) k =
+body-chain : {form : Form} → Sized form → Readable form → (gs : List Segment) (p : List ℕ) → AllTyped gs
+    → Chain (p ++ writtenBody form gs) (length p) (placesFrom form (length p) gs)
+body-chain z r [] p h = let e : length p ≡ length (p ++ []) = ap length (sym (append-nil p)) in stop e
+body-chain {form} z r (g ∷ gs) p (more hg h) =
     let x = subobjectOf form g in
     let s = p ++ (x ++ writtenBody form gs) in
     let y = sub-fours z r g hg in
     let l : length s ≡ length p + (length x + length (writtenBody form gs)) = omega (arith, length-append p (x ++ writtenBody form gs), length-append x (writtenBody form gs)) in
-    let n : eqb (length p) (length s) ≡ false = ne-eqb (length p) (length s) (λ q. omega arith) in
     let e = size-at z r p g gs hg in
-    let o : fitsIn (length x) (length s - length p) ≡ true = fits-made (length x) (length s - length p) (y .0) (y .1) (omega arith) in
-    let ih = apart-body z r gs (p ++ x) f h (omega arith) in
-    let ih' : apart s (length p + length x) f ≡ record { whole = true; places = placesFrom form (length p + length x) gs }
-    = simp (append-assoc, length-append) at ih in
-    rw (n, e, o, ih')
+    let o : fitsIn (octetOf s (length p + 1)) (length s - length p) ≡ true = rw e (fits-made (length x) (length s - length p) (y .0) (y .1) (omega arith)) in
+    let c : Chain s (length p + length x) (placesFrom form (length p + length x) gs) = simp (append-assoc, length-append) at (body-chain z r gs (p ++ x) h) in
+    let t : Chain s (length p + octetOf s (length p + 1)) (placesFrom form (length p + length x) gs) = rw e c in
+    link (λ (q : length p ≡ length s). omega arith) o t
 
 -- labels -------------------------------------------------------------------------------------------------------
 
@@ -382,19 +380,11 @@ module _ (form : Form) (ero : Bool) (gs : List Segment) where
       let l = length-object form ero gs in
       sym (headed-last ero (objectOf form gs ero) (omega arith) refl refl (omega arith)) ∙ eq-eqb (length (objectOf form gs ero) % 4) 0 (rw l f)
 
-long-enough : {form : Form} → Sized form → Readable form → (gs : List Segment) → AllTyped gs → length gs ≤ length (writtenBody form gs)
-long-enough z r [] h = omega arith
-long-enough {form} z r (g ∷ gs) (more hg h) =
-    let ih = long-enough z r gs h in
-    let l = length-append (subobjectOf form g) (writtenBody form gs) in
-    let y = sub-fours z r g hg in
-    omega arith
-
 object-apart : {form : Form} → Sized form → Readable form → (ero : Bool) (gs : List Segment) → AllTyped gs
     → apartOf (objectOf form gs ero) ≡ record { whole = true; places = placesFrom form 4 gs }
-unfolding apartOf objectOf headerOf
+unfolding objectOf headerOf
 object-apart {form} z r ero gs h =
-    apart-body z r gs (headerOf ero (4 + length (writtenBody form gs))) (suc (length (objectOf form gs ero))) h (omega (arith, long-enough z r gs h))
+    chain-whole (objectOf form gs ero) (placesFrom form 4 gs) (body-chain z r gs (headerOf ero (4 + length (writtenBody form gs))) h)
 
 object-read : {form : Form} → Sized form → Readable form → (ero : Bool) (gs : List Segment) → AllTyped gs → AllFit form ero gs
     → AllRead form ero (objectOf form gs ero) (placesFrom form 4 gs) gs

@@ -60,21 +60,21 @@ ascii (c then cs) = code c ∷ ascii cs
 -- ## Words
 
 -- The octets before the first mark: all of them where there is none.
-unfoldable pub untilMark : ℕ → List ℕ → List ℕ
-untilMark m [] = []
-untilMark m (c ∷ cs) = cond (eqb c m) [] (c ∷ untilMark m cs)
+unfoldable pub untilMark : List ℕ → ℕ → List ℕ
+untilMark [] m = []
+untilMark (c ∷ cs) m = cond (eqb c m) [] (c ∷ untilMark cs m)
 
 -- The octets behind the first mark: none of them where there is none.
-unfoldable pub behindMark : ℕ → List ℕ → List ℕ
-behindMark m [] = []
-behindMark m (c ∷ cs) = cond (eqb c m) cs (behindMark m cs)
+unfoldable pub behindMark : List ℕ → ℕ → List ℕ
+behindMark [] m = []
+behindMark (c ∷ cs) m = cond (eqb c m) cs (behindMark cs m)
 
 -- Word i, from 0.
-unfoldable pub wordOf : ℕ → List ℕ → ℕ → List ℕ
-wordOf m line zero = untilMark m line
-wordOf m line (suc i) = wordOf m (behindMark m line) i
+unfoldable pub wordOf : List ℕ → ℕ → ℕ → List ℕ
+wordOf line m zero = untilMark line m
+wordOf line m (suc i) = wordOf (behindMark line m) m i
 
 -- How many words there are: one more than marks.
-unfoldable pub wordsIn : ℕ → List ℕ → ℕ
-wordsIn m [] = 1
-wordsIn m (c ∷ cs) = cond (eqb c m) (suc (wordsIn m cs)) (wordsIn m cs)
+unfoldable pub wordsIn : List ℕ → ℕ → ℕ
+wordsIn [] m = 1
+wordsIn (c ∷ cs) m = cond (eqb c m) (suc (wordsIn cs m)) (wordsIn cs m)

@@ -36,7 +36,7 @@ pub const LOWER_ABOVE: u8 = LOWER_A - 10;
 // The place of the first `mark` from `from` on, or the line's end.
 fn mark_from(line: &[u8], from: usize, mark: u8) -> usize
     requires { ⌜ from ≤ length (now line) ⌝ }
-    ensures end { λ r. ⌜ (r ≡ from + length (untilMark mark (drop from (now (line .entry))))) × (from ≤ r) × (r ≤ length (now (line .entry))) ⌝ }
+    ensures end { λ r. ⌜ (r ≡ from + length (untilMark (drop from (now (line .entry))) mark)) × (from ≤ r) × (r ≤ length (now (line .entry))) ⌝ }
 {
     let mut i = from;
     while i < line.len() {
@@ -50,7 +50,7 @@ fn mark_from(line: &[u8], from: usize, mark: u8) -> usize
 
 // Word `i`, from 0; empty where the line has no such word.
 pub fn word(line: &[u8], mark: u8, i: usize) -> &[u8]
-    ensures word { λ r. ⌜ (now r ≡ wordOf mark (now (line .entry)) i) × (length (now r) ≤ length (now (line .entry))) ⌝ }
+    ensures word { λ r. ⌜ (now r ≡ wordOf (now (line .entry)) mark i) × (length (now r) ≤ length (now (line .entry))) ⌝ }
 {
     let mut from: usize = 0;
     let mut k = i;
@@ -68,7 +68,7 @@ pub fn word(line: &[u8], mark: u8, i: usize) -> &[u8]
 
 // How many words there are: one more than marks.
 pub fn count(line: &[u8], mark: u8) -> usize
-    ensures count { λ r. ⌜ r ≡ wordsIn mark (now (line .entry)) ⌝ }
+    ensures count { λ r. ⌜ r ≡ wordsIn (now (line .entry)) mark ⌝ }
 {
     let mut n: usize = 1;
     let mut i: usize = 0;

@@ -4,15 +4,15 @@ use borrow.Author.Needs.{needs}
 use mathlib.Core.Path.{_≡_, refl, sym, _∙_}
 use lib.ListN.{length}
 use Rattle.board_record.specs.Sizes.{places}
-use Rattle.console_chain.proofs.Rows.{Along, along-none, along-more, along-stop, along-end}
+use Rattle.console_chain.proofs.Laws.{Along, along-none, along-more, along-stop, along-end}
 use Rattle.console_chain.proofs.along.Statement.{statement}
 use Rattle.console_chain.proofs.along.Tie as tie
 
 abbrev Inv-loop : tie.InvT-loop
-Inv-loop order row₀ i₀ row i = (length order ≡ places) × (i ≤ places) × Along order row i
+Inv-loop order laid₀ i₀ laid i = (length order ≡ places) × (i ≤ places) × Along order laid i
 
 abbrev μ-loop : tie.MeasureT-loop
-μ-loop order row₀ i₀ row i = places - i
+μ-loop order laid₀ i₀ laid i = places - i
 
 loop-holds : tie.Need-loop-holds Inv-loop μ-loop
 loop-holds c = (c .pre .0, omega arith, along-none _ _ (c .pre .1))
@@ -28,11 +28,11 @@ returns c =
     let inv = c .before .before .before .loop .inv in
     (along-stop _ _ _ _ (inv .2) (inv .0) (c .before .before .loop-test .taken) refl (c .if1 .taken), inv .1)
 
-sub-row : tie.Need-sub-row Inv-loop μ-loop
-sub-row c = search needs
+sub-laid : tie.Need-sub-laid Inv-loop μ-loop
+sub-laid c = search needs
 
-slice-write-row : tie.Need-slice-write-row Inv-loop μ-loop
-slice-write-row c = omega (arith, c .before .before .before .loop .inv .2 .long, c .before .before .loop-test .taken)
+slice-write-laid : tie.Need-slice-write-laid Inv-loop μ-loop
+slice-write-laid c = omega (arith, c .before .before .before .loop .inv .2 .long, c .before .before .loop-test .taken)
 
 add-i : tie.Need-add-i Inv-loop μ-loop
 add-i c = search needs
@@ -62,8 +62,8 @@ along-spec =
     shared-slice-read-n
     same-length
     returns
-    sub-row
-    slice-write-row
+    sub-laid
+    slice-write-laid
     add-i
     loop-less
     loop-again

@@ -19,8 +19,8 @@ array-share-prefix-nai : tie.Need-array-share-prefix-nai
 array-share-prefix-nai c = omega (arith, most (c .before))
 
 slice-aggregate-octets-field : tie.Need-slice-aggregate-octets-field
-slice-aggregate-octets-field c = let e : length (c .before .before .before .before .args .t5) ≡ 40 = search needs in
-    sym (length-take-le (c .before .before .nai-length .result) (c .before .before .before .before .args .t5) (omega (arith, most (c .before .before))))
+slice-aggregate-octets-field c = let e : length (c .before .before .before .before .args .t4) ≡ 40 = search needs in
+    sym (length-take-le (c .before .before .nai-length .result) (c .before .before .before .before .args .t4) (omega (arith, most (c .before .before))))
 
 octets-field-requires : tie.Need-octets-field-requires
 octets-field-requires c κs = simp length-take (omega (arith, most (c .before .before)))
@@ -35,7 +35,7 @@ returns c =
       omega (
         arith,
         c .before .before .octets-field .ensures .1,
-        length-take (before5 .nai-length .result) (before5 .before .before .args .t5),
+        length-take (before5 .nai-length .result) (before5 .before .before .args .t4),
         most before5,
       ),
     )

@@ -21,8 +21,8 @@ array-share-prefix-sid : tie.Need-array-share-prefix-sid
 array-share-prefix-sid c = omega (arith, most (c .before))
 
 slice-aggregate-octets-field : tie.Need-slice-aggregate-octets-field
-slice-aggregate-octets-field c = let e : length (c .before .before .before .before .before .args .t5) ≡ 16 = search needs in
-    sym (length-take-le (c .before .before .pick .result) (c .before .before .before .before .before .args .t5) (omega (arith, most (c .before .before))))
+slice-aggregate-octets-field c = let e : length (c .before .before .before .before .before .args .t4) ≡ 16 = search needs in
+    sym (length-take-le (c .before .before .pick .result) (c .before .before .before .before .before .args .t4) (omega (arith, most (c .before .before))))
 
 octets-field-requires : tie.Need-octets-field-requires
 octets-field-requires c κs = simp length-take (omega (arith, most (c .before .before), c .before .before .before .before .before .pre .0))
@@ -37,7 +37,7 @@ returns c =
       omega (
         arith,
         c .before .before .octets-field .ensures .1,
-        length-take (before5 .pick .result) (before5 .before .before .before .args .t5),
+        length-take (before5 .pick .result) (before5 .before .before .before .args .t4),
         most before5,
       ),
     )

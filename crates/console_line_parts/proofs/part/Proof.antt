@@ -26,7 +26,7 @@ unfolding wordOf
 returns c =
     let a = c .before .before .before .args in
     let e = rest-lent (a .read .now) (a .at) in
-    (c .word .ensures .0 ∙ ap (λ (l : List ℕ). untilMark newline l) e, omega (arith, rw e at (c .word .ensures .1), length-drop (a .at) (a .read .now), c .before .before .before .pre))
+    (c .word .ensures .0 ∙ ap (λ (l : List ℕ). untilMark l newline) e, omega (arith, rw e at (c .word .ensures .1), length-drop (a .at) (a .read .now), c .before .before .before .pre))
 
 pub part-spec : {M : Type 1} → statement M
 part-spec = tie.close (tie.spec sub-word part-word-start part-word-end word-requires returns)

@@ -1,5 +1,6 @@
 use Rattle.decimal.specs.Decimal.{isAtMost}
 use Rattle.decimal.proofs.Laws.{and, or}
+use mathlib.Core.List.{List}
 use mathlib.Core.Path.{_≡_, refl, sym, _∙_, ap}
 use lib.Dec.{eqb}
 use Prim.Native.Nat.{ℕ}
@@ -63,10 +64,10 @@ returns c =
     (and (c .before .both4 .ensures) (ap (λ (n : ℕ). eqb n 4) (before11 .before .before .before .count .ensures))
     (and (c .before .before .both3 .ensures)
     (and (before7 .before .before .both .ensures)
-    (before11 .before .at-most .ensures ∙ ap (isAtMost 255) (before11 .before .before .word .ensures .0))
-    (before7 .before .before .before .at-most2 .ensures ∙ ap (isAtMost 255) (before11 .word2 .ensures .0)))
-    (and (before4 .both2 .ensures) (before7 .at-most3 .ensures ∙ ap (isAtMost 255) (before7 .before .word3 .ensures .0))
-    (before4 .before .at-most4 .ensures ∙ ap (isAtMost 255) (before4 .before .before .word4 .ensures .0)))))
+    (before11 .before .at-most .ensures ∙ ap (λ (w : List ℕ). isAtMost w 255) (before11 .before .before .word .ensures .0))
+    (before7 .before .before .before .at-most2 .ensures ∙ ap (λ (w : List ℕ). isAtMost w 255) (before11 .word2 .ensures .0)))
+    (and (before4 .both2 .ensures) (before7 .at-most3 .ensures ∙ ap (λ (w : List ℕ). isAtMost w 255) (before7 .before .word3 .ensures .0))
+    (before4 .before .at-most4 .ensures ∙ ap (λ (w : List ℕ). isAtMost w 255) (before4 .before .before .word4 .ensures .0)))))
 
 pub is-structure-spec : {M : Type 1} → statement M
 is-structure-spec =

@@ -10,7 +10,7 @@ use Rattle.words.proofs.count.Statement.{statement}
 use Rattle.words.proofs.count.Tie as tie
 
 abbrev Inv-loop : tie.InvT-loop
-Inv-loop line mark n₀ i₀ n i = (i ≤ length line) × (n ≤ i + 1) × (n + wordsIn mark (drop i line) ≡ 1 + wordsIn mark line)
+Inv-loop line mark n₀ i₀ n i = (i ≤ length line) × (n ≤ i + 1) × (n + wordsIn (drop i line) mark ≡ 1 + wordsIn line mark)
 
 abbrev μ-loop : tie.MeasureT-loop
 μ-loop line mark n₀ i₀ n i = length line - i

@@ -9,7 +9,7 @@ use Rattle.words.proofs.mark_from.Statement.{statement}
 use Rattle.words.proofs.mark_from.Tie as tie
 
 abbrev Inv-loop : tie.InvT-loop
-Inv-loop line from mark i₀ i = (from ≤ i) × (i ≤ length line) × (from + length (untilMark mark (drop from line)) ≡ i + length (untilMark mark (drop i line)))
+Inv-loop line from mark i₀ i = (from ≤ i) × (i ≤ length line) × (from + length (untilMark (drop from line) mark) ≡ i + length (untilMark (drop i line) mark))
 
 abbrev μ-loop : tie.MeasureT-loop
 μ-loop line from mark i₀ i = length line - i

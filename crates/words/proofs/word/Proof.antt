@@ -13,7 +13,7 @@ use Rattle.words.proofs.word.Statement.{statement}
 use Rattle.words.proofs.word.Tie as tie
 
 abbrev Inv-loop : tie.InvT-loop
-Inv-loop line mark i from₀ k₀ from k = (from ≤ length line) × (wordOf mark (drop from line) k ≡ wordOf mark line i)
+Inv-loop line mark i from₀ k₀ from k = (from ≤ length line) × (wordOf (drop from line) mark k ≡ wordOf line mark i)
 
 abbrev μ-loop : tie.MeasureT-loop
 μ-loop line mark i from₀ k₀ from k = k

@@ -7,7 +7,7 @@ use borrow.Author.Tests.{not-true, not-false}
 use Prim.Native.Nat.{ℕ, _-_}
 use mathlib.Core.List.{List, map}
 use mathlib.Core.Path.{_≡_, refl, sym, _∙_, ap}
-use lib.ListN.{length}
+use lib.ListN.{length, getD}
 use native.Mathlib.Omega.{arith}
 use borrow.Author.Needs.{needs}
 use Rattle.command_forms.proofs.form.is_formed.Statement.{statement}
@@ -46,14 +46,14 @@ loop-holds c =
     let e = form-in (a .place) refl (c .before .before .before .word .ensures .0) (c .before .before .word2 .ensures .0) in
     (e, fitting-start (a .place) _ (a .line .now) e (sym (c .before .count .ensures) ∙ c .if1 .left))
 
-shared-slice-read-fits : tie.Need-shared-slice-read-fits Inv-loop μ-loop
-shared-slice-read-fits c = search needs
-
 add-word : tie.Need-add-word Inv-loop μ-loop
 add-word c = omega arith
 
 word-requires-3 : tie.Need-word-requires-3 Inv-loop μ-loop
 word-requires-3 c κs = search needs
+
+shared-slice-read-fits : tie.Need-shared-slice-read-fits Inv-loop μ-loop
+shared-slice-read-fits c = search needs
 
 fits-requires : tie.Need-fits-requires Inv-loop μ-loop
 fits-requires c κs = search needs
@@ -62,7 +62,8 @@ returns-2 : tie.Need-returns-2 Inv-loop μ-loop
 returns-2 c =
     let before5 = c .before .before .before .before .before in
     let a = before5 .before .before .before .before .before .before .before .args in
-    let e = c .before .fits2 .ensures ∙ ap (fitsLetter _) (c .before .before .word3 .ensures .0) in
+    let x = getD (before5 .before .before .before .word2 .result .now) (before5 .loop .i) 0 in
+    let e = c .before .fits2 .ensures ∙ ap (λ (w : List ℕ). fitsLetter w x) (c .before .before .before .word3 .ensures .0) in
     fitting-miss (a .place) _ (a .line .now) (before5 .loop .inv .0) (before5 .loop .i) (before5 .loop .inv .1)
     (c .before .before .before .before .loop-test .taken) (sym e ∙ not-true _ (c .if2 .taken))
 
@@ -76,7 +77,8 @@ loop-again : tie.Need-loop-again Inv-loop μ-loop
 loop-again c =
     let before5 = c .before .before .before .before .before in
     let a = before5 .before .before .before .before .before .before .before .args in
-    let e = c .before .fits2 .ensures ∙ ap (fitsLetter _) (c .before .before .word3 .ensures .0) in (
+    let x = getD (before5 .before .before .before .word2 .result .now) (before5 .loop .i) 0 in
+    let e = c .before .fits2 .ensures ∙ ap (λ (w : List ℕ). fitsLetter w x) (c .before .before .before .word3 .ensures .0) in (
       before5 .loop .inv .0,
       fitting-hit (a .place) _ (a .line .now) (before5 .loop .inv .0) (before5 .loop .i) (before5 .loop .inv .1)
           (c .before .before .before .before .loop-test .taken) (sym e ∙ not-false _ (c .if2 .left)),
@@ -100,9 +102,9 @@ is-formed-spec =
     add-if1
     returns
     loop-holds
-    shared-slice-read-fits
     add-word
     word-requires-3
+    shared-slice-read-fits
     fits-requires
     returns-2
     add-i

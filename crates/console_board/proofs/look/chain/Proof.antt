@@ -15,11 +15,11 @@ slice-aggregate-along-2 c = search needs
 along-requires : tie.Need-along-requires
 along-requires c κs = search needs
 
-array-share-prefix-row : tie.Need-array-share-prefix-row
-array-share-prefix-row c = search needs
+array-share-prefix-laid : tie.Need-array-share-prefix-laid
+array-share-prefix-laid c = search needs
 
 slice-aggregate-list : tie.Need-slice-aggregate-list
-slice-aggregate-list c = let along = c .before .before .before .along in sym (length-take-le (along .result) (along .last .1 .0) (omega (arith, along .ensures .1, c .before .before .row2 .given)))
+slice-aggregate-list c = let along = c .before .before .before .along in sym (length-take-le (along .result) (along .last .1 .0) (omega (arith, along .ensures .1, c .before .before .laid2 .given)))
 
 list-requires : tie.Need-list-requires
 list-requires c κs =
@@ -28,7 +28,7 @@ list-requires c κs =
       arith,
       along .ensures .1,
       length-take-le (along .result) (along .last .1 .0)
-          (omega (arith, along .ensures .1, c .before .before .row2 .given)),
+          (omega (arith, along .ensures .1, c .before .before .laid2 .given)),
       c .before .before .before .before .before .before .before .before .pre,
     )
 
@@ -45,7 +45,7 @@ chain-spec =
     slice-aggregate-along
     slice-aggregate-along-2
     along-requires
-    array-share-prefix-row
+    array-share-prefix-laid
     slice-aggregate-list
     list-requires
     same-length

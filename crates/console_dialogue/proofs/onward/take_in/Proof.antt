@@ -57,7 +57,7 @@ returns c =
     let small : length (g .line) ≤ mostKept = omega (arith, length-take (a .h .kept) (a .line .now), p .1 .within, p .1 .whole) in
     let s = before21 .part .ensures .0 in
     let inside = before21 .part .ensures .1 in
-    let m = longer-made g x (untilMark newline (drop (a .at) r)) (take (before19 .keep .result) (before19 .keep .last .0))
+    let m = longer-made g x (untilMark (drop (a .at) r) newline) (take (before19 .keep .result) (before19 .keep .last .0))
     (length (a .line .now)) s (p .1 .whole) (before19 .keep .ensures .0) in
     let t = before7 .before .before .answer .ensures in (
       heard-line g small r (a .at) x s (omega (arith, inside)) _ m (t .0) (before15 .if1 .taken),
@@ -83,7 +83,7 @@ returns-2 c =
     let small : length (g .line) ≤ mostKept = omega (arith, length-take (a .h .kept) (a .line .now), p .1 .within, p .1 .whole) in
     let s = part .ensures .0 in
     let inside = part .ensures .1 in
-    let m = longer-made g x (untilMark newline (drop (a .at) r)) (take (before4 .keep .result) (before4 .keep .last .0))
+    let m = longer-made g x (untilMark (drop (a .at) r) newline) (take (before4 .keep .result) (before4 .keep .last .0))
     (length (a .line .now)) s (p .1 .whole) (before4 .keep .ensures .0) in (
       heard-part g small r (a .at) x s (omega (arith, inside)) _ m (c .if1 .left),
       (
