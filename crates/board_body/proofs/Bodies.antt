@@ -65,7 +65,7 @@ module _ (b : Table) (store : List ℕ) (k : ℕ) where
       let w = whole v e z in
       let m : at < 128 = omega arith in
       let g = board-room b (length store) w in
-      let h = properB-sound b (board-proper b (length store) w) at m .most in
+      let h = properB-sound b (board-proper b (length store) w) at m .size .most in
       let q = length-here b at n m f in
       (m, omega arith, omega arith)
 

@@ -31,7 +31,6 @@ pub fn body_number<'a>(
         ⌜ r ≡ bodyNumberOn b (now (store .entry)) key ⌝ }
 {
     if !is_board(
-        store.len(),
         keys,
         versions,
         lengths,
@@ -40,6 +39,7 @@ pub fn body_number<'a>(
         order,
         tops,
         forms,
+        store.len(),
     ) {
         return refused(NOT_A_BOARD, 0);
     }

@@ -15,7 +15,7 @@ use Rattle.board_record.specs.Proper.{properB}
 use Rattle.board_record.specs.Order.{placeOn, Chained, inOrder}
 use Rattle.board_record.proofs.Proper.{proper-is}
 use Rattle.board_rules.specs.Rules.{isBoard, outcomeOf}
-use Rattle.board_order_drops.specs.Rows.{Loose}
+use Rattle.board_order_drops.specs.Loose.{Loose}
 use Rattle.board_order.proofs.Chains.{proper-apart, chained-in, in-chained}
 use Rattle.board_rules.specs.Compact.{compactRules, compactVerdict, dropped, compacted, compactAnswer}
 use Rattle.board_rules.proofs.Keeps.{compacted-key, compacted-version}

@@ -32,7 +32,6 @@ pub fn compact<'a>(
         ⌜ resultOf r after ≡ compactOn before (now (store .entry)) c ⌝ }
 {
     if !is_board(
-        store.len(),
         keys,
         versions,
         lengths,
@@ -41,6 +40,7 @@ pub fn compact<'a>(
         order,
         tops,
         forms,
+        store.len(),
     ) {
         return refused(NOT_A_BOARD, 0);
     }

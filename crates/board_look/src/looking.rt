@@ -40,7 +40,6 @@ pub fn next<'a>(
         ⌜ r ≡ nextOn b (now (store .entry)) s w ⌝ }
 {
     if !is_board(
-        store.len(),
         keys,
         versions,
         lengths,
@@ -49,6 +48,7 @@ pub fn next<'a>(
         order,
         tops,
         forms,
+        store.len(),
     ) {
         return Handed::Refused(refused(NOT_A_BOARD, 0));
     }
@@ -98,7 +98,6 @@ pub fn moved<'a>(
         ⌜ r ≡ movedOn b (now (store .entry)) from to v ⌝ }
 {
     if !is_board(
-        store.len(),
         keys,
         versions,
         lengths,
@@ -107,6 +106,7 @@ pub fn moved<'a>(
         order,
         tops,
         forms,
+        store.len(),
     ) {
         return refused(NOT_A_BOARD, 0);
     }

@@ -11,11 +11,11 @@ use Rattle.board_record.specs.Sizes.{places}
 use Rattle.board_record.specs.Table.{Table, keyAt, versionAt, lengthAt, Used, RemovalAt, PathAt}
 use Rattle.board_record.specs.Search.{Wanted, path, removal, NextChange, nextOf}
 use Rattle.board_record.specs.Proper.{Proper, properB}
-use Rattle.board_record.specs.Order.{placeOn, OnRow, Chained, inOrder}
+use Rattle.board_record.specs.Order.{placeOn, OnOrder, Chained, inOrder}
 use Rattle.board_record.proofs.Logic.{same?, from?}
 use Rattle.board_record.proofs.Search.{wanted-used, next-is, next-none, next-one, next-most}
 use Rattle.board_record.proofs.Proper.{proper-is}
-use Rattle.board_order.specs.Rows.{firstAbove}
+use Rattle.board_order.specs.Above.{firstAbove}
 use Rattle.board_order.proofs.Chains.{proper-apart, in-chained}
 use Rattle.board_order.proofs.Halves.{above-is, not-above, before-first, from-first, above-most}
 

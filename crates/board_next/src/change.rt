@@ -15,16 +15,16 @@ pub fn next_place<'a>(
     keys: &'a [u32; 128],
     versions: &'a [u64; 128],
     lengths: &'a [u16; 128],
-    top: u64,
+    version: u64,
     floor: u64,
     order: &'a [u8; 128],
     forms: &'a [u8; 128],
     s: u64,
     w: u64,
 ) -> usize
-    requires { let b = tableOf (now keys) (now versions) (now lengths) top floor (now forms) in
+    requires { let b = tableOf (now keys) (now versions) (now lengths) version floor (now forms) in
         ⌜ (properB b ≡ true) × (inOrder b (now order) ≡ true) ⌝ }
-    ensures next { λ r. ⌜ r ≡ nextOf (tableOf (now (keys .entry)) (now (versions .entry)) (now (lengths .entry)) top floor (now (forms .entry))) s w ⌝ }
+    ensures next { λ r. ⌜ r ≡ nextOf (tableOf (now (keys .entry)) (now (versions .entry)) (now (lengths .entry)) version floor (now (forms .entry))) s w ⌝ }
 {
     let mut i = first_above(versions, order, w);
     while i < PLACES {

@@ -1,4 +1,4 @@
--- A table has one chain, and a table whose versions are distinct has the one of `orderOf`. Of two chains the numbers are equal one after the other (`same-row`): the
+-- A table has one chain, and a table whose versions are distinct has the one of `orderOf`. Of two chains the numbers are equal one after the other (`same-order`): the
 -- first place on which they differ would stand later on the other one, behind a place of higher version. That `orderOf` is chained needs that each number below the count of
 -- used places is the number of older changes of one of them (`ranked`): no two share it, and as many are hit as places are used. Assumes nothing.
 use Prim.Native.Nat.{ℕ, zero, suc, _+_, _<_, _≤_}
@@ -17,7 +17,7 @@ use Rattle.board_record.specs.Lists.{row, countBelow}
 use Rattle.board_record.specs.Table.{Table, keyAt, versionAt, Used, usedB}
 use Rattle.board_record.specs.Search.{firstWhere}
 use Rattle.board_record.specs.Proper.{Proper, allBelow}
-use Rattle.board_record.specs.Order.{named, placeOn, OnRow, Chained, olderOf, placeAt, orderNumber, orderOf, inOrder}
+use Rattle.board_record.specs.Order.{named, placeOn, OnOrder, Chained, olderOf, placeAt, orderNumber, orderOf, inOrder}
 use Rattle.octets.proofs.Said.{both-true, and-false}
 use Rattle.board_record.proofs.Logic.{true≢false, same?, from?}
 use Rattle.board_order.proofs.Names.{named-number, none-number, same-number}
@@ -50,7 +50,7 @@ module _ (b : Table) (r : List ℕ) (x : Chained b r) where
       here : x .all p l u .at ≡ x .all q m v .at → p ≡ q
       here z = sym (x .all p l u .is) ∙ ap (λ (k : ℕ). placeOn r k) z ∙ x .all q m v .is
 
-      less : (a c : ℕ) (o : OnRow r a) (n : OnRow r c) → o .at < n .at → c < places → versionAt b a ≡ versionAt b c → ⊥
+      less : (a c : ℕ) (o : OnOrder r a) (n : OnOrder r c) → o .at < n .at → c < places → versionAt b a ≡ versionAt b c → ⊥
       less a c o n k g z =
           omega (arith, x .rises (o .at) (n .at) k (n .here) (omega (arith, n .is)) .1, ap (versionAt b) (o .is), ap (versionAt b) (n .is), z)
 
@@ -79,18 +79,18 @@ next-same b r s x y i l f = ⊎-elim none some (from? places (placeOn r i))
         let q = half b s r y x i l (λ j k. sym (f j k)) (p .0) in
         chain-apart b r x (placeOn r i) (placeOn s i) h (p .0) (x .used i l h) (y .used i l (p .0)) (omega (arith, p .1, q .1))
 
-pub same-row : (b : Table) (r s : List ℕ) → Chained b r → Chained b s → (n : ℕ) → n ≤ places → (i : ℕ) → i < n → placeOn r i ≡ placeOn s i
-same-row b r s x y zero l i k = absurd (omega arith)
-same-row b r s x y (suc n) l i k =
-    let f = same-row b r s x y n (omega arith) in
+pub same-order : (b : Table) (r s : List ℕ) → Chained b r → Chained b s → (n : ℕ) → n ≤ places → (i : ℕ) → i < n → placeOn r i ≡ placeOn s i
+same-order b r s x y zero l i k = absurd (omega arith)
+same-order b r s x y (suc n) l i k =
+    let f = same-order b r s x y n (omega arith) in
     below-more (λ j. placeOn r j ≡ placeOn s j) n f (next-same b r s x y n (omega arith) f) i (omega arith)
 
 pub one-chain : (b : Table) (r s : List ℕ) → length r ≡ places → length s ≡ places → Chained b r → Chained b s → r ≡ s
 one-chain b r s m n x y =
     ext-getD 0 r s (m ∙ sym n)
-    (λ i l. same-number (getD r i 0) (getD s i 0) (same-row b r s x y 128 (omega arith) i (omega arith)) (x .rest i (omega arith)) (y .rest i (omega arith)))
+    (λ i l. same-number (getD r i 0) (getD s i 0) (same-order b r s x y 128 (omega arith) i (omega arith)) (x .rest i (omega arith)) (y .rest i (omega arith)))
 
--- a row of the same numbers is a chain too
+-- an order of the same numbers is a chain too
 pub chained-as : (b : Table) (r s : List ℕ) → ((i : ℕ) → i < places → getD s i 0 ≡ getD r i 0) → Chained b r → Chained b s
 chained-as b r s g x =
     let f : (i : ℕ) → i < places → placeOn s i ≡ placeOn r i = λ i l. ap named (g i l) in
@@ -243,7 +243,7 @@ chained-in b order x =
     let y = order-chained b (chain-apart b order x) in
     all-of (λ i. eqb (getD order i 0) (orderNumber (placeAt b i))) 128
     (λ i l. eq-eqb (getD order i 0) (orderNumber (placeAt b i))
-    (same-number (getD order i 0) (getD (orderOf b) i 0) (same-row b order (orderOf b) x y 128 (omega arith) i l) (x .rest i l) (y .rest i l) ∙ order-at b i l))
+    (same-number (getD order i 0) (getD (orderOf b) i 0) (same-order b order (orderOf b) x y 128 (omega arith) i l) (x .rest i l) (y .rest i l) ∙ order-at b i l))
 
 -- and the order of a table whose versions are distinct is a chain
 pub in-chained : (b : Table) (order : List ℕ) → Apart b → inOrder b order ≡ true → Chained b order
@@ -268,10 +268,10 @@ chained-count b order x i l =
     let h = ranked b apart i l in
     let m : i < 128 = omega (arith, count-most (usedB b) 128) in
     let g = at-here b i (h .at) (h .here) (used-is b (h .at) (h .passes)) (h .is) in
-    omega (arith, same-row b order (orderOf b) x (order-chained b apart) 128 (omega arith) i m ∙ on-order b i m)
+    omega (arith, same-order b order (orderOf b) x (order-chained b apart) 128 (omega arith) i m ∙ on-order b i m)
 
 pub count-chained : (b : Table) (order : List ℕ) → Chained b order → (i : ℕ) → i < places → placeOn order i < places → i < countBelow (usedB b) places
 count-chained b order x i l h =
-    let e = same-row b order (orderOf b) x (order-chained b (chain-apart b order x)) 128 (omega arith) i l ∙ on-order b i l in
+    let e = same-order b order (orderOf b) x (order-chained b (chain-apart b order x)) 128 (omega arith) i l ∙ on-order b i l in
     let t = at-hit b i (omega (arith, e)) in
     omega (arith, older-most b (placeAt b i) (omega (arith, e)) (t .0), t .1)

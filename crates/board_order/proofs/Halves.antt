@@ -1,4 +1,4 @@
--- Halving the row: what is above w stays so behind it (`above-up`), so the part still looked at lies between numbers that are not above and numbers that are
+-- Halving the order: what is above w stays so behind it (`above-up`), so the part still looked at lies between numbers that are not above and numbers that are
 -- (`Between`). Assumes nothing.
 use Prim.Native.Nat.{ℕ, zero, suc, _+_, _<_, _≤_, _/_}
 use native.Mathlib.Omega.{arith}
@@ -14,7 +14,7 @@ use Rattle.board_record.specs.Search.{firstWhere}
 use Rattle.board_record.specs.Order.{placeOn, Rises}
 use Rattle.board_record.proofs.Logic.{true≢false, same?, from?}
 use Rattle.board_record.proofs.Search.{IsFirst, nobody, this, first-is, first-found, first-hit, first-before}
-use Rattle.board_order.specs.Rows.{aboveB, firstAbove}
+use Rattle.board_order.specs.Above.{aboveB, firstAbove}
 
 -- a search that finds nothing below n ends at n
 pub first-end : (t : ℕ → Bool) (n : ℕ) → ((j : ℕ) → j < n → t j ≡ false) → firstWhere t n ≡ n

@@ -1,4 +1,4 @@
--- What a number of a row names, and the number that names a place. Assumes nothing.
+-- What a number of an order names, and the number that names a place. Assumes nothing.
 use Prim.Native.Nat.{ℕ, zero, suc, _+_, _-_, _<_, _≤_}
 use native.Mathlib.Omega.{arith}
 use mathlib.Core.Path.{_≡_, refl, sym, ap, _∙_}

@@ -1,14 +1,14 @@
-// Where in the row a version lies, by halving: versions rise along it.
+// Where in the order a version lies, by halving: versions rise along it.
 ghost use mathlib.Core.Path.{_≡_};
 ghost use Prim.Native.Nat.{_<_};
 ghost use lib.ListN.{length};
 ghost use Rattle.board_record.specs.Sizes.{places};
 ghost use Rattle.board_record.specs.Order.{Rises};
-ghost use Rattle.board_order.specs.Rows.{aboveB, firstAbove};
+ghost use Rattle.board_order.specs.Above.{aboveB, firstAbove};
 use super::naming::named;
 use board_record::PLACES;
 
-// Whether number i of the row is no place, or its version is above w.
+// Whether number i of the order is no place, or its version is above w.
 fn above<'a>(versions: &'a [u64], order: &'a [u8], i: usize, w: u64) -> bool
     requires { ⌜ (length (now versions) ≡ places) × (length (now order) ≡ places) × (i < places) ⌝ }
     ensures above { λ r. ⌜ r ≡ aboveB (now (versions .entry)) (now (order .entry)) w i ⌝ }
@@ -20,7 +20,7 @@ fn above<'a>(versions: &'a [u64], order: &'a [u8], i: usize, w: u64) -> bool
     w < versions[p]
 }
 
-// The first number of the row that is no place or whose version is above w; 128 where there is none.
+// The first number of the order that is no place or whose version is above w; 128 where there is none.
 pub fn first_above<'a>(versions: &'a [u64], order: &'a [u8], w: u64) -> usize
     requires { ⌜ (length (now versions) ≡ places) × (length (now order) ≡ places) × Rises (now versions) (now order) ⌝ }
     ensures first { λ r. ⌜ r ≡ firstAbove (now (versions .entry)) (now (order .entry)) w ⌝ }

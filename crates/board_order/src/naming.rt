@@ -1,4 +1,4 @@
-// A number of the row names a place by 1 more than the place.
+// A number of the order names a place by 1 more than the place.
 ghost use mathlib.Core.Path.{_≡_};
 ghost use Rattle.board_record.specs.Order.{named};
 use board_record::PLACES;

@@ -1,4 +1,4 @@
--- The row after a compaction. So far the first `kept` numbers are those of the first i that are used places, in their order, and the numbers from i on are as they were
+-- The order after a compaction. So far the first `kept` numbers are those of the first i that are used places, in their order, and the numbers from i on are as they were
 -- (`Sifting`); a turn keeps one more, or none; and the numbers behind those kept become 0 (`Filling`). Assumes nothing.
 use Prim.Native.Nat.{ℕ, zero, suc, _+_, _-_, _<_, _≤_}
 use native.Mathlib.Omega.{arith}
@@ -9,9 +9,9 @@ use lib.ListN.{getD, set, length, length-set}
 use lib.Seq.{getD-set-same, getD-set-other}
 use Rattle.board_record.specs.Sizes.{places}
 use Rattle.board_record.specs.Table.{Table, keyAt, versionAt, Used}
-use Rattle.board_record.specs.Order.{named, placeOn, OnRow, Chained, orderOf}
+use Rattle.board_record.specs.Order.{named, placeOn, OnOrder, Chained, orderOf}
 use Rattle.board_record.proofs.Logic.{same?, from?}
-use Rattle.board_order_drops.specs.Rows.{Loose}
+use Rattle.board_order_drops.specs.Loose.{Loose}
 use Rattle.board_order.proofs.Names.{named-none}
 use Rattle.board_order.proofs.Chains.{order-is}
 

@@ -8,7 +8,7 @@ use mathlib.Core.Logic.{_⊎_, inl, inr, ⊎-elim}
 use lib.Dec.{ltb}
 use borrow.Author.Tests.{lt-ltb, le-ltb}
 use Rattle.board_record.proofs.Logic.{same?}
-use Rattle.board_order_moves.specs.Rows.{lastWhere}
+use Rattle.board_order_moves.specs.Shifts.{lastWhere}
 
 pub last-most : (t : ℕ → Bool) (n : ℕ) → lastWhere t n ≤ n
 unfolding lastWhere

@@ -1,6 +1,6 @@
--- The row after a change. `shift` takes one number out, moves those behind it up and puts a place behind them (`Shifting`, pointwise). Where the number taken out is that
--- of the place, or the first that is no place, the row is the chain of the table in which that place holds the newest change (`shift-chained`); and the two looks along
--- the row find that number, and the last one (`Spot`). Assumes nothing.
+-- The order after a change. `shift` takes one number out, moves those behind it up and puts a place behind them (`Shifting`, pointwise). Where the number taken out is that
+-- of the place, or the first that is no place, the order is the chain of the table in which that place holds the newest change (`shift-chained`); and the two looks along
+-- the order find that number, and the last one (`Spot`). Assumes nothing.
 use Prim.Native.Nat.{ℕ, zero, suc, _+_, _-_, _<_, _≤_}
 use native.Mathlib.Omega.{arith}
 use mathlib.Core.Path.{_≡_, refl, sym, ap, _∙_, subst}
@@ -15,12 +15,12 @@ use Rattle.board_record.specs.Sizes.{places}
 use Rattle.board_record.specs.Lists.{row, countBelow}
 use Rattle.board_record.specs.Table.{Table, Entry, keyAt, versionAt, Used, Empty, changed}
 use Rattle.board_record.specs.Proper.{Proper, properB}
-use Rattle.board_record.specs.Order.{named, placeOn, OnRow, Chained, orderOf, inOrder}
+use Rattle.board_record.specs.Order.{named, placeOn, OnOrder, Chained, orderOf, inOrder}
 use Rattle.board_order.proofs.Names.{named-none, named-place, number-is}
 use Rattle.board_record.proofs.Logic.{true≢false, same?, from?}
 use Rattle.board_record.proofs.Lists.{length-row, row-at, count-less, count-full, Hit, hits, hits-where, count-hits}
 use Rattle.board_record.proofs.Proper.{proper-is}
-use Rattle.board_order_moves.specs.Rows.{lastWhere, shiftedAt, shifted}
+use Rattle.board_order_moves.specs.Shifts.{lastWhere, shiftedAt, shifted}
 use Rattle.board_order.proofs.Chains.{proper-apart, once, order-is, in-chained}
 use Rattle.board_order_moves.proofs.Lasts.{last-most, last-hit, last-behind}
 
@@ -123,11 +123,11 @@ module _ (b c : Table) (r : List ℕ) (at from to : ℕ) (x : Chained b r) (n : 
       (λ k. mid g k (shifted-moved r from to (at + 1) (s .from-to) i g k)) (from? to i))
       (λ g. low g (shifted-before r from to (at + 1) (s .from-to) i g)) (from? from i)
 
-  -- a number of the row other than that at `from` is another place, with what it had
+  -- a number of the order other than that at `from` is another place, with what it had
   other : (i : ℕ) → i < places → (i ≡ from → ⊥) → placeOn r i ≡ at → ⊥
   other i l d e = d (s .only i l e)
 
-  -- what holds of a number of the new row that was number j of the old one, and of the last
+  -- what holds of a number of the new order that was number j of the old one, and of the last
   record Fine (i v : ℕ) : Type 0 where
     pub place : named v < places → i ≤ to
     pub used : named v < places → Used c (named v)
@@ -191,7 +191,7 @@ module _ (b c : Table) (r : List ℕ) (at from to : ℕ) (x : Chained b r) (n : 
       elsewhere : (p ≡ at → ⊥) → (i : ℕ) × (i < places) × (now i ≡ p)
       elsewhere d = ⊎-elim up down (from? (o .at) from)
         where
-          o : OnRow r p
+          o : OnOrder r p
           o = x .all p l (λ z. u (n .keys p d ∙ z))
 
           not-from : o .at ≡ from → ⊥
@@ -245,7 +245,7 @@ changed-newest b at e f k v p l u h =
       newest = λ q m w. omega (arith, y, p .version-most q m w);
     }
 
--- ---- how far the row goes, and where the place stands
+-- ---- how far the order goes, and where the place stands
 module _ (b : Table) (r : List ℕ) (at : ℕ) (x : Chained b r) (l : at < places) where
   abbrev used : ℕ
   used = lastWhere (λ i. not (eqb (getD r i 0) 0)) 128
@@ -266,7 +266,7 @@ module _ (b : Table) (r : List ℕ) (at : ℕ) (x : Chained b r) (l : at < place
   behind-used i k m =
       omega (arith, named-none (getD r i 0) (eqb-true (getD r i 0) 0 (not-false _ (last-behind (λ j. not (eqb (getD r j 0) 0)) 128 i k m))))
 
-  -- where a place is empty, not all are on the row
+  -- where a place is empty, not all are on the order
   some-free : Empty b at → used < places
   some-free e = ⊎-elim (λ k. absurd (full k (hits (λ j. true) (λ j. placeOn r j) 128 at) refl)) (λ k. k) (from? places used)
     where
@@ -284,8 +284,8 @@ module _ (b : Table) (r : List ℕ) (at : ℕ) (x : Chained b r) (l : at < place
   abbrev found-at : ℕ
   found-at = lastWhere (λ i. eqb (getD r i 0) (at + 1)) 128
 
-  -- a place that is on the row is found
-  not-on : found-at ≡ 0 → OnRow r at → ⊥
+  -- a place that is on the order is found
+  not-on : found-at ≡ 0 → OnOrder r at → ⊥
   not-on z o =
       eqb-false (getD r (o .at) 0) (at + 1) (last-behind (λ i. eqb (getD r i 0) (at + 1)) 128 (o .at) (omega arith) (o .here))
       (omega (arith, number-is (getD r (o .at) 0) (omega (arith, o .is)), o .is))
@@ -328,7 +328,7 @@ module _ (b : Table) (r : List ℕ) (at : ℕ) (x : Chained b r) (l : at < place
           is = λ k. is;
         }
 
--- ---- the row that is left is the order of the table after the change
+-- ---- the order that is left is the order of the table after the change
 pub moved-order : (b : Table) (r z : List ℕ) (at from to : ℕ) → length (b .keys) ≡ places → length (b .versions) ≡ places → Proper b → Chained b r → at < places
     → Spot r at from to → z ≡ shifted r from to (at + 1)
     → (e : Entry) (f : ℕ) → (e .key ≡ 0 → ⊥) → b .version < e .version → z ≡ orderOf (changed b at e f)
@@ -339,14 +339,14 @@ moved-order b r z at from to k v p x l s q e f u h =
 
 -- the same from the tests, as the code has them
 module _ (b : Table) (r : List ℕ) (at : ℕ) (p : properB b ≡ true) (o : inOrder b r ≡ true) (l : at < places) where
-  pub row-chained : Chained b r
-  row-chained = in-chained b r (proper-apart b (proper-is b p)) o
+  pub order-is-chained : Chained b r
+  order-is-chained = in-chained b r (proper-apart b (proper-is b p)) o
 
   pub new-spot : (u g : ℕ) → u ≡ lastWhere (λ i. not (eqb (getD r i 0) 0)) places → g ≡ lastWhere (λ i. eqb (getD r i 0) (at + 1)) places → g ≡ 0 → Spot r at u u
-  new-spot u g e f z = rw e (spot-new b r at row-chained l (sym f ∙ z))
+  new-spot u g e f z = rw e (spot-new b r at order-is-chained l (sym f ∙ z))
 
   pub old-spot : (u g : ℕ) → u ≡ lastWhere (λ i. not (eqb (getD r i 0) 0)) places → g ≡ lastWhere (λ i. eqb (getD r i 0) (at + 1)) places → (g ≡ 0 → ⊥)
       → (0 < u) × Spot r at (g - 1) (u - 1)
   old-spot u g e f d =
       let z : lastWhere (λ i. eqb (getD r i 0) (at + 1)) 128 ≡ 0 → ⊥ = λ y. d (f ∙ y) in
-      rw (e, f) (some-used b r at row-chained l z, spot-old b r at row-chained l z)
+      rw (e, f) (some-used b r at order-is-chained l z, spot-old b r at order-is-chained l z)

@@ -1,11 +1,11 @@
-// How far the row goes, and where a number stands in it. Neither loop has a way out, so that the compiler can take many
+// How far the order goes, and where a number stands in it. Neither loop has a way out, so that the compiler can take many
 // numbers at a time.
 ghost use mathlib.Core.Path.{_≡_};
 ghost use mathlib.Core.Bool.{not, cond};
 ghost use lib.ListN.{length, getD};
 ghost use lib.Dec.{eqb, ltb};
 ghost use Rattle.board_record.specs.Sizes.{places};
-ghost use Rattle.board_order_moves.specs.Rows.{lastWhere};
+ghost use Rattle.board_order_moves.specs.Shifts.{lastWhere};
 use board_record::PLACES;
 use octets::wide;
 
@@ -30,7 +30,7 @@ fn if_same(n: u8, m: u8, at: u8) -> u8
     if n == m { at } else { 0 }
 }
 
-// 1 more than the last number of the row that isn't 0; 0 where all are.
+// 1 more than the last number of the order that isn't 0; 0 where all are.
 pub fn used_in(order: &[u8]) -> usize
     requires { ⌜ length (now order) ≡ places ⌝ }
     ensures used { λ r. ⌜ r ≡ lastWhere (λ i. not (eqb (getD (now (order .entry)) i 0) 0)) places ⌝ }
@@ -44,7 +44,7 @@ pub fn used_in(order: &[u8]) -> usize
     wide(last)
 }
 
-// 1 more than the last number of the row that is `number`; 0 where none is.
+// 1 more than the last number of the order that is `number`; 0 where none is.
 pub fn found_in(order: &[u8], number: u8) -> usize
     requires { ⌜ length (now order) ≡ places ⌝ }
     ensures found { λ r. ⌜ r ≡ lastWhere (λ i. eqb (getD (now (order .entry)) i 0) number) places ⌝ }

@@ -1,5 +1,5 @@
--- The laws of the chains. A walk of a key's chain meets every place below that has its hash, so it meets the key if that came before (`Walking`); one place more
--- keeps the chains (`joined`). Assumes nothing.
+-- The laws of the buckets. A walk of a key's bucket meets every place below that has its hash, so it meets the key if that came before (`Walking`); one place more
+-- keeps the buckets (`joined`). Assumes nothing.
 use Prim.Native.Nat.{ℕ, _+_, _-_, _<_, _≤_}
 use native.Mathlib.Nat.{add-sub-cancel}
 use native.Mathlib.Omega.{arith}
@@ -17,14 +17,14 @@ use Rattle.board_record.proofs.All.{all-fails, all-of}
 use Rattle.board_record.specs.Sizes.{places}
 use Rattle.board_record.specs.Order.{placeOn}
 use Rattle.board_record.proofs.Lists.{zeros, row-at}
-use Rattle.board_order_numbers.specs.Chain.{along, slotOf, Node, Heads, Links, Walking}
+use Rattle.board_order_numbers.specs.Buckets.{along, slotOf, Node, Heads, Links, Walking}
 
 -- ---- the keys along an order
 pub along-at : (keys order : List ℕ) (j : ℕ) → j < places → getD (along keys order) j 0 ≡ getD keys (placeOn order j) 0
 unfolding along
 along-at keys order j l = row-at (λ k. getD keys (placeOn order k) 0) 128 j l
 
--- ---- the walk of one chain
+-- ---- the walk of one bucket
 pub walk-starts : (xs hs : List ℕ) (i k : ℕ) → Heads xs hs i → (k ≡ 0 → ⊥) → Walking xs i k (getD hs (slotOf k) 0)
 walk-starts xs hs i k h u =
     record {
@@ -60,8 +60,8 @@ unfolding freshB
 walk-ends xs i k p w z = sym (all-of (λ j. not (eqb (getD xs j 0) k)) i (λ j l. rw (ne-eqb (getD xs j 0) k (w .past j l (omega arith)))))
 
 -- ---- one place more
-pub chain-heads : (xs hs : List ℕ) (i : ℕ) → Heads xs hs i → (getD xs i 0 ≡ 0 → ⊥) → slotOf (getD xs i 0) < 1024 → Heads xs (set hs (slotOf (getD xs i 0)) (i + 1)) (i + 1)
-chain-heads xs hs i h u b =
+pub bucket-heads : (xs hs : List ℕ) (i : ℕ) → Heads xs hs i → (getD xs i 0 ≡ 0 → ⊥) → slotOf (getD xs i 0) < 1024 → Heads xs (set hs (slotOf (getD xs i 0)) (i + 1)) (i + 1)
+bucket-heads xs hs i h u b =
     let s = slotOf (getD xs i 0) in
     let r : s < length hs = omega (arith, h .size) in
     record {
@@ -72,8 +72,8 @@ chain-heads xs hs i h u b =
           (λ d. h .all j (⊎-elim (λ e. absurd (d (ap (λ (y : ℕ). slotOf (getD xs y 0)) e))) (λ e. omega (arith, e)) (same? j i)) v);
     }
 
-pub chain-links : (xs hs ns : List ℕ) (i : ℕ) → Heads xs hs i → Links xs ns i → i < 128 → (getD xs i 0 ≡ 0 → ⊥) → Links xs (set ns i (getD hs (slotOf (getD xs i 0)) 0)) (i + 1)
-chain-links xs hs ns i h n l u =
+pub bucket-links : (xs hs ns : List ℕ) (i : ℕ) → Heads xs hs i → Links xs ns i → i < 128 → (getD xs i 0 ≡ 0 → ⊥) → Links xs (set ns i (getD hs (slotOf (getD xs i 0)) 0)) (i + 1)
+bucket-links xs hs ns i h n l u =
     let s = slotOf (getD xs i 0) in
     let a = getD hs s 0 in
     let r : i < length ns = omega (arith, n .size) in
@@ -103,7 +103,7 @@ pub joined : (xs hs ns : List ℕ) (i k w h : ℕ) → Heads xs hs i → Links x
 joined xs hs ns i k w h c n l e u g o b =
     let q : h ≡ slotOf (getD xs i 0) = o ∙ ap slotOf (g ∙ e) in
     let v : getD xs i 0 ≡ 0 → ⊥ = λ z. u (e ∙ z) in
-    rw q (chain-heads xs hs i c v (rw q at b), chain-links xs hs ns i c n l v)
+    rw q (bucket-heads xs hs i c v (rw q at b), bucket-links xs hs ns i c n l v)
 
 -- the answer: k is a key, and none of those before it
 pub no-key : (k : ℕ) (f : Bool) → k ≡ 0 → false ≡ (not (eqb k 0) && f)

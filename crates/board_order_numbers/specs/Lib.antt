@@ -1,2 +1,2 @@
-pub mod Chain
+pub mod Buckets
 pub mod Numbers

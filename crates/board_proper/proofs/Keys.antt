@@ -1,4 +1,4 @@
--- The keys so far: the chains hold them all, and none is there twice (`Hashed`). Assumes nothing.
+-- The keys so far: the buckets hold them all, and none is there twice (`Hashed`). Assumes nothing.
 use Prim.Native.Nat.{ℕ, _+_, _<_, _≤_}
 use mathlib.Core.Path.{_≡_, sym, ap, _∙_}
 use mathlib.Core.Bool.{Bool, true, false, not, _&&_, _||_}
@@ -8,7 +8,7 @@ use lib.Dec.{eqb}
 use Rattle.octets.proofs.Said.{both-true, or-true}
 use Rattle.board_record.specs.Proper.{allBelow, freshB, newB}
 use Rattle.board_record.proofs.All.{all-none, all-more}
-use Rattle.board_order_numbers.specs.Chain.{Heads, Links}
+use Rattle.board_order_numbers.specs.Buckets.{Heads, Links}
 use Rattle.board_order_numbers.proofs.Laws.{no-heads, no-links}
 
 pub record Hashed (xs hs ns : List ℕ) (i : ℕ) : Type 0 where

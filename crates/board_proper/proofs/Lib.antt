@@ -1,4 +1,4 @@
-pub mod Rows
+pub mod Rising
 pub mod Keys
 pub mod Passing
 pub mod Tops

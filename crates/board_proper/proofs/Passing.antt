@@ -1,7 +1,7 @@
--- The pass. So far the numbers of the order name used places, each sound but for its version's bounds, of rising version and distinct keys (`Along`). A number that
+-- The pass. So far the numbers of the order name used places, each sound under its own version, of rising version and distinct keys (`Along`). A number that
 -- breaks this shows that the record is not proper, by what a proper table and its chain have (`refuted`). Where the pass ends, the places named and the empty ones
 -- are all there are (`Covered`), and then table and order are sound. Assumes nothing.
-use Prim.Native.Nat.{ℕ, zero, suc, _+_, _-_, _<_, _≤_, _%_}
+use Prim.Native.Nat.{ℕ, zero, suc, _+_, _-_, _<_, _≤_}
 use native.Mathlib.Omega.{arith}
 use mathlib.Core.Path.{_≡_, refl, sym, ap, _∙_, subst}
 use mathlib.Core.Bool.{Bool, true, false, not, cond, _&&_, _||_}
@@ -10,116 +10,64 @@ use mathlib.Core.Logic.{_⊎_, inl, inr, ⊎-elim}
 use lib.ListN.{getD}
 use lib.Dec.{eqb, ltb, leb}
 use borrow.Author.Tests.{eq-eqb, ne-eqb, eqb-true, eqb-false, le-leb, lt-leb, leb-true, not-true}
-use Rattle.objects.specs.Objects.{unit}
-use Rattle.board_record.specs.Sizes.{places, room, keyMost, versionMost, bodyLeast}
+use Rattle.board_record.specs.Sizes.{places, keyMost, versionMost}
 use Rattle.board_record.specs.Lists.{row, countBelow}
-use Rattle.board_record.specs.Table.{Table, Entry, keyAt, versionAt, lengthAt, formAt, entryAt, Used, usedB}
-use Rattle.board_record.specs.Proper.{Proper, IsForm, allBelow, pathOk, freshB, newB, properB}
-use Rattle.board_record.specs.Order.{named, placeOn, OnRow, Chained, inOrder}
+use Rattle.board_record.specs.Table.{Table, keyAt, versionAt, lengthAt, formAt, entryAt, Used, usedB}
+use Rattle.board_record.specs.Proper.{Proper, allBelow, freshB, newB, properB}
+use Rattle.board_record.specs.Order.{named, placeOn, OnOrder, Chained, inOrder}
 use Rattle.octets.proofs.Said.{both-true, said-yes}
 use Rattle.board_record.proofs.Logic.{true≢false, same?, from?}
 use Rattle.board_record.proofs.Lists.{count-same, count-full, count-most, count-less, count-equal, count-not, Hit, hits, hits-where, count-hits}
 use Rattle.board_record.proofs.All.{all-at, all-of, all-fails}
 use Rattle.board_record.proofs.Search.{used-is, is-used}
-use Rattle.board_record.proofs.Proper.{Sound, body-is, is-body, proper-sound, sound-proper, proper-is, is-proper}
+use Rattle.board_record.proofs.Proper.{storable-is, is-storable, Sound, sound-none, sound-below, proper-sound, sound-proper, proper-is, is-proper}
 use Rattle.board_order.proofs.Names.{named-none}
 use Rattle.board_order.proofs.Chains.{proper-apart, once, chain-apart, chained-in, in-chained, chained-count, count-chained}
-use Rattle.board_order_numbers.specs.Chain.{along}
+use Rattle.board_order_numbers.specs.Buckets.{along}
 use Rattle.board_order_numbers.specs.Numbers.{lateB}
 use Rattle.board_fits.specs.Fits.{bodyB}
 use Rattle.board_unnamed.specs.Rest.{emptyB}
 use Rattle.board_order_numbers.proofs.Laws.{along-at}
 use Rattle.board_extent.proofs.Loops.{cut-count}
-use Rattle.board_proper.proofs.Rows.{Risen, risen-none, risen-more, risen-once, Bounded, not-late}
+use Rattle.board_proper.proofs.Rising.{Risen, risen-none, risen-more, risen-once, Bounded, not-late}
 
--- ---- a used place by itself
-pub record Fit (e : Entry) (floor : ℕ) : Type 0 where
-  pub used : e .key ≡ 0 → ⊥
-  pub key : e .key ≤ keyMost
-  pub mark : e .length ≡ 0 → floor < e .version
-  pub least : (e .length ≡ 0 → ⊥) → bodyLeast (e .form) ≤ e .length
-  pub most : e .length ≤ room
-  pub four : e .length % unit ≡ 0
-  pub form : (e .length ≡ 0 → ⊥) → IsForm (e .form)
-  pub bare : e .length ≡ 0 → e .form ≡ 0
-
-pub fit : (e : Entry) (floor : ℕ) → bodyB (e .length) (e .form) ≡ true → e .key ≤ keyMost → (e .key ≡ 0 → ⊥) → (e .length ≡ 0 → floor < e .version) → Fit e floor
+-- ---- a used place by itself, under its own version: what all places have, and what is found at one of them
+pub sound-found : (b : Table) (r s : Bool) → r ≡ allBelow (λ i. bodyB (lengthAt b i) (formAt b i)) places → not r ≡ false
+    → s ≡ allBelow (λ i. leb (keyAt b i) keyMost) places → not s ≡ false → (x last : ℕ) → x < places → Used b x → last < versionAt b x
+    → (lengthAt b x ≡ 0 → b .floor < versionAt b x) → Sound (entryAt b x) (versionAt b x) (b .floor)
 unfolding bodyB
-fit e floor t k u m = go (eqb (e .length) 0) refl t
-  where
-    go : (x : Bool) → eqb (e .length) 0 ≡ x → cond x (eqb (e .form) 0) (pathOk (e .length) (e .form)) ≡ true → Fit e floor
-    go true z h =
-        let n = eqb-true (e .length) 0 z in
-        record {
-          used = u;
-          key = k;
-          mark = m;
-          least = λ y. absurd (y n);
-          most = omega arith;
-          four = omega arith;
-          form = λ y. absurd (y n);
-          bare = λ y. eqb-true (e .form) 0 h;
-        }
-    go false z h =
-        let s = body-is (e .length) (e .form) h in
-        record {
-          used = u;
-          key = k;
-          mark = m;
-          least = λ y. s .least;
-          most = s .most;
-          four = s .four;
-          form = λ y. s .form;
-          bare = λ y. absurd (eqb-false (e .length) 0 z y);
-        }
-
-sound-body : (e : Entry) (top floor : ℕ) → Sound e top floor → bodyB (e .length) (e .form) ≡ true
-unfolding bodyB
-sound-body e top floor s = go (eqb (e .length) 0) refl
-  where
-    go : (x : Bool) → eqb (e .length) 0 ≡ x → cond x (eqb (e .form) 0) (pathOk (e .length) (e .form)) ≡ true
-    go true z = eq-eqb (e .form) 0 (s .bare (eqb-true (e .length) 0 z))
-    go false z =
-        let n = eqb-false (e .length) 0 z in
-        is-body (e .length) (e .form) (record { four = s .four; form = s .form n; least = s .least n; most = s .most })
-
-fit-sound : (e : Entry) (top floor : ℕ) → Fit e floor → 1 ≤ e .version → e .version ≤ top → Sound e top floor
-fit-sound e top floor f l h =
+sound-found b r s e n f m x last l u a k =
     record {
-      none = λ y. absurd (f .used y);
-      key = f .key;
-      low = λ y. l;
-      high = h;
-      mark = λ y z. f .mark z;
-      least = f .least;
-      most = f .most;
-      four = f .four;
-      form = f .form;
-      bare = f .bare;
+      none = λ z. absurd (u z);
+      key = leb-true (keyAt b x) keyMost (all-at (λ i. leb (keyAt b i) keyMost) 128 (said-yes s _ f m) x l);
+      low = λ z. omega arith;
+      high = omega arith;
+      mark = λ z w. k w;
+      size = storable-is (lengthAt b x) (formAt b x) (all-at (λ i. bodyB (lengthAt b i) (formAt b i)) 128 (said-yes r _ e n) x l);
     }
 
--- what all places have, and what is found at one of them
-pub fit-at : (b : Table) (r s : Bool) → r ≡ allBelow (λ i. bodyB (lengthAt b i) (formAt b i)) places → not r ≡ false
-    → s ≡ allBelow (λ i. leb (keyAt b i) keyMost) places → not s ≡ false
-    → (x : ℕ) → x < places → Used b x → (lengthAt b x ≡ 0 → b .floor < versionAt b x) → Fit (entryAt b x) (b .floor)
-fit-at b r s e n f m x l u k =
-    fit (entryAt b x) (b .floor) (all-at (λ i. bodyB (lengthAt b i) (formAt b i)) 128 (said-yes r _ e n) x l)
-    (leb-true (keyAt b x) keyMost (all-at (λ i. leb (keyAt b i) keyMost) 128 (said-yes s _ f m) x l)) u k
+sound-body : (b : Table) (i version : ℕ) → Sound (entryAt b i) version (b .floor) → bodyB (lengthAt b i) (formAt b i) ≡ true
+unfolding bodyB
+sound-body b i version s = is-storable (lengthAt b i) (formAt b i) (s .size)
 
 -- ---- the pass along the order of a record
 module _ (b : Table) (order : List ℕ) where
   pub record Along (i last : ℕ) : Type 0 where
     pub risen : Risen (b .versions) order i last
-    pub fits : (j : ℕ) → j < i → Fit (entryAt b (placeOn order j)) (b .floor)
+    pub used : (j : ℕ) → j < i → Used b (placeOn order j)
+    pub sound : (j : ℕ) → j < i → Sound (entryAt b (placeOn order j)) (versionAt b (placeOn order j)) (b .floor)
 
   pub along-none : Along 0 0
-  along-none = record { risen = risen-none (b .versions) order; fits = λ j l. absurd (omega arith) }
+  along-none = record { risen = risen-none (b .versions) order; used = λ j l. absurd (omega arith); sound = λ j l. absurd (omega arith) }
 
-  pub along-more : (i last x v : ℕ) → Along i last → x ≡ placeOn order i → x < places → v ≡ versionAt b x → last < v → Fit (entryAt b x) (b .floor) → Along (i + 1) v
-  along-more i last x v a e l f h w =
+  pub along-more : (i last x v : ℕ) → Along i last → x ≡ placeOn order i → x < places → v ≡ versionAt b x → last < v → Used b x → Sound (entryAt b x) (versionAt b x) (b .floor)
+      → Along (i + 1) v
+  along-more i last x v a e l f h u w =
       record {
         risen = risen-more (b .versions) order i last x v (a .risen) e l f h;
-        fits = λ j k. ⊎-elim (λ z. subst (λ (p : ℕ). Fit (entryAt b p) (b .floor)) (e ∙ ap (placeOn order) (sym z)) w) (λ d. a .fits j (omega (arith, d))) (same? j i);
+        used = λ j k. ⊎-elim (λ z. subst (Used b) (e ∙ ap (placeOn order) (sym z)) u) (λ d. a .used j (omega (arith, d))) (same? j i);
+        sound = λ j k.
+            ⊎-elim (λ z. subst (λ (p : ℕ). Sound (entryAt b p) (versionAt b p) (b .floor)) (e ∙ ap (placeOn order) (sym z)) w) (λ d. a .sound j (omega (arith, d))) (same? j i);
       }
 
   -- what stops the pass
@@ -141,7 +89,7 @@ module _ (b : Table) (order : List ℕ) where
 
   pub stop-bodies : (r : Bool) → r ≡ allBelow (λ i. bodyB (lengthAt b i) (formAt b i)) places → not r ≡ true → false ≡ (properB b && inOrder b order)
   stop-bodies r f n =
-      refuted (λ p c. true≢false (sym (all-of (λ i. bodyB (lengthAt b i) (formAt b i)) 128 (λ j k. sound-body (entryAt b j) (b .version) (b .floor) (proper-sound b p j k)))
+      refuted (λ p c. true≢false (sym (all-of (λ i. bodyB (lengthAt b i) (formAt b i)) 128 (λ j k. sound-body b j (b .version) (proper-sound b p j k)))
       ∙ sym f ∙ not-true r n))
 
   pub stop-low : (r : Bool) → r ≡ allBelow (λ i. leb (keyAt b i) keyMost) places → not r ≡ true → false ≡ (properB b && inOrder b order)
@@ -184,7 +132,7 @@ module _ (b : Table) (order : List ℕ) where
             along-at (b .keys) order j (omega arith),
             ne-eqb (keyAt b (placeOn order j)) (keyAt b x)
                 (λ z. let g = a .risen .low j k in
-                let y = p .keys-distinct (placeOn order j) x g h (a .fits j k .used) z in
+                let y = p .keys-distinct (placeOn order j) x g h (a .used j k) z in
                 omega (arith, once b order c j i (omega arith) l g (y ∙ e))),
           ))
 
@@ -199,12 +147,12 @@ module _ (b : Table) (order : List ℕ) where
   pub is-new : (x : ℕ) (f r : Bool) → r ≡ (not (eqb (keyAt b x) 0) && f) → r ≡ true → Used b x
   is-new x f r e t z = true≢false (sym t ∙ e ∙ rw (eq-eqb (keyAt b x) 0 z))
 
-  pub stop-top : (i last : ℕ) → i ≤ places → Along i last → b .version < last → false ≡ (properB b && inOrder b order)
-  stop-top zero last m a l = absurd (omega (arith, a .risen .first refl))
-  stop-top (suc j) last m a l =
-      refuted (λ p c. let g = a .risen .low j (omega arith) in omega (arith, a .risen .is j refl, p .version-most (placeOn order j) g (a .fits j (omega arith) .used)))
+  pub stop-last : (i last : ℕ) → i ≤ places → Along i last → b .version < last → false ≡ (properB b && inOrder b order)
+  stop-last zero last m a l = absurd (omega (arith, a .risen .first refl))
+  stop-last (suc j) last m a l =
+      refuted (λ p c. let g = a .risen .low j (omega arith) in omega (arith, a .risen .is j refl, p .version-most (placeOn order j) g (a .used j (omega arith))))
 
-  -- ---- where the order ends before number i of the row
+  -- ---- where the order ends before its number i
   abbrev none? : ℕ → Bool
   none? p = emptyB (b .keys) (b .lengths) (b .forms) p
 
@@ -220,7 +168,7 @@ module _ (b : Table) (order : List ℕ) where
 
   module _ (i last : ℕ) (l : i ≤ places) (a : Along i last) where
     hit-used : (p : ℕ) → hits (λ j. true) (placeOn order) i p ≡ true → Used b p
-    hit-used p e = let h = hits-where (λ j. true) (placeOn order) i p e in subst (Used b) (h .is) (a .fits (h .at) (h .here) .used)
+    hit-used p e = let h = hits-where (λ j. true) (placeOn order) i p e in subst (Used b) (h .is) (a .used (h .at) (h .here))
 
     all-hit : countBelow (hits (λ j. true) (placeOn order) i) places ≡ i
     all-hit =
@@ -314,27 +262,15 @@ module _ (b : Table) (order : List ℕ) where
       off : keyAt b p ≡ 0 → versionAt b p ≡ 0 → lengthAt b p ≡ 0 → formAt b p ≡ 0 → Seen p
 
     module _ (seen : (p : ℕ) → p < places → Seen p) (rest : (j : ℕ) → i ≤ j → j < places → getD order j 0 ≡ 0)
-        (new : allBelow (newB (along (b .keys) order)) i ≡ true) (low : b .floor ≤ b .version) (high : b .version ≤ versionMost) (top : last ≤ b .version) where
+        (new : allBelow (newB (along (b .keys) order)) i ≡ true) (low : b .floor ≤ b .version) (high : b .version ≤ versionMost) (late : last ≤ b .version) where
       sound-at : (p : ℕ) → p < places → Sound (entryAt b p) (b .version) (b .floor)
       sound-at p k = go (seen p k)
         where
           go : Seen p → Sound (entryAt b p) (b .version) (b .floor)
           go (on j m e) =
               subst (λ (q : ℕ). Sound (entryAt b q) (b .version) (b .floor)) e
-              (fit-sound (entryAt b (placeOn order j)) (b .version) (b .floor) (a .fits j m) (a .risen .above j m) (omega (arith, a .risen .most j m)))
-          go (off x y z f) =
-              record {
-                none = λ u. (y, z);
-                key = omega arith;
-                low = λ u. absurd (u x);
-                high = omega arith;
-                mark = λ u w. absurd (u x);
-                least = λ u. absurd (u z);
-                most = omega arith;
-                four = omega arith;
-                form = λ u. absurd (u z);
-                bare = λ u. f;
-              }
+              (sound-below (entryAt b (placeOn order j)) (b .version) (b .floor) (a .sound j m) (omega (arith, a .risen .most j m)))
+          go (off x y z f) = sound-none (entryAt b p) (b .version) (b .floor) x y z f
 
       -- a used place is named
       where-on : (p : ℕ) → p < places → Used b p → Hit (λ j. true) (placeOn order) i p
@@ -351,7 +287,7 @@ module _ (b : Table) (order : List ℕ) where
           let key : getD (along (b .keys) order) k 0 ≡ keyAt b (placeOn order k) = along-at (b .keys) order k (omega arith) in
           let t = all-at (newB (along (b .keys) order)) i new k n in
           let f : allBelow (λ q. not (eqb (getD (along (b .keys) order) q 0) (getD (along (b .keys) order) k 0))) k ≡ true =
-          rw (newB, ne-eqb (getD (along (b .keys) order) k 0) 0 (λ z. a .fits k n .used (sym key ∙ z))) at t in
+          rw (newB, ne-eqb (getD (along (b .keys) order) k 0) 0 (λ z. a .used k n (sym key ∙ z))) at t in
           eqb-false (getD (along (b .keys) order) j 0) (getD (along (b .keys) order) k 0)
           (not-true _ (all-at (λ q. not (eqb (getD (along (b .keys) order) q 0) (getD (along (b .keys) order) k 0))) k f j m))
           (along-at (b .keys) order j (omega arith) ∙ e ∙ sym key)
@@ -367,7 +303,7 @@ module _ (b : Table) (order : List ℕ) where
       chained : Chained b order
       chained =
           record {
-            used = λ j k h. a .fits j (inside j k h) .used;
+            used = λ j k h. a .used j (inside j k h);
             all = λ p k u. let h = where-on p k u in record { at = h .at; here = omega (arith, h .here); is = h .is };
             rises = λ j k m n h. let g = inside k n h in (a .risen .low j (omega arith), a .risen .up j k m g);
             rest = λ j k h. ⊎-elim (λ m. rest j m k) (λ m. absurd (omega (arith, a .risen .low j m))) (from? i j);
@@ -387,7 +323,7 @@ module _ (b : Table) (order : List ℕ) where
 
     pub end-full : places ≤ i → allBelow (newB (along (b .keys) order)) i ≡ true → b .floor ≤ b .version → b .version ≤ versionMost → last ≤ b .version
         → true ≡ (properB b && inOrder b order)
-    end-full h new low high top = well seen (λ j m k. absurd (omega arith)) new low high top
+    end-full h new low high late = well seen (λ j m k. absurd (omega arith)) new low high late
       where
         seen : (p : ℕ) → p < places → Seen p
         seen p k = go (hits (λ j. true) (placeOn order) i p) refl
@@ -422,7 +358,7 @@ module _ (b : Table) (order : List ℕ) where
     pub end-short : (m n : ℕ) → m ≡ countBelow none? places → m ≡ places - i → n ≡ countBelow unborn? places → n ≡ places - i
         → ((j : ℕ) → i ≤ j → j < places → getD order j 0 ≡ 0)
         → allBelow (newB (along (b .keys) order)) i ≡ true → b .floor ≤ b .version → b .version ≤ versionMost → last ≤ b .version → true ≡ (properB b && inOrder b order)
-    end-short m n e f g h rest new low high top = well seen rest new low high top
+    end-short m n e f g h rest new low high late = well seen rest new low high late
       where
         seen : (p : ℕ) → p < places → Seen p
         seen p k = pick (none? p) refl

@@ -1,4 +1,4 @@
--- The largest versions that the pass has met (`Topped`): where it ends well, they are those of the groups, so the record is proper if its row has them. Assumes nothing.
+-- The largest versions that the pass has met (`Topped`): where it ends well, they are those of the groups, so the record is proper if it has them. Assumes nothing.
 use Prim.Native.Nat.{ℕ, zero, suc, _+_, _-_, _*_, _/_, _<_, _≤_}
 use native.Mathlib.Omega.{arith}
 use mathlib.Core.Path.{_≡_, refl, sym, ap, _∙_, subst}
@@ -21,7 +21,7 @@ use Rattle.board_record.proofs.Proper.{proper-is}
 use Rattle.board_record.proofs.Tops.{top-one}
 use Rattle.board_order.proofs.Names.{named-none}
 use Rattle.board_order.proofs.Chains.{proper-apart, in-chained}
-use Rattle.board_proper.proofs.Rows.{Risen}
+use Rattle.board_proper.proofs.Rising.{Risen}
 
 -- group g's number came from number `at` of the order
 pub record Came (vs order seen : List ℕ) (i g : ℕ) : Type 0 where

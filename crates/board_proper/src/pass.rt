@@ -1,4 +1,4 @@
-// The pass along the order. `heads` and `nexts` are the chains of the keys so far, `last` is the version of the place before, `bound`
+// The pass along the order. `heads` and `nexts` are the buckets of the keys so far, `last` is the version of the place before, `bound`
 // the larger of that and the floor. As versions rise, the last one met in a group is its largest: `seen`.
 ghost use mathlib.Core.Path.{_≡_};
 ghost use mathlib.Core.Bool.{_&&_};
@@ -8,7 +8,7 @@ ghost use Rattle.board_record.specs.Order.{inOrder};
 ghost use Rattle.board_record.specs.Tops.{inTops};
 use board_extent::extent;
 use board_order_numbers::SLOTS;
-use board_order_numbers::chained;
+use board_order_numbers::bucketed;
 use board_order_numbers::late;
 use board_order_numbers::numbered;
 use board_places::bodies;
@@ -25,20 +25,20 @@ pub fn is_proper<'a>(
     keys: &'a [u32; 128],
     versions: &'a [u64; 128],
     lengths: &'a [u16; 128],
-    top: u64,
+    version: u64,
     floor: u64,
     order: &'a [u8; 128],
     tops: &'a [u64; 16],
     forms: &'a [u8; 128],
 ) -> bool
     ensures proper { λ r.
-        let b = tableOf (now (keys .entry)) (now (versions .entry)) (now (lengths .entry)) top floor (now (forms .entry)) in
+        let b = tableOf (now (keys .entry)) (now (versions .entry)) (now (lengths .entry)) version floor (now (forms .entry)) in
         ⌜ r ≡ (properB b && inOrder b (now (order .entry)) && inTops (now (versions .entry)) (now (tops .entry))) ⌝ }
 {
-    if top < floor {
+    if version < floor {
         return false;
     }
-    if VERSION_MOST < top {
+    if VERSION_MOST < version {
         return false;
     }
     let m = extent(keys, versions, lengths, order, forms);
@@ -57,7 +57,7 @@ pub fn is_proper<'a>(
     while i < PLACES {
         let x = numbered(order[i]);
         if PLACES <= x {
-            if top < last {
+            if version < last {
                 return false;
             }
             if !closed(keys, versions, lengths, order, forms, m, i) {
@@ -69,7 +69,7 @@ pub fn is_proper<'a>(
         if !late(lengths, x, v, last, bound) {
             return false;
         }
-        if !chained(keys, order, &mut heads, &mut nexts, i, keys[x]) {
+        if !bucketed(keys, order, &mut heads, &mut nexts, i, keys[x]) {
             return false;
         }
         seen[x / GROUP] = v;
@@ -77,7 +77,7 @@ pub fn is_proper<'a>(
         bound = larger(bound, v);
         i += 1;
     }
-    if top < last {
+    if version < last {
         return false;
     }
     same(&seen, tops)

@@ -1,18 +1,17 @@
 -- A change at one place leaves a proper table: the place that changes is sound by what is asked of its entry, every other as it was; the new key and
 -- the new version stand at no other place. Assumes nothing.
-use Prim.Native.Nat.{ℕ, zero, suc, _<_, _≤_, _%_}
+use Prim.Native.Nat.{ℕ, zero, suc, _<_, _≤_}
 use native.Mathlib.Omega.{arith}
 use mathlib.Core.Path.{_≡_, refl, sym, ap, _∙_, subst}
 use mathlib.Core.List.{List}
 use mathlib.Core.Logic.{_⊎_, inl, inr, ⊎-elim}
 use lib.ListN.{getD, set, length, length-set}
 use lib.Seq.{getD-set-same, getD-set-other}
-use Rattle.objects.specs.Objects.{unit}
-use Rattle.board_record.specs.Sizes.{places, room, keyLeast, keyMost, versionMost, bodyLeast}
+use Rattle.board_record.specs.Sizes.{places, keyLeast, keyMost, versionMost}
 use Rattle.board_record.specs.Table.{Table, ListsWhole, keyAt, versionAt, lengthAt, formAt, entryAt, Entry, Used, RemovalAt, changed}
-use Rattle.board_record.specs.Proper.{Proper, IsForm}
+use Rattle.board_record.specs.Proper.{Proper}
 use Rattle.board_record.proofs.Logic.{same?}
-use Rattle.board_record.proofs.Proper.{Sound, proper-sound, sound-proper}
+use Rattle.board_record.proofs.Proper.{Storable, Sound, proper-sound, sound-proper}
 
 pub changed-sized : (b : Table) (i : ℕ) (e : Entry) (f : ℕ) → ListsWhole b → ListsWhole (changed b i e f)
 changed-sized b i e f s =
@@ -23,14 +22,6 @@ changed-sized b i e f s =
       forms = length-set (b .forms) i (e .form) ∙ s .forms;
     }
 
--- what a change may store: a body's length and form, or 0 and 0 for a removal
-pub record Storable (n f : ℕ) : Type 0 where
-  pub most : n ≤ room
-  pub four : n % unit ≡ 0
-  pub least : (n ≡ 0 → ⊥) → bodyLeast f ≤ n
-  pub form : (n ≡ 0 → ⊥) → IsForm f
-  pub bare : n ≡ 0 → f ≡ 0
-
 -- when a change of place i to the entry e, with the floor f after it, keeps a table proper
 pub record Fitting (b : Table) (i : ℕ) (e : Entry) (f : ℕ) : Type 0 where
   pub here : i < places
@@ -38,7 +29,7 @@ pub record Fitting (b : Table) (i : ℕ) (e : Entry) (f : ℕ) : Type 0 where
   pub high : e .key ≤ keyMost
   pub size : Storable (e .length) (e .form)
   pub newer : b .version < e .version
-  pub top : e .version ≤ versionMost
+  pub version-in : e .version ≤ versionMost
   pub floor : f ≤ b .version
   pub only : (j : ℕ) → j < places → (j ≡ i → ⊥) → keyAt b j ≡ e .key → ⊥
   pub marks : (j : ℕ) → j < places → (j ≡ i → ⊥) → RemovalAt b j → f < versionAt b j
@@ -73,7 +64,7 @@ module _ (b : Table) (i : ℕ) (e : Entry) (f : ℕ) (s : ListsWhole b) where
   form-other j d = getD-set-other (b .forms) i j (e .form) 0 d
 
   pub changed-proper : Proper b → Fitting b i e f → Proper (changed b i e f)
-  changed-proper p g = sound-proper b′ (omega (arith, g .floor, g .newer)) (g .top) at keys versions
+  changed-proper p g = sound-proper b′ (omega (arith, g .floor, g .newer)) (g .version-in) at keys versions
     where
       -- the place that changes
       mine : Sound e (e .version) f
@@ -84,11 +75,7 @@ module _ (b : Table) (i : ℕ) (e : Entry) (f : ℕ) (s : ListsWhole b) where
             low = λ y. omega (arith, g .newer);
             high = omega arith;
             mark = λ y z. omega (arith, g .floor, g .newer);
-            least = g .size .least;
-            most = g .size .most;
-            four = g .size .four;
-            form = g .size .form;
-            bare = g .size .bare;
+            size = g .size;
           }
 
       -- and every other
@@ -101,11 +88,7 @@ module _ (b : Table) (i : ℕ) (e : Entry) (f : ℕ) (s : ListsWhole b) where
             low = o .low;
             high = omega (arith, o .high, g .newer);
             mark = λ y z. g .marks j l d (record { used = y; bare = z });
-            least = o .least;
-            most = o .most;
-            four = o .four;
-            form = o .form;
-            bare = o .bare;
+            size = o .size;
           }
 
       at : (j : ℕ) → j < places → Sound (entryAt b′ j) (e .version) f

@@ -49,20 +49,54 @@ pub is-body : (length form : ℕ) → Body length form → pathOk length form �
 unfolding pathOk
 is-body length form b = rw (eq-eqb (length % unit) 0 (b .four), is-form form (b .form), le-leb (bodyLeast form) length (b .least), le-leb length room (b .most))
 
+-- ---- what a place may hold: a body's length and form, or 0 and 0 where there is no body
+pub record Storable (n f : ℕ) : Type 0 where
+  pub most : n ≤ room
+  pub four : n % unit ≡ 0
+  pub least : (n ≡ 0 → ⊥) → bodyLeast f ≤ n
+  pub form : (n ≡ 0 → ⊥) → IsForm f
+  pub bare : n ≡ 0 → f ≡ 0
+
+pub storable-none : (n f : ℕ) → n ≡ 0 → f ≡ 0 → Storable n f
+storable-none n f z g = record { most = omega arith; four = omega arith; least = λ y. absurd (y z); form = λ y. absurd (y z); bare = λ y. g }
+
+pub storable-body : (n f : ℕ) → (n ≡ 0 → ⊥) → Body n f → Storable n f
+storable-body n f z b = record { most = b .most; four = b .four; least = λ y. b .least; form = λ y. b .form; bare = λ y. absurd (z y) }
+
+-- ---- the same as a test
+pub storable-is : (n f : ℕ) → cond (eqb n 0) (eqb f 0) (pathOk n f) ≡ true → Storable n f
+storable-is n f t = go (eqb n 0) refl t
+  where
+    go : (x : Bool) → eqb n 0 ≡ x → cond x (eqb f 0) (pathOk n f) ≡ true → Storable n f
+    go true q h = storable-none n f (eqb-true n 0 q) (eqb-true f 0 h)
+    go false q h = storable-body n f (eqb-false n 0 q) (body-is n f h)
+
+pub is-storable : (n f : ℕ) → Storable n f → cond (eqb n 0) (eqb f 0) (pathOk n f) ≡ true
+is-storable n f s = go (eqb n 0) refl
+  where
+    go : (x : Bool) → eqb n 0 ≡ x → cond x (eqb f 0) (pathOk n f) ≡ true
+    go true q = eq-eqb f 0 (s .bare (eqb-true n 0 q))
+    go false q = let z = eqb-false n 0 q in is-body n f (record { four = s .four; form = s .form z; least = s .least z; most = s .most })
+
 -- ---- one place
-pub record Sound (e : Entry) (top floor : ℕ) : Type 0 where
+pub record Sound (e : Entry) (version floor : ℕ) : Type 0 where
   pub none : e .key ≡ 0 → (e .version ≡ 0) × (e .length ≡ 0)
   pub key : e .key ≤ keyMost
   pub low : (e .key ≡ 0 → ⊥) → 1 ≤ e .version
-  pub high : e .version ≤ top
+  pub high : e .version ≤ version
   pub mark : (e .key ≡ 0 → ⊥) → e .length ≡ 0 → floor < e .version
-  pub least : (e .length ≡ 0 → ⊥) → bodyLeast (e .form) ≤ e .length
-  pub most : e .length ≤ room
-  pub four : e .length % unit ≡ 0
-  pub form : (e .length ≡ 0 → ⊥) → IsForm (e .form)
-  pub bare : e .length ≡ 0 → e .form ≡ 0
+  pub size : Storable (e .length) (e .form)
 
-module _ (e : Entry) (top floor : ℕ) where
+-- an empty one
+pub sound-none : (e : Entry) (version floor : ℕ) → e .key ≡ 0 → e .version ≡ 0 → e .length ≡ 0 → e .form ≡ 0 → Sound e version floor
+sound-none e version floor k v n f =
+    record { none = λ y. (v, n); key = omega arith; low = λ y. absurd (y k); high = omega arith; mark = λ y w. absurd (y k); size = storable-none (e .length) (e .form) n f }
+
+-- one that is sound under its own version, under a higher one
+pub sound-below : (e : Entry) (version floor : ℕ) → Sound e (e .version) floor → e .version ≤ version → Sound e version floor
+sound-below e version floor s h = record { none = s .none; key = s .key; low = s .low; high = h; mark = s .mark; size = s .size }
+
+module _ (e : Entry) (version floor : ℕ) where
   -- what the test asks of a used place, by whether it is a removal
   abbrev size? : Bool → Bool
   size? bare = cond bare (eqb (e .form) 0 && ltb floor (e .version)) (pathOk (e .length) (e .form))
@@ -71,17 +105,16 @@ module _ (e : Entry) (top floor : ℕ) where
   abbrev place? : Bool → Bool
   place? empty =
       cond empty (eqb (e .length) 0 && eqb (e .version) 0 && eqb (e .form) 0)
-      (leb (e .key) keyMost && leb 1 (e .version) && leb (e .version) top && size? (eqb (e .length) 0))
+      (leb (e .key) keyMost && leb 1 (e .version) && leb (e .version) version && size? (eqb (e .length) 0))
 
-  pub sound : placeOk e top floor ≡ true → Sound e top floor
+  pub sound : placeOk e version floor ≡ true → Sound e version floor
   unfolding placeOk
   sound t = go (eqb (e .key) 0) refl t
     where
-      size : (x : Bool) → eqb (e .length) 0 ≡ x → (e .key ≡ 0 → ⊥) → e .key ≤ keyMost → 1 ≤ e .version → e .version ≤ top → size? x ≡ true → Sound e top floor
+      size : (x : Bool) → eqb (e .length) 0 ≡ x → (e .key ≡ 0 → ⊥) → e .key ≤ keyMost → 1 ≤ e .version → e .version ≤ version → size? x ≡ true → Sound e version floor
       size true q n a b c h =
           let z = eqb-true (e .length) 0 q in
           let p = both-true _ _ h in
-          let g = eqb-true (e .form) 0 (p .0) in
           let f = ltb-true floor (e .version) (p .1) in
           record {
             none = λ y. absurd (n y);
@@ -89,14 +122,9 @@ module _ (e : Entry) (top floor : ℕ) where
             low = λ y. b;
             high = c;
             mark = λ y w. f;
-            least = λ y. absurd (y z);
-            most = omega arith;
-            four = omega arith;
-            form = λ y. absurd (y z);
-            bare = λ y. g;
+            size = storable-none (e .length) (e .form) z (eqb-true (e .form) 0 (p .0));
           }
       size false q n a b c h =
-          let p = body-is (e .length) (e .form) h in
           let z = eqb-false (e .length) 0 q in
           record {
             none = λ y. absurd (n y);
@@ -104,56 +132,38 @@ module _ (e : Entry) (top floor : ℕ) where
             low = λ y. b;
             high = c;
             mark = λ y w. absurd (z w);
-            least = λ y. p .least;
-            most = p .most;
-            four = p .four;
-            form = λ y. p .form;
-            bare = λ y. absurd (z y);
+            size = storable-body (e .length) (e .form) z (body-is (e .length) (e .form) h);
           }
 
-      go : (x : Bool) → eqb (e .key) 0 ≡ x → place? x ≡ true → Sound e top floor
+      go : (x : Bool) → eqb (e .key) 0 ≡ x → place? x ≡ true → Sound e version floor
       go true q h =
           let p = both-true _ _ h in
-          let z = eqb-true (e .key) 0 q in
           let r = both-true _ _ (p .0) in
-          let a = eqb-true (e .version) 0 (r .1) in
-          let b = eqb-true (e .length) 0 (r .0) in
-          let g = eqb-true (e .form) 0 (p .1) in
-          record {
-            none = λ y. (a, b);
-            key = omega arith;
-            low = λ y. absurd (y z);
-            high = omega arith;
-            mark = λ y w. absurd (y z);
-            least = λ y. absurd (y b);
-            most = omega arith;
-            four = omega arith;
-            form = λ y. absurd (y b);
-            bare = λ y. g;
-          }
+          sound-none e version floor (eqb-true (e .key) 0 q) (eqb-true (e .version) 0 (r .1)) (eqb-true (e .length) 0 (r .0)) (eqb-true (e .form) 0 (p .1))
       go false q h =
           let p = both-true _ _ h in
           let r = both-true _ _ (p .0) in
           let s = both-true _ _ (r .0) in
-          size (eqb (e .length) 0) refl (eqb-false (e .key) 0 q) (leb-true (e .key) keyMost (s .0)) (leb-true 1 (e .version) (s .1)) (leb-true (e .version) top (r .1)) (p .1)
+          size (eqb (e .length) 0) refl (eqb-false (e .key) 0 q) (leb-true (e .key) keyMost (s .0)) (leb-true 1 (e .version) (s .1)) (leb-true (e .version) version (r .1)) (p .1)
 
-  pub is-sound : Sound e top floor → placeOk e top floor ≡ true
+  pub is-sound : Sound e version floor → placeOk e version floor ≡ true
   unfolding placeOk
   is-sound r = go (eqb (e .key) 0) refl
     where
       size : (x : Bool) → eqb (e .length) 0 ≡ x → (e .key ≡ 0 → ⊥) → size? x ≡ true
       size true q n =
           let z = eqb-true (e .length) 0 q in
-          rw (eq-eqb (e .form) 0 (r .bare z), lt-ltb floor (e .version) (r .mark n z))
+          rw (eq-eqb (e .form) 0 (r .size .bare z), lt-ltb floor (e .version) (r .mark n z))
       size false q n =
           let z = eqb-false (e .length) 0 q in
-          is-body (e .length) (e .form) (record { four = r .four; form = r .form z; least = r .least z; most = r .most })
+          let t = r .size in
+          is-body (e .length) (e .form) (record { four = t .four; form = t .form z; least = t .least z; most = t .most })
 
       go : (x : Bool) → eqb (e .key) 0 ≡ x → place? x ≡ true
-      go true q = let z = r .none (eqb-true (e .key) 0 q) in rw (eq-eqb (e .version) 0 (z .0), eq-eqb (e .length) 0 (z .1), eq-eqb (e .form) 0 (r .bare (z .1)))
+      go true q = let z = r .none (eqb-true (e .key) 0 q) in rw (eq-eqb (e .version) 0 (z .0), eq-eqb (e .length) 0 (z .1), eq-eqb (e .form) 0 (r .size .bare (z .1)))
       go false q =
           let n = eqb-false (e .key) 0 q in
-          rw (le-leb (e .key) keyMost (r .key), le-leb 1 (e .version) (r .low n), le-leb (e .version) top (r .high)) (size (eqb (e .length) 0) refl n)
+          rw (le-leb (e .key) keyMost (r .key), le-leb 1 (e .version) (r .low n), le-leb (e .version) version (r .high)) (size (eqb (e .length) 0) refl n)
 
 -- ---- the whole, from its places
 pub sound-proper : (b : Table) → b .floor ≤ b .version → b .version ≤ versionMost → ((i : ℕ) → i < places → Sound (entryAt b i) (b .version) (b .floor))
@@ -171,14 +181,14 @@ sound-proper b f t at ks vs =
       removal-above = λ i l y. at i l .mark (y .used) (y .bare);
       floor-in = f;
       version-in = t;
-      length-unit = λ i l y. at i l .four;
-      length-least = λ i l y. at i l .least (y .body);
-      length-most = λ i l y. at i l .most;
+      length-unit = λ i l y. at i l .size .four;
+      length-least = λ i l y. at i l .size .least (y .body);
+      length-most = λ i l y. at i l .size .most;
       empty-version = λ i l y. at i l .none y .0;
       empty-length = λ i l y. at i l .none y .1;
-      path-form = λ i l y. at i l .form (y .body);
-      removal-form = λ i l y. at i l .bare (y .bare);
-      empty-form = λ i l y. at i l .bare (at i l .none y .1);
+      path-form = λ i l y. at i l .size .form (y .body);
+      removal-form = λ i l y. at i l .size .bare (y .bare);
+      empty-form = λ i l y. at i l .size .bare (at i l .none y .1);
     }
 
 -- ---- from the test to the record
@@ -207,38 +217,21 @@ pub proper-sound : (b : Table) → Proper b → (i : ℕ) → i < places → Sou
 proper-sound b p i l = ⊎-elim none used (same? (keyAt b i) 0)
   where
     none : keyAt b i ≡ 0 → Sound (entryAt b i) (b .version) (b .floor)
-    none e =
-        let v = p .empty-version i l e in
-        let n = p .empty-length i l e in
-        record {
-          none = λ y. (v, n);
-          key = omega arith;
-          low = λ y. absurd (y e);
-          high = omega arith;
-          mark = λ y w. absurd (y e);
-          least = λ y. absurd (y n);
-          most = omega arith;
-          four = omega arith;
-          form = λ y. absurd (y n);
-          bare = λ y. p .empty-form i l e;
-        }
+    none e = sound-none (entryAt b i) (b .version) (b .floor) e (p .empty-version i l e) (p .empty-length i l e) (p .empty-form i l e)
 
     used : Used b i → Sound (entryAt b i) (b .version) (b .floor)
     used u = ⊎-elim bare body (same? (lengthAt b i) 0)
       where
         bare : lengthAt b i ≡ 0 → Sound (entryAt b i) (b .version) (b .floor)
         bare n =
+            let y : RemovalAt b i = record { used = u; bare = n } in
             record {
-              none = λ y. absurd (u y);
+              none = λ z. absurd (u z);
               key = p .key-most i l u;
-              low = λ y. p .version-least i l u;
+              low = λ z. p .version-least i l u;
               high = p .version-most i l u;
-              mark = λ y w. p .removal-above i l (record { used = u; bare = n });
-              least = λ y. absurd (y n);
-              most = omega arith;
-              four = omega arith;
-              form = λ y. absurd (y n);
-              bare = λ y. p .removal-form i l (record { used = u; bare = n });
+              mark = λ z w. p .removal-above i l y;
+              size = storable-none (lengthAt b i) (formAt b i) n (p .removal-form i l y);
             }
 
         body : (lengthAt b i ≡ 0 → ⊥) → Sound (entryAt b i) (b .version) (b .floor)
@@ -250,11 +243,9 @@ proper-sound b p i l = ⊎-elim none used (same? (keyAt b i) 0)
               low = λ z. p .version-least i l u;
               high = p .version-most i l u;
               mark = λ z w. absurd (n w);
-              least = λ z. p .length-least i l y;
-              most = p .length-most i l y;
-              four = p .length-unit i l y;
-              form = λ z. p .path-form i l y;
-              bare = λ z. absurd (n z);
+              size =
+                  storable-body (lengthAt b i) (formAt b i) n
+                  (record { four = p .length-unit i l y; form = p .path-form i l y; least = p .length-least i l y; most = p .length-most i l y });
             }
 
 pub is-proper : (b : Table) → Proper b → properB b ≡ true

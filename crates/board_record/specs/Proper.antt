@@ -49,9 +49,9 @@ pathOk length form = eqb (length % unit) 0 && (eqb form srv6Setup || eqb form mp
 
 -- one place by itself: what it holds, under a board's version and floor
 unfoldable pub placeOk : Entry → ℕ → ℕ → Bool
-placeOk e top floor =
+placeOk e version floor =
     cond (eqb (e .key) 0) (eqb (e .length) 0 && eqb (e .version) 0 && eqb (e .form) 0)
-    (leb (e .key) keyMost && leb 1 (e .version) && leb (e .version) top
+    (leb (e .key) keyMost && leb 1 (e .version) && leb (e .version) version
     && cond (eqb (e .length) 0) (eqb (e .form) 0 && ltb floor (e .version)) (pathOk (e .length) (e .form)))
 
 unfoldable pub soundB : Table → ℕ → Bool

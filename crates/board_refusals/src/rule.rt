@@ -29,8 +29,8 @@ use board_record::larger;
 
 // 18, the route checks, 19, 20, 21. `route` is what the route checks answer, n the octets of the body, `target` the place
 // that the report takes, 128 for none. Acceptance carries the number of segments, as that of the route does.
-pub fn report_rules(key: u64, route: Verdict, n: usize, top: u64, target: usize) -> Verdict
-    ensures first { λ r. ⌜ r ≡ reportRules true key route n top target ⌝ }
+pub fn report_rules(key: u64, route: Verdict, n: usize, version: u64, target: usize) -> Verdict
+    ensures first { λ r. ⌜ r ≡ reportRules true key route n version target ⌝ }
 {
     if key < KEY_LEAST {
         return refused(KEY_OUT_OF_RANGE, 0);
@@ -44,7 +44,7 @@ pub fn report_rules(key: u64, route: Verdict, n: usize, top: u64, target: usize)
     if ROOM < n {
         return refused(BODY_TOO_LONG, 0);
     }
-    if top == VERSION_MOST {
+    if version == VERSION_MOST {
         return refused(VERSIONS_USED_UP, 0);
     }
     if PLACES <= target {
@@ -54,8 +54,8 @@ pub fn report_rules(key: u64, route: Verdict, n: usize, top: u64, target: usize)
 }
 
 // 18, 22, 20. `at` is the place of the key, 128 for none, n the length there.
-pub fn remove_rules(key: u64, at: usize, n: usize, top: u64) -> Verdict
-    ensures first { λ r. ⌜ r ≡ removeRules true key (ltb at places && not (eqb n 0)) top ⌝ }
+pub fn remove_rules(key: u64, at: usize, n: usize, version: u64) -> Verdict
+    ensures first { λ r. ⌜ r ≡ removeRules true key (ltb at places && not (eqb n 0)) version ⌝ }
 {
     if key < KEY_LEAST {
         return refused(KEY_OUT_OF_RANGE, 0);
@@ -69,17 +69,17 @@ pub fn remove_rules(key: u64, at: usize, n: usize, top: u64) -> Verdict
     if n == 0 {
         return refused(NO_PATH, 0);
     }
-    if top == VERSION_MOST {
+    if version == VERSION_MOST {
         return refused(VERSIONS_USED_UP, 0);
     }
     accepted(0)
 }
 
 // 24
-pub fn compact_rules(c: u64, top: u64) -> Verdict
-    ensures first { λ r. ⌜ r ≡ compactRules true c top ⌝ }
+pub fn compact_rules(c: u64, version: u64) -> Verdict
+    ensures first { λ r. ⌜ r ≡ compactRules true c version ⌝ }
 {
-    if top < c {
+    if version < c {
         return refused(MARK_AHEAD, 0);
     }
     accepted(0)
@@ -105,13 +105,13 @@ pub fn body_rules(key: u64, at: usize, n: usize) -> Verdict
 }
 
 // 24, 23. A mark at exactly the floor is not too old.
-pub fn next_rules(s: u64, w: u64, top: u64, floor: u64) -> Verdict
-    ensures first { λ r. ⌜ r ≡ nextRules true s w top floor ⌝ }
+pub fn next_rules(s: u64, w: u64, version: u64, floor: u64) -> Verdict
+    ensures first { λ r. ⌜ r ≡ nextRules true s w version floor ⌝ }
 {
-    if top < s {
+    if version < s {
         return refused(MARK_AHEAD, 0);
     }
-    if top < w {
+    if version < w {
         return refused(MARK_AHEAD, 0);
     }
     if larger(s, w) < floor {
@@ -121,10 +121,10 @@ pub fn next_rules(s: u64, w: u64, top: u64, floor: u64) -> Verdict
 }
 
 // 24, 23. A version at exactly the floor is not too old.
-pub fn moved_rules(v: u64, top: u64, floor: u64) -> Verdict
-    ensures first { λ r. ⌜ r ≡ movedRules true v top floor ⌝ }
+pub fn moved_rules(v: u64, version: u64, floor: u64) -> Verdict
+    ensures first { λ r. ⌜ r ≡ movedRules true v version floor ⌝ }
 {
-    if top < v {
+    if version < v {
         return refused(MARK_AHEAD, 0);
     }
     if v < floor {

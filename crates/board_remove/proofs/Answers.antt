@@ -62,17 +62,17 @@ module _ (b : Table) (store : List ℕ) (k : ℕ) where
   remove-accepted at v e z p l = rw (← e, kept-new (v .number) b (removed b k) z, removed-is at p l)
 
 -- what the passed rules say
-pub remove-place : (k at n top : ℕ) (v : Verdict) → v ≡ removeRules true k (ltb at places && not (eqb n 0)) top → v .number ≡ 0 → at < places
+pub remove-place : (k at n version : ℕ) (v : Verdict) → v ≡ removeRules true k (ltb at places && not (eqb n 0)) version → v .number ≡ 0 → at < places
 unfolding removeRules
-remove-place k at n top v e z =
+remove-place k at n version v e z =
     let h = rule-passed (not (inRange k)) 17 0 _ (ap (λ (y : Verdict). y .number) (sym e) ∙ z) in
     let g = rule-passed (not (ltb at places && not (eqb n 0))) 21 0 _ (h .1) in
     ltb-true at places (both-true (ltb at places) (not (eqb n 0)) (not-false (ltb at places && not (eqb n 0)) (g .0)) .0)
 
 -- ---- the order that it leaves
-pub remove-key : (k : ℕ) (path : Bool) (top : ℕ) (v : Verdict) → v ≡ removeRules true k path top → v .number ≡ 0 → k ≡ 0 → ⊥
+pub remove-key : (k : ℕ) (path : Bool) (version : ℕ) (v : Verdict) → v ≡ removeRules true k path version → v .number ≡ 0 → k ≡ 0 → ⊥
 unfolding removeRules
-remove-key k path top v e z q =
+remove-key k path version v e z q =
     let h = rule-passed (not (inRange k)) 17 0 _ (ap (λ (y : Verdict). y .number) (sym e) ∙ z) in
     omega (arith, range-passed k (h .0) .0)
 

@@ -31,7 +31,6 @@ pub fn remove(
         ⌜ resultOf r after ≡ removeOn before (now (store .entry)) key ⌝ }
 {
     if !is_board(
-        store.len(),
         keys,
         versions,
         lengths,
@@ -40,6 +39,7 @@ pub fn remove(
         order,
         tops,
         forms,
+        store.len(),
     ) {
         return refused(NOT_A_BOARD, 0);
     }

@@ -8,10 +8,10 @@ use Rattle.session.specs.declared.Session.{Session}
 use Rattle.board_rules.specs.OnRecord.{resultOf, reportOn, reportStoreOn}
 use Rattle.board_rules.proofs.OnRecord.{results-same}
 
-pub report-determined : (b : Board) (store : List ℕ) (k : ℕ) (ero : List ℕ) (session : Session) (pst : ℕ) (v w : Verdict) (c d : Board) (x y : List ℕ)
-    → resultOf v c ≡ reportOn b store k ero session pst
-    → resultOf w d ≡ reportOn b store k ero session pst
-    → x ≡ reportStoreOn b store k ero session pst
-    → y ≡ reportStoreOn b store k ero session pst
+pub report-determined : (b : Board) (store : List ℕ) (k : ℕ) (octets : List ℕ) (session : Session) (pst : ℕ) (v w : Verdict) (c d : Board) (x y : List ℕ)
+    → resultOf v c ≡ reportOn b store k octets session pst
+    → resultOf w d ≡ reportOn b store k octets session pst
+    → x ≡ reportStoreOn b store k octets session pst
+    → y ≡ reportStoreOn b store k octets session pst
     → ((v ≡ w) × (c ≡ d)) × (x ≡ y)
-report-determined b store k ero session pst v w c d x y p q r t = (results-same (reportOn b store k ero session pst) v w c d p q, r ∙ sym t)
+report-determined b store k octets session pst v w c d x y p q r t = (results-same (reportOn b store k octets session pst) v w c d p q, r ∙ sym t)

@@ -40,7 +40,7 @@ pub fn report(
     forms: &mut [u8; 128],
     store: &mut [u8],
     key: u64,
-    ero: &[u8],
+    octets: &[u8],
     session: Session,
     pst: u64,
 ) -> Verdict
@@ -48,14 +48,13 @@ pub fn report(
         let before =
         boardOf (now (keys .entry)) (now (versions .entry)) (now (lengths .entry)) (now (version .entry)) (now (floor .entry)) (now (order .entry)) (now (tops .entry)) (now (forms .entry)) in
         let after = boardOf (now (keys .exit)) (now (versions .exit)) (now (lengths .exit)) (now (version .exit)) (now (floor .exit)) (now (order .exit)) (now (tops .exit)) (now (forms .exit)) in
-        ⌜ resultOf r after ≡ reportOn before (now (store .entry)) key (now (ero .entry)) session pst ⌝ }
-    ensures octets { λ r.
+        ⌜ resultOf r after ≡ reportOn before (now (store .entry)) key (now (octets .entry)) session pst ⌝ }
+    ensures stored { λ r.
         let before =
         boardOf (now (keys .entry)) (now (versions .entry)) (now (lengths .entry)) (now (version .entry)) (now (floor .entry)) (now (order .entry)) (now (tops .entry)) (now (forms .entry)) in
-        ⌜ now (store .exit) ≡ reportStoreOn before (now (store .entry)) key (now (ero .entry)) session pst ⌝ }
+        ⌜ now (store .exit) ≡ reportStoreOn before (now (store .entry)) key (now (octets .entry)) session pst ⌝ }
 {
     if !is_board(
-        store.len(),
         keys,
         versions,
         lengths,
@@ -64,12 +63,13 @@ pub fn report(
         order,
         tops,
         forms,
+        store.len(),
     ) {
         return refused(NOT_A_BOARD, 0);
     }
     let at = target(keys, versions, lengths, *version, *floor, forms, key);
-    let n = body_size(ero.len());
-    let verdict = report_rules(key, judge(ero, true, session, pst), n, *version, at);
+    let n = body_size(octets.len());
+    let verdict = report_rules(key, judge(octets, true, session, pst), n, *version, at);
     if verdict.number != 0 {
         return verdict;
     }
@@ -89,6 +89,6 @@ pub fn report(
         pst as u8,
         raised,
     );
-    lay(store, start_of(at), &ero[HEADER..]);
+    lay(store, start_of(at), &octets[HEADER..]);
     verdict
 }

@@ -11,8 +11,8 @@ use Rattle.board_by_value.specs.ByValue.{answerOf}
 use Rattle.board_report_by_value.specs.ByValue.{reportByValue}
 
 module _ (b : Board) (store : List ℕ) (v : Verdict) (d : Board) where
-  pub report-back : (k : ℕ) (ero : List ℕ) (both : Sessions) (pst : ℕ) (addresses : List ℕ)
-      → lent.resultOf v d ≡ called.reportForOn b store k ero both pst addresses
-      → answerOf (lent.resultOf v d) ≡ reportByValue b store k ero both pst addresses
+  pub report-back : (k : ℕ) (octets : List ℕ) (both : Sessions) (pst : ℕ) (addresses : List ℕ)
+      → lent.resultOf v d ≡ called.reportForOn b store k octets both pst addresses
+      → answerOf (lent.resultOf v d) ≡ reportByValue b store k octets both pst addresses
   unfolding reportByValue
-  report-back k ero both pst addresses e = ap answerOf e
+  report-back k octets both pst addresses e = ap answerOf e

@@ -8,7 +8,7 @@ use Rattle.board_by_value.specs.declared.answer.Answer.{Answer}
 use Rattle.board_by_value.specs.ByValue.{answerOf}
 
 unfoldable pub reportByValue : Board → List ℕ → ℕ → List ℕ → Sessions → ℕ → List ℕ → Answer
-reportByValue b store k ero both pst addresses = answerOf (called.reportForOn b store k ero both pst addresses)
+reportByValue b store k octets both pst addresses = answerOf (called.reportForOn b store k octets both pst addresses)
 
 abbrev pub reportStoreByValue : Board → List ℕ → ℕ → List ℕ → Sessions → ℕ → List ℕ → List ℕ
-reportStoreByValue b store k ero both pst addresses = called.reportStoreForOn b store k ero both pst addresses
+reportStoreByValue b store k octets both pst addresses = called.reportStoreForOn b store k octets both pst addresses

@@ -11,13 +11,13 @@ pub fn report(
     b: Board,
     store: &mut [u8],
     key: u64,
-    ero: &[u8],
+    octets: &[u8],
     both: Sessions,
     pst: u64,
     addresses: &[u8],
 ) -> Answer
-    ensures answer { λ r. ⌜ r ≡ reportByValue b (now (store .entry)) key (now (ero .entry)) both pst (now (addresses .entry)) ⌝ }
-    ensures octets { λ r. ⌜ now (store .exit) ≡ reportStoreByValue b (now (store .entry)) key (now (ero .entry)) both pst (now (addresses .entry)) ⌝ }
+    ensures answer { λ r. ⌜ r ≡ reportByValue b (now (store .entry)) key (now (octets .entry)) both pst (now (addresses .entry)) ⌝ }
+    ensures stored { λ r. ⌜ now (store .exit) ≡ reportStoreByValue b (now (store .entry)) key (now (octets .entry)) both pst (now (addresses .entry)) ⌝ }
 {
     let mut keys = b.keys;
     let mut versions = b.versions;
@@ -38,7 +38,7 @@ pub fn report(
         &mut forms,
         store,
         key,
-        ero,
+        octets,
         both,
         pst,
         addresses,

@@ -14,24 +14,24 @@ use octets::wide;
 
 // Whether a store of n octets and the record are a board.
 pub fn is_board<'a>(
-    n: usize,
     keys: &'a [u32; 128],
     versions: &'a [u64; 128],
     lengths: &'a [u16; 128],
-    top: u64,
+    version: u64,
     floor: u64,
     order: &'a [u8; 128],
     tops: &'a [u64; 16],
     forms: &'a [u8; 128],
+    n: usize,
 ) -> bool
     ensures board { λ r.
-        let b = boardOf (now (keys .entry)) (now (versions .entry)) (now (lengths .entry)) top floor (now (order .entry)) (now (tops .entry)) (now (forms .entry)) in
+        let b = boardOf (now (keys .entry)) (now (versions .entry)) (now (lengths .entry)) version floor (now (order .entry)) (now (tops .entry)) (now (forms .entry)) in
         ⌜ r ≡ isRecord b n ⌝ }
 {
     if n < STORE_SIZE {
         return false;
     }
-    board_proper::is_proper(keys, versions, lengths, top, floor, order, tops, forms)
+    board_proper::is_proper(keys, versions, lengths, version, floor, order, tops, forms)
 }
 
 // Place i, from 0, starts at 384 times i.

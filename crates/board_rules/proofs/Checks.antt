@@ -1,15 +1,15 @@
 -- Every call answers by the first broken check of its list, in the paper's order (specs/Checks): it refuses with n at p exactly if a check of that number and place is broken and
 -- none before it is, and accepts exactly if none is broken. One law over any list says so (`by-first` in frame/proofs/Checks), from the equality of the answer and the list's. That equality mostly
--- computes, the definition being the list taken apart; but a report has the route's own list in its midst, whose answer counts only where one of its checks is broken (`followed`), and
--- on a record 17 has one part more (`with-rows`). Assumes nothing.
-use Prim.Native.Nat.{ℕ, max}
+-- computes, the definition being the list taken apart; but a report has the route's own list in its midst, whose answer counts only where one of its checks is broken (`followed`),
+-- 22 is a search where the list looks at all places (`no-path-test`), and on a record 17 has one part more (`with-rows`). Assumes nothing.
+use Prim.Native.Nat.{ℕ, _<_, _≤_, max}
 use native.Mathlib.Omega.{arith}
 use mathlib.Core.Path.{_≡_, refl, sym, ap, _∙_}
 use mathlib.Core.Bool.{Bool, true, false, not, cond, _&&_, _||_}
 use mathlib.Core.List.{List, [], _∷_, _++_}
 use lib.ListN.{length, getD}
 use lib.Dec.{eqb, ltb, leb}
-use borrow.Author.Tests.{ne-eqb, eqb-true, eqb-false, le-leb, leb-true, not-true}
+use borrow.Author.Tests.{eq-eqb, ne-eqb, eqb-true, eqb-false, le-leb, leb-true, not-true}
 use Rattle.answers.specs.declared.verdict.Verdict.{Verdict}
 use Rattle.answers.specs.Numbers.{notABoard, keyOutOfRange, bodyTooLong, versionsUsedUp, allPaths, noPath, markTooOld, markAhead}
 use Rattle.answers.specs.Verdicts.{refusedBy, acceptedWith, kept}
@@ -20,13 +20,13 @@ use Rattle.frame.specs.Checks.{Check, check, firstBroken}
 use Rattle.frame.proofs.Checks.{first-append, None, Numbered, none-first, numbered-append, first-none, first-some, ByFirst, by-first}
 use Rattle.route.specs.Routes.{checksOf, acceptanceOf, judgeAs, judgeOf}
 use Rattle.route.proofs.Answer.{numbered-all}
-use Rattle.board_record.specs.Sizes.{places, room, versionMost}
+use Rattle.board_record.specs.Sizes.{places, room, keyLeast, versionMost}
 use Rattle.board_record.specs.declared.record.Board.{Board}
 use Rattle.board_record.specs.Table.{Table, keyAt, lengthAt, PathAt}
-use Rattle.board_record.specs.Search.{targetOf, nextOf, movedIn}
-use Rattle.board_record.specs.Proper.{allBelow, freshB}
+use Rattle.board_record.specs.Search.{placeOf, targetOf, nextOf, movedIn}
+use Rattle.board_record.specs.Proper.{Proper, allBelow, freshB}
 use Rattle.board_record.specs.Record.{tableIn, tidy}
-use Rattle.board_record.proofs.Logic.{test-is}
+use Rattle.board_record.proofs.Logic.{true≢false, test-is}
 use Rattle.board_record.proofs.All.{all-at, all-of}
 use Rattle.board_record.proofs.Search.{Full, full-is, is-full}
 use Rattle.board_rules.specs.declared.answer.Handed.{Handed}
@@ -39,7 +39,8 @@ use Rattle.board_rules.specs.Body.{bodyRules, bodyNumber}
 use Rattle.board_rules.specs.Next.{nextRules, nextVerdict, changeAt, handedAt, nextAnswer}
 use Rattle.board_rules.specs.Moved.{movedRules, movedVerdict, movedAnswer}
 use Rattle.board_rules.specs.OnRecord.{isRecord, verdictOn, resultOn, reportOn, removeOn, compactOn, bodyNumberOn, nextOn, movedOn}
-use Rattle.board_rules.specs.Checks.{pathAtB, fullB, reportChecks, removeChecks, compactChecks, bodyChecks, nextChecks, movedChecks, verdictIn}
+use Rattle.board_rules.specs.Checks.{pathAtB, fullB, noPathB, reportChecks, removeChecks, compactChecks, bodyChecks, nextChecks, movedChecks, verdictIn}
+use Rattle.board_rules.proofs.Verdicts.{range-passed, board-whole, path-there, path-has}
 
 -- the rest of a list
 abbrev later : List Check → List Check
@@ -68,24 +69,63 @@ full-said b k f =
     all-of (pathAtB b) 128 (λ j l. rw (pathAtB, ne-eqb (keyAt b j) 0 (f .paths j l .used), ne-eqb (lengthAt b j) 0 (f .paths j l .body))) in
     rw (new, paths)
 
+path-said : (b : Table) (j : ℕ) → pathAtB b j ≡ true → PathAt b j
+unfolding pathAtB
+path-said b j h =
+    let q = both-true (not (eqb (keyAt b j) 0)) (not (eqb (lengthAt b j) 0)) h in
+    record { used = eqb-false (keyAt b j) 0 (not-true _ (q .0)); body = eqb-false (lengthAt b j) 0 (not-true _ (q .1)) }
+
 said-full : (b : Table) (k : ℕ) → fullB b k ≡ true → Full b k
-unfolding fullB freshB pathAtB
+unfolding fullB freshB
 said-full b k e =
     let p = both-true (allBelow (λ j. not (eqb (keyAt b j) k)) 128) (allBelow (pathAtB b) 128) e in
     record {
       new = λ j l. eqb-false (keyAt b j) k (not-true _ (all-at (λ i. not (eqb (keyAt b i) k)) 128 (p .0) j l));
-      paths = λ j l. path j (all-at (pathAtB b) 128 (p .1) j l);
+      paths = λ j l. path-said b j (all-at (pathAtB b) 128 (p .1) j l);
     }
-  where
-    path : (j : ℕ) → not (eqb (keyAt b j) 0) && not (eqb (lengthAt b j) 0) ≡ true → PathAt b j
-    path j h =
-        let q = both-true (not (eqb (keyAt b j) 0)) (not (eqb (lengthAt b j) 0)) h in
-        record { used = eqb-false (keyAt b j) 0 (not-true _ (q .0)); body = eqb-false (lengthAt b j) 0 (not-true _ (q .1)) }
 
 full-test : (b : Table) (k : ℕ) → leb places (targetOf b k) ≡ fullB b k
 full-test b k =
     test-is (leb places (targetOf b k)) (fullB b k) (λ e. full-said b k (full-is b k (leb-true places (targetOf b k) e)))
     (λ e. le-leb places (targetOf b k) (is-full b k (said-full b k e)))
+
+-- ---- 22 in the paper's words: a key stands at one place of a board, so the search for it finds what a look at all places does
+pub no-path-test : (b : Table) (k : ℕ) → Proper b → keyLeast ≤ k → not (hasPath b k) ≡ noPathB b k
+unfolding noPathB pathAtB
+no-path-test b k p low =
+    test-is (not (hasPath b k)) (noPathB b k) (λ e. all-of (λ i. not (eqb (keyAt b i) k && pathAtB b i)) 128 (none (not-true _ e))) (λ e. some (hasPath b k) refl e)
+  where
+    none : hasPath b k ≡ false → (i : ℕ) → i < 128 → not (eqb (keyAt b i) k && pathAtB b i) ≡ true
+    none e i l = go (eqb (keyAt b i) k && pathAtB b i) refl
+      where
+        go : (x : Bool) → (eqb (keyAt b i) k && pathAtB b i) ≡ x → not x ≡ true
+        go false q = refl
+        go true q =
+            let s = both-true (eqb (keyAt b i) k) (pathAtB b i) q in
+            absurd
+            (true≢false (sym (path-has b p k i (λ z. omega arith) (record { here = l; key = eqb-true (keyAt b i) k (s .0) }) (path-said b i (s .1))) ∙ e))
+
+    some : (x : Bool) → hasPath b k ≡ x → allBelow (λ i. not (eqb (keyAt b i) k && pathAtB b i)) 128 ≡ true → not x ≡ true
+    some false q e = refl
+    some true q e =
+        let y = path-there b k (ap not q) in
+        let i = placeOf b k in
+        let t : eqb (keyAt b i) k && (not (eqb (keyAt b i) 0) && not (eqb (lengthAt b i) 0)) ≡ true =
+        rw (eq-eqb (keyAt b i) k (y .0 .key), ne-eqb (keyAt b i) 0 (λ z. omega (arith, y .0 .key)), ne-eqb (lengthAt b i) 0 (y .1)) in
+        absurd (true≢false (sym t ∙ not-true _ (all-at (λ j. not (eqb (keyAt b j) k && pathAtB b j)) 128 e i (y .0 .here))))
+
+-- behind 17 and 18
+no-path-behind : (whole : Bool) (b : Table) (k : ℕ) (v : Verdict) → (whole ≡ true → Proper b)
+    → cond (not whole) (refusedBy notABoard 0) (cond (not (inRange k)) (refusedBy keyOutOfRange 0) (cond (not (hasPath b k)) (refusedBy noPath 0) v))
+    ≡ cond (not whole) (refusedBy notABoard 0) (cond (not (inRange k)) (refusedBy keyOutOfRange 0) (cond (noPathB b k) (refusedBy noPath 0) v))
+no-path-behind false b k v f = refl
+no-path-behind true b k v f = go (inRange k) refl
+  where
+    go : (x : Bool) → inRange k ≡ x
+        → cond (not x) (refusedBy keyOutOfRange 0) (cond (not (hasPath b k)) (refusedBy noPath 0) v)
+        ≡ cond (not x) (refusedBy keyOutOfRange 0) (cond (noPathB b k) (refusedBy noPath 0) v)
+    go false q = refl
+    go true q = rw (no-path-test b k (f refl) (range-passed k (ap not q) .0))
 
 -- ---- report: the answer of one list, then another list, is that of both
 followed : (cs ds : List Check) (after : Verdict) → after .number ≡ 0 → (firstBroken cs after .number ≡ 0 → None cs)
@@ -99,55 +139,55 @@ followed cs ds after z f = go (eqb (firstBroken cs after .number) 0) refl
         ap (firstBroken ds) (none-first cs after h) ∙ sym (first-append cs ds after ∙ none-first cs (firstBroken ds after) h)
     go false q = first-some cs after (firstBroken ds after) z (eqb-false (firstBroken cs after .number) 0 q) ∙ sym (first-append cs ds after)
 
-module _ (b : Table) (k : ℕ) (ero : List ℕ) (session : Session) (pst : ℕ) where
+module _ (b : Table) (k : ℕ) (octets : List ℕ) (session : Session) (pst : ℕ) where
   -- 19, 20, 21
   abbrev last : List Check
   last =
-      check bodyTooLong 0 (ltb room (length (bodyIn ero)))
+      check bodyTooLong 0 (ltb room (length (bodyIn octets)))
       ∷ (check versionsUsedUp 0 (eqb (b .version) versionMost) ∷ (check allPaths 0 (fullB b k) ∷ []))
 
-  report-chain : (whole : Bool) → reportRules whole k (judgeOf ero true session pst) (length (bodyIn ero)) (b .version) (targetOf b k)
-      ≡ firstBroken (reportChecks whole b k ero session pst) (acceptanceOf (formOf pst) ero true)
+  report-chain : (whole : Bool) → reportRules whole k (judgeOf octets true session pst) (length (bodyIn octets)) (b .version) (targetOf b k)
+      ≡ firstBroken (reportChecks whole b k octets session pst) (acceptanceOf (formOf pst) octets true)
   unfolding reportRules judgeOf judgeAs
   report-chain whole =
       rw (full-test b k)
       (ap (λ (v : Verdict). cond (not whole) (refusedBy notABoard 0) (cond (not (inRange k)) (refusedBy keyOutOfRange 0) v))
-      (followed (checksOf (formOf pst) ero true session pst) last (acceptanceOf (formOf pst) ero true) refl
-      (first-none (checksOf (formOf pst) ero true session pst) (acceptanceOf (formOf pst) ero true) (numbered-all (formOf pst) ero true session pst))))
+      (followed (checksOf (formOf pst) octets true session pst) last (acceptanceOf (formOf pst) octets true) refl
+      (first-none (checksOf (formOf pst) octets true session pst) (acceptanceOf (formOf pst) octets true) (numbered-all (formOf pst) octets true session pst))))
 
-  pub report-numbered : (whole : Bool) → Numbered (reportChecks whole b k ero session pst)
+  pub report-numbered : (whole : Bool) → Numbered (reportChecks whole b k octets session pst)
   report-numbered whole = (
     omega arith,
     (
       omega arith,
-      numbered-append (checksOf (formOf pst) ero true session pst) last (numbered-all (formOf pst) ero true session pst) (omega arith, (omega arith, (omega arith, tt))),
+      numbered-append (checksOf (formOf pst) octets true session pst) last (numbered-all (formOf pst) octets true session pst) (omega arith, (omega arith, (omega arith, tt))),
     ),
   )
 
-pub report-by-first : (b : Table) (store : List ℕ) (k : ℕ) (ero : List ℕ) (session : Session) (pst : ℕ)
-    → ByFirst (reportAnswer b store k ero session pst .verdict) (reportChecks (isBoard b (length store)) b k ero session pst) (acceptanceOf (formOf pst) ero true)
+pub report-by-first : (b : Table) (store : List ℕ) (k : ℕ) (octets : List ℕ) (session : Session) (pst : ℕ)
+    → ByFirst (reportAnswer b store k octets session pst .verdict) (reportChecks (isBoard b (length store)) b k octets session pst) (acceptanceOf (formOf pst) octets true)
 unfolding reportAnswer reportWith reportVerdict
-report-by-first b store k ero session pst =
-    by-first _ (reportChecks (isBoard b (length store)) b k ero session pst) (acceptanceOf (formOf pst) ero true) (report-numbered b k ero session pst (isBoard b (length store))) refl
-    (report-chain b k ero session pst (isBoard b (length store)))
+report-by-first b store k octets session pst =
+    by-first _ (reportChecks (isBoard b (length store)) b k octets session pst) (acceptanceOf (formOf pst) octets true) (report-numbered b k octets session pst (isBoard b (length store))) refl
+    (report-chain b k octets session pst (isBoard b (length store)))
 
-pub report-checked-on : (b : Board) (store : List ℕ) (k : ℕ) (ero : List ℕ) (session : Session) (pst : ℕ)
-    → reportOn b store k ero session pst .verdict ≡ firstBroken (reportChecks (isRecord b (length store)) (tableIn b) k ero session pst) (acceptanceOf (formOf pst) ero true)
+pub report-checked-on : (b : Board) (store : List ℕ) (k : ℕ) (octets : List ℕ) (session : Session) (pst : ℕ)
+    → reportOn b store k octets session pst .verdict ≡ firstBroken (reportChecks (isRecord b (length store)) (tableIn b) k octets session pst) (acceptanceOf (formOf pst) octets true)
 unfolding resultOn reportAnswer reportWith reportVerdict
-report-checked-on b store k ero session pst =
-    on-record b (length store) (later (reportChecks true (tableIn b) k ero session pst)) (acceptanceOf (formOf pst) ero true) _
-    (report-chain (tableIn b) k ero session pst (isBoard (tableIn b) (length store)))
+report-checked-on b store k octets session pst =
+    on-record b (length store) (later (reportChecks true (tableIn b) k octets session pst)) (acceptanceOf (formOf pst) octets true) _
+    (report-chain (tableIn b) k octets session pst (isBoard (tableIn b) (length store)))
 
-pub report-by-first-on : (b : Board) (store : List ℕ) (k : ℕ) (ero : List ℕ) (session : Session) (pst : ℕ)
-    → ByFirst (reportOn b store k ero session pst .verdict) (reportChecks (isRecord b (length store)) (tableIn b) k ero session pst) (acceptanceOf (formOf pst) ero true)
-report-by-first-on b store k ero session pst =
-    by-first _ (reportChecks (isRecord b (length store)) (tableIn b) k ero session pst) (acceptanceOf (formOf pst) ero true)
-    (report-numbered (tableIn b) k ero session pst (isRecord b (length store))) refl (report-checked-on b store k ero session pst)
+pub report-by-first-on : (b : Board) (store : List ℕ) (k : ℕ) (octets : List ℕ) (session : Session) (pst : ℕ)
+    → ByFirst (reportOn b store k octets session pst .verdict) (reportChecks (isRecord b (length store)) (tableIn b) k octets session pst) (acceptanceOf (formOf pst) octets true)
+report-by-first-on b store k octets session pst =
+    by-first _ (reportChecks (isRecord b (length store)) (tableIn b) k octets session pst) (acceptanceOf (formOf pst) octets true)
+    (report-numbered (tableIn b) k octets session pst (isRecord b (length store))) refl (report-checked-on b store k octets session pst)
 
 -- ---- remove
-remove-chain : (whole : Bool) (b : Table) (k : ℕ) → removeRules whole k (hasPath b k) (b .version) ≡ firstBroken (removeChecks whole b k) (acceptedWith 0)
+remove-chain : (whole : Bool) (b : Table) (k : ℕ) → (whole ≡ true → Proper b) → removeRules whole k (hasPath b k) (b .version) ≡ firstBroken (removeChecks whole b k) (acceptedWith 0)
 unfolding removeRules
-remove-chain whole b k = refl
+remove-chain whole b k = no-path-behind whole b k (cond (eqb (b .version) versionMost) (refusedBy versionsUsedUp 0) (acceptedWith 0))
 
 remove-numbered : (whole : Bool) (b : Table) (k : ℕ) → Numbered (removeChecks whole b k)
 remove-numbered whole b k = (omega arith, (omega arith, (omega arith, (omega arith, tt))))
@@ -155,13 +195,15 @@ remove-numbered whole b k = (omega arith, (omega arith, (omega arith, (omega ari
 pub remove-by-first : (b : Table) (store : List ℕ) (k : ℕ) → ByFirst (removeAnswer b store k .verdict) (removeChecks (isBoard b (length store)) b k) (acceptedWith 0)
 unfolding removeAnswer removeVerdict
 remove-by-first b store k =
-    by-first _ (removeChecks (isBoard b (length store)) b k) (acceptedWith 0) (remove-numbered (isBoard b (length store)) b k) refl (remove-chain (isBoard b (length store)) b k)
+    by-first _ (removeChecks (isBoard b (length store)) b k) (acceptedWith 0) (remove-numbered (isBoard b (length store)) b k) refl
+    (remove-chain (isBoard b (length store)) b k (λ e. board-whole b (length store) e .proper))
 
 pub remove-by-first-on : (b : Board) (store : List ℕ) (k : ℕ) → ByFirst (removeOn b store k .verdict) (removeChecks (isRecord b (length store)) (tableIn b) k) (acceptedWith 0)
 unfolding resultOn removeAnswer removeVerdict
 remove-by-first-on b store k =
     by-first _ (removeChecks (isRecord b (length store)) (tableIn b) k) (acceptedWith 0) (remove-numbered (isRecord b (length store)) (tableIn b) k) refl
-    (on-record b (length store) (later (removeChecks true (tableIn b) k)) (acceptedWith 0) _ (remove-chain (isBoard (tableIn b) (length store)) (tableIn b) k))
+    (on-record b (length store) (later (removeChecks true (tableIn b) k)) (acceptedWith 0) _
+    (remove-chain (isBoard (tableIn b) (length store)) (tableIn b) k (λ e. board-whole (tableIn b) (length store) e .proper)))
 
 -- ---- compact
 compact-chain : (whole : Bool) (b : Table) (c : ℕ) → compactRules whole c (b .version) ≡ firstBroken (compactChecks whole b c) (acceptedWith 0)
@@ -183,9 +225,9 @@ compact-by-first-on b store c =
     (on-record b (length store) (later (compactChecks true (tableIn b) c)) (acceptedWith 0) _ (compact-chain (isBoard (tableIn b) (length store)) (tableIn b) c))
 
 -- ---- body
-body-chain : (whole : Bool) (b : Table) (k : ℕ) → bodyRules whole k (hasPath b k) ≡ firstBroken (bodyChecks whole b k) (acceptedWith 0)
+body-chain : (whole : Bool) (b : Table) (k : ℕ) → (whole ≡ true → Proper b) → bodyRules whole k (hasPath b k) ≡ firstBroken (bodyChecks whole b k) (acceptedWith 0)
 unfolding bodyRules
-body-chain whole b k = refl
+body-chain whole b k = no-path-behind whole b k (acceptedWith 0)
 
 body-numbered : (whole : Bool) (b : Table) (k : ℕ) → Numbered (bodyChecks whole b k)
 body-numbered whole b k = (omega arith, (omega arith, (omega arith, tt)))
@@ -193,13 +235,15 @@ body-numbered whole b k = (omega arith, (omega arith, (omega arith, tt)))
 pub body-by-first : (b : Table) (store : List ℕ) (k : ℕ) → ByFirst (bodyNumber b store k) (bodyChecks (isBoard b (length store)) b k) (acceptedWith 0)
 unfolding bodyNumber
 body-by-first b store k =
-    by-first _ (bodyChecks (isBoard b (length store)) b k) (acceptedWith 0) (body-numbered (isBoard b (length store)) b k) refl (body-chain (isBoard b (length store)) b k)
+    by-first _ (bodyChecks (isBoard b (length store)) b k) (acceptedWith 0) (body-numbered (isBoard b (length store)) b k) refl
+    (body-chain (isBoard b (length store)) b k (λ e. board-whole b (length store) e .proper))
 
 pub body-by-first-on : (b : Board) (store : List ℕ) (k : ℕ) → ByFirst (bodyNumberOn b store k) (bodyChecks (isRecord b (length store)) (tableIn b) k) (acceptedWith 0)
 unfolding bodyNumberOn bodyNumber
 body-by-first-on b store k =
     by-first _ (bodyChecks (isRecord b (length store)) (tableIn b) k) (acceptedWith 0) (body-numbered (isRecord b (length store)) (tableIn b) k) refl
-    (on-record b (length store) (later (bodyChecks true (tableIn b) k)) (acceptedWith 0) _ (body-chain (isBoard (tableIn b) (length store)) (tableIn b) k))
+    (on-record b (length store) (later (bodyChecks true (tableIn b) k)) (acceptedWith 0) _
+    (body-chain (isBoard (tableIn b) (length store)) (tableIn b) k (λ e. board-whole (tableIn b) (length store) e .proper)))
 
 -- ---- next: 24 for s and for w is one rule
 either : (x y : Bool) (r z : Verdict) → cond x r (cond y r z) ≡ cond (x || y) r z

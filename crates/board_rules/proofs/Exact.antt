@@ -45,19 +45,19 @@ other true n x f g e = f e
 other false n x f g e = g e
 
 -- ---- report
-module _ (b : Table) (store : List ℕ) (k : ℕ) (ero : List ℕ) (session : Session) (pst : ℕ) where
-  pub report-17-then : NoBoard b (length store) → reportAnswer b store k ero session pst .verdict ≡ refusedBy notABoard 0
+module _ (b : Table) (store : List ℕ) (k : ℕ) (octets : List ℕ) (session : Session) (pst : ℕ) where
+  pub report-17-then : NoBoard b (length store) → reportAnswer b store k octets session pst .verdict ≡ refusedBy notABoard 0
   unfolding reportAnswer reportWith reportVerdict reportRules
   report-17-then f = rw (no-board b (length store) f)
 
-  pub report-17-only : reportAnswer b store k ero session pst .verdict .number ≡ notABoard → NoBoard b (length store)
+  pub report-17-only : reportAnswer b store k octets session pst .verdict .number ≡ notABoard → NoBoard b (length store)
   unfolding reportAnswer reportWith reportVerdict reportRules
-  report-17-only e w = rest (judgeOf ero true session pst) (judge-low ero true session pst) (rw (whole-board b (length store) w) at e)
+  report-17-only e w = rest (judgeOf octets true session pst) (judge-low octets true session pst) (rw (whole-board b (length store) w) at e)
     where
       rest : (route : Verdict) → Apart (route .number)
           → cond (not (inRange k)) (refusedBy 18 0)
           (cond (not (eqb (route .number) 0)) route
-          (cond (ltb room (length (bodyIn ero))) (refusedBy 19 0)
+          (cond (ltb room (length (bodyIn octets))) (refusedBy 19 0)
           (cond (eqb (b .version) versionMost) (refusedBy 20 0) (cond (leb places (targetOf b k)) (refusedBy 21 0) route))))
           .number ≡ notABoard
           → ⊥
@@ -71,13 +71,13 @@ module _ (b : Table) (store : List ℕ) (k : ℕ) (ero : List ℕ) (session : Se
 
           check : (t : Bool)
               → cond t route
-              (cond (ltb room (length (bodyIn ero))) (refusedBy 19 0)
+              (cond (ltb room (length (bodyIn octets))) (refusedBy 19 0)
               (cond (eqb (b .version) versionMost) (refusedBy 20 0) (cond (leb places (targetOf b k)) (refusedBy 21 0) route)))
               .number ≡ notABoard
               → ⊥
           check true z = not-17 l z
           check false z =
-              other (ltb room (length (bodyIn ero))) 19 _ (λ y. omega arith)
+              other (ltb room (length (bodyIn octets))) 19 _ (λ y. omega arith)
               (other (eqb (b .version) versionMost) 20 _ (λ y. omega arith) (other (leb places (targetOf b k)) 21 route (λ y. omega arith) (not-17 l))) z
 
 -- ---- remove

@@ -77,7 +77,7 @@ path-inside b store s w e =
     let p = chosen (eqb (nextVerdict b store s w .number) 0) (handedAt b (nextOf b s w)) _ (no-refusal (nextVerdict b store s w)) e in
     let o = next-whole b store s w (eqb-true _ 0 (p .0)) in
     let q = placed b (nextOf b s w) (p .1) in
-    let m = proper-sound b (o .proper) (nextOf b s w) (q .here) .most in
+    let m = proper-sound b (o .proper) (nextOf b s w) (q .here) .size .most in
     rw (q .same) (omega (arith, o .store))
 
 -- ---- the number of an answer

@@ -26,8 +26,8 @@ use Rattle.octets.proofs.Said.{both-true}
 use Rattle.board_record.proofs.Logic.{true≢false, same?}
 use Rattle.board_record.proofs.Lists.{row-at}
 use Rattle.board_record.proofs.Search.{removal-is, is-removal, report-place-is, floor-keeps, floor-takes, floor-drops}
-use Rattle.board_record.proofs.Proper.{Sound, proper-sound, sound-proper}
-use Rattle.board_record.proofs.Changed.{Storable, Fitting, changed-sized, changed-proper}
+use Rattle.board_record.proofs.Proper.{Storable, Sound, sound-none, proper-sound, sound-proper}
+use Rattle.board_record.proofs.Changed.{Fitting, changed-sized, changed-proper}
 use Rattle.board_rules.specs.Report.{bodyIn, reportVerdict, reported, reportWith, reportAnswer}
 use Rattle.board_rules.specs.Remove.{removeVerdict, removed, removeAnswer}
 use Rattle.board_rules.specs.Compact.{compactVerdict, dropped, compacted, compactAnswer}
@@ -42,20 +42,20 @@ least-some form = go (eqb form srv6Setup)
     go true = omega arith
     go false = omega arith
 
-pub record BodyFits (ero : List ℕ) (pst : ℕ) : Type 0 where
+pub record BodyFits (octets : List ℕ) (pst : ℕ) : Type 0 where
   pub form : IsForm pst
-  pub least : bodyLeast pst ≤ length (bodyIn ero)
-  pub four : length (bodyIn ero) % unit ≡ 0
+  pub least : bodyLeast pst ≤ length (bodyIn octets)
+  pub four : length (bodyIn octets) % unit ≡ 0
 
-pub body-fits : (ero : List ℕ) (session : Session) (pst : ℕ) → judgeOf ero true session pst .number ≡ 0 → BodyFits ero pst
+pub body-fits : (octets : List ℕ) (session : Session) (pst : ℕ) → judgeOf octets true session pst .number ≡ 0 → BodyFits octets pst
 unfolding bodyLeast
-body-fits ero session pst z = ⊎-elim mpls srv6 (accepted-one ero true session pst z)
+body-fits octets session pst z = ⊎-elim mpls srv6 (accepted-one octets true session pst z)
   where
-    mpls : pst ≡ mplsSetup → BodyFits ero pst
-    mpls e = let h = body-mpls ero true session pst z e in record { form = inr e; least = rw e (h .0); four = h .1 }
+    mpls : pst ≡ mplsSetup → BodyFits octets pst
+    mpls e = let h = body-mpls octets true session pst z e in record { form = inr e; least = rw e (h .0); four = h .1 }
 
-    srv6 : pst ≡ srv6Setup → BodyFits ero pst
-    srv6 e = let h = body-srv6 ero true session pst z (λ q. omega arith) in record { form = inl e; least = rw e (h .0); four = h .1 }
+    srv6 : pst ≡ srv6Setup → BodyFits octets pst
+    srv6 e = let h = body-srv6 octets true session pst z (λ q. omega arith) in record { form = inl e; least = rw e (h .0); four = h .1 }
 
 -- where a report goes, and the floor after it, fit the board
 report-fits : (b : Table)
@@ -76,7 +76,7 @@ report-fits b p k n pst i low high size left here (keeps x) =
       high = high;
       size = size;
       newer = omega arith;
-      top = omega (arith, p .version-in, left);
+      version-in = omega (arith, p .version-in, left);
       floor = omega (arith, e, p .floor-in);
       only = λ j l d q. d (p .keys-distinct j i l here (λ z. omega (arith, sym q ∙ z)) (q ∙ sym (x .key)));
       marks = λ j l d r. omega (arith, e, p .removal-above j l r);
@@ -89,7 +89,7 @@ report-fits b p k n pst i low high size left here (takes new x) =
       high = high;
       size = size;
       newer = omega arith;
-      top = omega (arith, p .version-in, left);
+      version-in = omega (arith, p .version-in, left);
       floor = omega (arith, e, p .floor-in);
       only = λ j l d. new j l;
       marks = λ j l d r. omega (arith, e, p .removal-above j l r);
@@ -102,7 +102,7 @@ report-fits b p k n pst i low high size left here (drops new used x) =
       high = high;
       size = size;
       newer = omega arith;
-      top = omega (arith, p .version-in, left);
+      version-in = omega (arith, p .version-in, left);
       floor = omega (arith, e, p .version-most i here (x .removal .used));
       only = λ j l d. new j l;
       marks = λ j l d r.
@@ -110,36 +110,38 @@ report-fits b p k n pst i low high size left here (drops new used x) =
           omega (arith, e, x .oldest j l r, apart);
     }
 
-pub reported-proper : (b : Table) (store : List ℕ) (k : ℕ) (ero : List ℕ) (route : Verdict) (pst : ℕ)
+pub reported-proper : (b : Table) (store : List ℕ) (k : ℕ) (octets : List ℕ) (route : Verdict) (pst : ℕ)
     → ListsWhole b
-    → BodyFits ero pst
-    → reportVerdict b store k ero route .number ≡ 0
-    → Proper (reported b k ero pst)
+    → BodyFits octets pst
+    → reportVerdict b store k octets route .number ≡ 0
+    → Proper (reported b k octets pst)
 unfolding reported
-reported-proper b store k ero route pst s y z =
-    let g = report-passed b store k ero route z in
+reported-proper b store k octets route pst s y z =
+    let g = report-passed b store k octets route z in
     let p = g .whole .proper in
-    let size : Storable (length (bodyIn ero)) pst =
+    let size : Storable (length (bodyIn octets)) pst =
     record { most = g .size; four = y .four; least = λ d. y .least; form = λ d. y .form; bare = λ e. absurd (omega (arith, least-some pst, y .least)) } in
-    changed-proper b (targetOf b k) (bearing b k (length (bodyIn ero)) pst) (floorAfter b k (targetOf b k)) s p
-    (report-fits b p k (length (bodyIn ero)) pst (targetOf b k) (g .key-least) (g .key-most) size (g .versions-left) (g .place) (report-place-is b k (g .place)))
+    changed-proper b (targetOf b k) (bearing b k (length (bodyIn octets)) pst) (floorAfter b k (targetOf b k)) s p
+    (report-fits b p k (length (bodyIn octets)) pst (targetOf b k) (g .key-least) (g .key-most) size (g .versions-left) (g .place) (report-place-is b k (g .place)))
 
 -- a test on whether a verdict is an acceptance
 taken? : (v : Verdict) → (v .number ≡ 0) ⊎ (v .number ≡ 0 → ⊥)
 taken? v = same? (v .number) 0
 
-pub report-proper : (b : Table) (store : List ℕ) (k : ℕ) (ero : List ℕ) (session : Session) (pst : ℕ) → ListsWhole b → Proper b → Proper (reportAnswer b store k ero session pst .table)
+pub report-proper : (b : Table) (store : List ℕ) (k : ℕ) (octets : List ℕ) (session : Session) (pst : ℕ) → ListsWhole b → Proper b → Proper (reportAnswer b store k octets session pst .table)
 unfolding reportAnswer reportWith
-report-proper b store k ero session pst s p = ⊎-elim yes no (taken? (reportVerdict b store k ero (judgeOf ero true session pst)))
+report-proper b store k octets session pst s p = ⊎-elim yes no (taken? (reportVerdict b store k octets (judgeOf octets true session pst)))
   where
-    yes : reportVerdict b store k ero (judgeOf ero true session pst) .number ≡ 0 → Proper (kept (reportVerdict b store k ero (judgeOf ero true session pst) .number) b (reported b k ero pst))
+    yes : reportVerdict b store k octets (judgeOf octets true session pst) .number ≡ 0
+        → Proper (kept (reportVerdict b store k octets (judgeOf octets true session pst) .number) b (reported b k octets pst))
     yes z =
-        let g = report-passed b store k ero (judgeOf ero true session pst) z in
-        rw (kept-new (reportVerdict b store k ero (judgeOf ero true session pst) .number) b (reported b k ero pst) z)
-        (reported-proper b store k ero (judgeOf ero true session pst) pst s (body-fits ero session pst (g .route-taken)) z)
+        let g = report-passed b store k octets (judgeOf octets true session pst) z in
+        rw (kept-new (reportVerdict b store k octets (judgeOf octets true session pst) .number) b (reported b k octets pst) z)
+        (reported-proper b store k octets (judgeOf octets true session pst) pst s (body-fits octets session pst (g .route-taken)) z)
 
-    no : (reportVerdict b store k ero (judgeOf ero true session pst) .number ≡ 0 → ⊥) → Proper (kept (reportVerdict b store k ero (judgeOf ero true session pst) .number) b (reported b k ero pst))
-    no d = rw (kept-old (reportVerdict b store k ero (judgeOf ero true session pst) .number) b (reported b k ero pst) d) p
+    no : (reportVerdict b store k octets (judgeOf octets true session pst) .number ≡ 0 → ⊥)
+        → Proper (kept (reportVerdict b store k octets (judgeOf octets true session pst) .number) b (reported b k octets pst))
+    no d = rw (kept-old (reportVerdict b store k octets (judgeOf octets true session pst) .number) b (reported b k octets pst) d) p
 
 -- ---- remove
 pub removed-proper : (b : Table) (store : List ℕ) (k : ℕ) → ListsWhole b → removeVerdict b store k .number ≡ 0 → Proper (removed b k)
@@ -154,7 +156,7 @@ removed-proper b store k s z =
       high = g .key-most;
       size = record { most = omega arith; four = refl; least = λ d. absurd (d refl); form = λ d. absurd (d refl); bare = λ e. refl };
       newer = omega arith;
-      top = omega (arith, p .version-in, g .versions-left);
+      version-in = omega (arith, p .version-in, g .versions-left);
       floor = p .floor-in;
       only = λ j l d q. d (p .keys-distinct j (placeOf b k) l (g .place .here) (λ e. omega (arith, g .key-least, sym q ∙ e)) (q ∙ sym (g .place .key)));
       marks = λ j l d r. p .removal-above j l r;
@@ -205,19 +207,7 @@ module _ (b : Table) (m : ℕ) where
       (λ i j l k u e. versions i j l k u e (left p i l) (left p j k))
     where
       at : (i : ℕ) → i < places → Left i → Sound (entryAt (compacted b m) i) (b .version) (max (b .floor) m)
-      at i l (gone e f g h) =
-          record {
-            none = λ y. (f, g);
-            key = omega arith;
-            low = λ y. absurd (y e);
-            high = omega arith;
-            mark = λ y w. absurd (y e);
-            least = λ y. absurd (y g);
-            most = omega arith;
-            four = omega arith;
-            form = λ y. absurd (y g);
-            bare = λ y. h;
-          }
+      at i l (gone e f g h) = sound-none (entryAt (compacted b m) i) (b .version) (max (b .floor) m) e f g h
       at i l (same d e f) =
           let o = proper-sound b p i l in
           rw (e, f)
@@ -227,11 +217,7 @@ module _ (b : Table) (m : ℕ) where
             low = o .low;
             high = o .high;
             mark = λ y w. let r : RemovalAt b i = record { used = y; bare = w } in omega (arith, kept-above i d r, o .mark y w);
-            least = o .least;
-            most = o .most;
-            four = o .four;
-            form = o .form;
-            bare = o .bare;
+            size = o .size;
           })
 
       keys : (i j : ℕ) → i < places → j < places → Used (compacted b m) i → keyAt (compacted b m) i ≡ keyAt (compacted b m) j → Left i → Left j → i ≡ j
@@ -251,19 +237,19 @@ compact-proper b store m p =
     (λ d. rw (kept-old (compactVerdict b store m .number) b (compacted b m) d) p) (taken? (compactVerdict b store m))
 
 -- ---- version and floor
-module _ (b : Table) (store : List ℕ) (k : ℕ) (ero : List ℕ) (session : Session) (pst : ℕ) where
-  pub report-raises : reportAnswer b store k ero session pst .verdict .number ≡ 0 → reportAnswer b store k ero session pst .table .version ≡ b .version + 1
+module _ (b : Table) (store : List ℕ) (k : ℕ) (octets : List ℕ) (session : Session) (pst : ℕ) where
+  pub report-raises : reportAnswer b store k octets session pst .verdict .number ≡ 0 → reportAnswer b store k octets session pst .table .version ≡ b .version + 1
   unfolding reportAnswer reportWith reported
-  report-raises z = ap (λ (x : Table). x .version) (kept-new (reportVerdict b store k ero (judgeOf ero true session pst) .number) b (reported b k ero pst) z)
+  report-raises z = ap (λ (x : Table). x .version) (kept-new (reportVerdict b store k octets (judgeOf octets true session pst) .number) b (reported b k octets pst) z)
 
-  pub report-refused-keeps : (reportAnswer b store k ero session pst .verdict .number ≡ 0 → ⊥) → reportAnswer b store k ero session pst .table ≡ b
+  pub report-refused-keeps : (reportAnswer b store k octets session pst .verdict .number ≡ 0 → ⊥) → reportAnswer b store k octets session pst .table ≡ b
   unfolding reportAnswer reportWith
-  report-refused-keeps d = kept-old (reportVerdict b store k ero (judgeOf ero true session pst) .number) b (reported b k ero pst) d
+  report-refused-keeps d = kept-old (reportVerdict b store k octets (judgeOf octets true session pst) .number) b (reported b k octets pst) d
 
-  reported-floor : reportVerdict b store k ero (judgeOf ero true session pst) .number ≡ 0 → b .floor ≤ reported b k ero pst .floor
+  reported-floor : reportVerdict b store k octets (judgeOf octets true session pst) .number ≡ 0 → b .floor ≤ reported b k octets pst .floor
   unfolding reported
   reported-floor z =
-      let g = report-passed b store k ero (judgeOf ero true session pst) z in
+      let g = report-passed b store k octets (judgeOf octets true session pst) z in
       rises (targetOf b k) (g .whole .proper) (report-place-is b k (g .place))
     where
       rises : (i : ℕ) → Proper b → ReportPlace b k i → b .floor ≤ floorAfter b k i
@@ -271,12 +257,12 @@ module _ (b : Table) (store : List ℕ) (k : ℕ) (ero : List ℕ) (session : Se
       rises i p (takes n x) = omega (arith, floor-takes b k i (x .empty))
       rises i p (drops n u x) = omega (arith, floor-drops b k i (x .removal .used) (n i (x .here)), p .removal-above i (x .here) (x .removal))
 
-  pub report-floor : b .floor ≤ reportAnswer b store k ero session pst .table .floor
+  pub report-floor : b .floor ≤ reportAnswer b store k octets session pst .table .floor
   unfolding reportAnswer reportWith
   report-floor =
-      ⊎-elim (λ z. rw (kept-new (reportVerdict b store k ero (judgeOf ero true session pst) .number) b (reported b k ero pst) z) (reported-floor z))
-      (λ d. rw (kept-old (reportVerdict b store k ero (judgeOf ero true session pst) .number) b (reported b k ero pst) d) (omega arith))
-      (taken? (reportVerdict b store k ero (judgeOf ero true session pst)))
+      ⊎-elim (λ z. rw (kept-new (reportVerdict b store k octets (judgeOf octets true session pst) .number) b (reported b k octets pst) z) (reported-floor z))
+      (λ d. rw (kept-old (reportVerdict b store k octets (judgeOf octets true session pst) .number) b (reported b k octets pst) d) (omega arith))
+      (taken? (reportVerdict b store k octets (judgeOf octets true session pst)))
 
 module _ (b : Table) (store : List ℕ) (k : ℕ) where
   pub remove-raises : removeAnswer b store k .verdict .number ≡ 0 → removeAnswer b store k .table .version ≡ b .version + 1

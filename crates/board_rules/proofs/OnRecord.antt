@@ -1,4 +1,4 @@
--- The calls on the record, from those on its table. 17 is answered exactly if the store is short, the table not proper, the row not its chain or a number of a group not its
+-- The calls on the record, from those on its table. 17 is answered exactly if the store is short, the table not proper, the order not its chain or a number of a group not its
 -- largest version; else a refusal leaves the record as it was, and what an accepted call leaves is the table's record. All by cases on whether the rows are the table's (`no-record`).
 -- Assumes nothing.
 use Prim.Native.Nat.{ℕ, zero, suc, _<_}
@@ -86,13 +86,13 @@ pub results-same : (a : Result) (v w : Verdict) (c d : Board) → resultOf v c �
 results-same a v w c d p q = (ap (λ (x : Result). x .verdict) (p ∙ sym q), ap (λ (x : Result). x .board) (p ∙ sym q))
 
 -- ---- the store
-module _ (b : Board) (store : List ℕ) (k : ℕ) (ero : List ℕ) (session : Session) (pst : ℕ) where
-  pub store-not : (n : ℕ) (r : Bool) → r ≡ isRecord b n → not r ≡ true → (isBoard (tableIn b) n ≡ false → store ≡ reportStore (tableIn b) store k ero session pst)
-      → store ≡ reportStoreOn b store k ero session pst
+module _ (b : Board) (store : List ℕ) (k : ℕ) (octets : List ℕ) (session : Session) (pst : ℕ) where
+  pub store-not : (n : ℕ) (r : Bool) → r ≡ isRecord b n → not r ≡ true → (isBoard (tableIn b) n ≡ false → store ≡ reportStore (tableIn b) store k octets session pst)
+      → store ≡ reportStoreOn b store k octets session pst
   unfolding reportStoreOn
-  store-not n r e t f = no-record b n r (λ x. store ≡ cond x (reportStore (tableIn b) store k ero session pst) store) e t refl f
+  store-not n r e t f = no-record b n r (λ x. store ≡ cond x (reportStore (tableIn b) store k octets session pst) store) e t refl f
 
-  pub store-on : (after : List ℕ) → tidy b ≡ true → after ≡ reportStore (tableIn b) store k ero session pst → after ≡ reportStoreOn b store k ero session pst
+  pub store-on : (after : List ℕ) → tidy b ≡ true → after ≡ reportStore (tableIn b) store k octets session pst → after ≡ reportStoreOn b store k octets session pst
   unfolding reportStoreOn
   store-on after e q = rw e q
 
@@ -138,7 +138,7 @@ module _ (b : Board) (store : List ℕ) (from to v : ℕ) where
   unfolding movedOn
   moved-on h e q = rw e q
 
--- ---- 17 on a record: exactly if the store is shorter than 49,152 octets, or the table isn't proper, or the row isn't its chain, or a group's number isn't its largest version
+-- ---- 17 on a record: exactly if the store is shorter than 49,152 octets, or the table isn't proper, or the order isn't its chain, or a group's number isn't its largest version
 pub record WholeOn (b : Board) (n : ℕ) : Type 0 where
   pub whole : IsBoard (tableIn b) n
   pub chained : Chained (tableIn b) (b .order)
@@ -182,13 +182,13 @@ module _ (b : Board) (n : ℕ) where
   only-17 v f e w = f (rw (whole-tidy w) at e) (w .whole)
 
 module _ (b : Board) (store : List ℕ) where
-  pub report-17-on : (k : ℕ) (ero : List ℕ) (session : Session) (pst : ℕ)
-      → (NoRecord b (length store) → reportOn b store k ero session pst .verdict ≡ refusedBy notABoard 0)
-      × (reportOn b store k ero session pst .verdict .number ≡ notABoard → NoRecord b (length store))
+  pub report-17-on : (k : ℕ) (octets : List ℕ) (session : Session) (pst : ℕ)
+      → (NoRecord b (length store) → reportOn b store k octets session pst .verdict ≡ refusedBy notABoard 0)
+      × (reportOn b store k octets session pst .verdict .number ≡ notABoard → NoRecord b (length store))
   unfolding resultOn
-  report-17-on k ero session pst = (
-    then-17 b (length store) _ (report-17-then (tableIn b) store k ero session pst),
-    only-17 b (length store) (reportAnswer (tableIn b) store k ero session pst .verdict) (report-17-only (tableIn b) store k ero session pst),
+  report-17-on k octets session pst = (
+    then-17 b (length store) _ (report-17-then (tableIn b) store k octets session pst),
+    only-17 b (length store) (reportAnswer (tableIn b) store k octets session pst .verdict) (report-17-only (tableIn b) store k octets session pst),
   )
 
   pub remove-17-on : (k : ℕ) → (NoRecord b (length store) → removeOn b store k .verdict ≡ refusedBy notABoard 0)

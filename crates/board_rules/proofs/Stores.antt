@@ -23,43 +23,44 @@ use Rattle.board_rules.specs.Remove.{removeVerdict, removed, removeAnswe
 use Rattle.board_rules.specs.Compact.{compactVerdict, compacted, compactAnswer}
 use Rattle.board_rules.proofs.Verdicts.{report-passed}
 
-module _ (b : Table) (store : List ℕ) (k : ℕ) (ero : List ℕ) (session : Session) (pst : ℕ) where
-  pub report-refused-writes-nothing : (reportAnswer b store k ero session pst .verdict .number ≡ 0 → ⊥) → reportStore b store k ero session pst ≡ store
+module _ (b : Table) (store : List ℕ) (k : ℕ) (octets : List ℕ) (session : Session) (pst : ℕ) where
+  pub report-refused-writes-nothing : (reportAnswer b store k octets session pst .verdict .number ≡ 0 → ⊥) → reportStore b store k octets session pst ≡ store
   unfolding reportAnswer reportWith reportStore storeWith
-  report-refused-writes-nothing d = kept-old (reportVerdict b store k ero (judgeOf ero true session pst) .number) store (placed store (room * targetOf b k) (bodyIn ero)) d
+  report-refused-writes-nothing d = kept-old (reportVerdict b store k octets (judgeOf octets true session pst) .number) store (placed store (room * targetOf b k) (bodyIn octets)) d
 
-  pub report-writes : reportAnswer b store k ero session pst .verdict .number ≡ 0 → reportStore b store k ero session pst ≡ placed store (room * targetOf b k) (bodyIn ero)
+  pub report-writes : reportAnswer b store k octets session pst .verdict .number ≡ 0 → reportStore b store k octets session pst ≡ placed store (room * targetOf b k) (bodyIn octets)
   unfolding reportAnswer reportWith reportStore storeWith
-  report-writes z = kept-new (reportVerdict b store k ero (judgeOf ero true session pst) .number) store (placed store (room * targetOf b k) (bodyIn ero)) z
+  report-writes z = kept-new (reportVerdict b store k octets (judgeOf octets true session pst) .number) store (placed store (room * targetOf b k) (bodyIn octets)) z
 
-  report-fits : reportAnswer b store k ero session pst .verdict .number ≡ 0 → room * targetOf b k + length (bodyIn ero) ≤ length store
+  report-fits : reportAnswer b store k octets session pst .verdict .number ≡ 0 → room * targetOf b k + length (bodyIn octets) ≤ length store
   unfolding reportAnswer reportWith
-  report-fits z = let g = report-passed b store k ero (judgeOf ero true session pst) z in omega (arith, g .size, g .place, g .whole .store)
+  report-fits z = let g = report-passed b store k octets (judgeOf octets true session pst) z in omega (arith, g .size, g .place, g .whole .store)
 
-  pub report-store-length : length (reportStore b store k ero session pst) ≡ length store
+  pub report-store-length : length (reportStore b store k octets session pst) ≡ length store
   report-store-length =
-      ⊎-elim (λ z. ap length (report-writes z) ∙ length-placed store (room * targetOf b k) (bodyIn ero) (report-fits z)) (λ d. ap length (report-refused-writes-nothing d))
-      (same? (reportAnswer b store k ero session pst .verdict .number) 0)
+      ⊎-elim (λ z. ap length (report-writes z) ∙ length-placed store (room * targetOf b k) (bodyIn octets) (report-fits z)) (λ d. ap length (report-refused-writes-nothing d))
+      (same? (reportAnswer b store k octets session pst .verdict .number) 0)
 
-  pub report-body-written : reportAnswer b store k ero session pst .verdict .number ≡ 0 → part (reportStore b store k ero session pst) (room * targetOf b k) (length (bodyIn ero)) ≡ bodyIn ero
-  report-body-written z = rw (report-writes z) (part-placed-same store (room * targetOf b k) (bodyIn ero) (report-fits z))
+  pub report-body-written : reportAnswer b store k octets session pst .verdict .number ≡ 0
+      → part (reportStore b store k octets session pst) (room * targetOf b k) (length (bodyIn octets)) ≡ bodyIn octets
+  report-body-written z = rw (report-writes z) (part-placed-same store (room * targetOf b k) (bodyIn octets) (report-fits z))
 
-  pub report-others-stay : (m : ℕ) → (m < room * targetOf b k) ⊎ (room * targetOf b k + length (bodyIn ero) ≤ m) → getD (reportStore b store k ero session pst) m 0 ≡ getD store m 0
+  pub report-others-stay : (m : ℕ) → (m < room * targetOf b k) ⊎ (room * targetOf b k + length (bodyIn octets) ≤ m) → getD (reportStore b store k octets session pst) m 0 ≡ getD store m 0
   report-others-stay m o =
       ⊎-elim
       (λ z. rw (report-writes z)
-      (⊎-elim (λ l. getD-before store (room * targetOf b k) (bodyIn ero) m (report-fits z) l) (λ l. getD-behind store (room * targetOf b k) (bodyIn ero) m (report-fits z) l) o))
-      (λ d. ap (λ (s : List ℕ). getD s m 0) (report-refused-writes-nothing d)) (same? (reportAnswer b store k ero session pst .verdict .number) 0)
+      (⊎-elim (λ l. getD-before store (room * targetOf b k) (bodyIn octets) m (report-fits z) l) (λ l. getD-behind store (room * targetOf b k) (bodyIn octets) m (report-fits z) l) o))
+      (λ d. ap (λ (s : List ℕ). getD s m 0) (report-refused-writes-nothing d)) (same? (reportAnswer b store k octets session pst .verdict .number) 0)
 
   -- ---- and the record keeps its size
-  pub report-sized : ListsWhole b → ListsWhole (reportAnswer b store k ero session pst .table)
+  pub report-sized : ListsWhole b → ListsWhole (reportAnswer b store k octets session pst .table)
   unfolding reportAnswer reportWith reported
   report-sized s =
       ⊎-elim
-      (λ z. rw (kept-new (reportVerdict b store k ero (judgeOf ero true session pst) .number) b (reported b k ero pst) z)
-      (changed-sized b (targetOf b k) (bearing b k (length (bodyIn ero)) pst) (floorAfter b k (targetOf b k)) s))
-      (λ d. rw (kept-old (reportVerdict b store k ero (judgeOf ero true session pst) .number) b (reported b k ero pst) d) s)
-      (same? (reportVerdict b store k ero (judgeOf ero true session pst) .number) 0)
+      (λ z. rw (kept-new (reportVerdict b store k octets (judgeOf octets true session pst) .number) b (reported b k octets pst) z)
+      (changed-sized b (targetOf b k) (bearing b k (length (bodyIn octets)) pst) (floorAfter b k (targetOf b k)) s))
+      (λ d. rw (kept-old (reportVerdict b store k octets (judgeOf octets true session pst) .number) b (reported b k octets pst) d) s)
+      (same? (reportVerdict b store k octets (judgeOf octets true session pst) .number) 0)
 
 pub remove-sized : (b : Table) (store : List ℕ) (k : ℕ) → ListsWhole b → ListsWhole (removeAnswer b store k .table)
 unfolding removeAnswer removed

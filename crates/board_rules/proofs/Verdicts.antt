@@ -19,7 +19,7 @@ use Rattle.board_record.specs.Search.{placeOf, KeyPlace, targetOf}
 use Rattle.board_record.specs.Proper.{Proper, properB}
 use Rattle.octets.proofs.Said.{both-true}
 use Rattle.board_record.proofs.Logic.{true≢false, from?}
-use Rattle.board_record.proofs.Search.{key-place-is, Full, full-is, is-full}
+use Rattle.board_record.proofs.Search.{key-place-is, key-place-found, Full, full-is, is-full}
 use Rattle.board_record.proofs.Proper.{proper-is, is-proper}
 use Rattle.board_rules.specs.Rules.{isBoard, inRange, hasPath}
 use Rattle.board_rules.specs.Report.{bodyIn, reportRules, reportVerdict}
@@ -62,22 +62,22 @@ unfolding isBoard
 whole-board b n w = rw (le-leb storeSize n (w .store), is-proper b (w .proper))
 
 -- ---- report
-pub record ReportPassed (b : Table) (store : List ℕ) (k : ℕ) (ero : List ℕ) (route : Verdict) : Type 0 where
+pub record ReportPassed (b : Table) (store : List ℕ) (k : ℕ) (octets : List ℕ) (route : Verdict) : Type 0 where
   pub whole : IsBoard b (length store)
   pub key-least : keyLeast ≤ k
   pub key-most : k ≤ keyMost
   pub route-taken : route .number ≡ 0
-  pub size : length (bodyIn ero) ≤ room
+  pub size : length (bodyIn octets) ≤ room
   pub versions-left : b .version ≡ versionMost → ⊥
   pub place : targetOf b k < places
 
-pub report-passed : (b : Table) (store : List ℕ) (k : ℕ) (ero : List ℕ) (route : Verdict) → reportVerdict b store k ero route .number ≡ 0 → ReportPassed b store k ero route
+pub report-passed : (b : Table) (store : List ℕ) (k : ℕ) (octets : List ℕ) (route : Verdict) → reportVerdict b store k octets route .number ≡ 0 → ReportPassed b store k octets route
 unfolding reportVerdict reportRules
-report-passed b store k ero route z =
+report-passed b store k octets route z =
     let w = rule-passed (not (isBoard b (length store))) 16 0 _ z in
     let a = rule-passed (not (inRange k)) 17 0 _ (w .1) in
     let r = route-passed route _ (a .1) in
-    let c = rule-passed (ltb room (length (bodyIn ero))) 18 0 _ (r .1) in
+    let c = rule-passed (ltb room (length (bodyIn octets))) 18 0 _ (r .1) in
     let d = rule-passed (eqb (b .version) versionMost) 19 0 _ (c .1) in
     let f = rule-passed (leb places (targetOf b k)) 20 0 _ (d .1) in
     record {
@@ -85,41 +85,41 @@ report-passed b store k ero route z =
       key-least = range-passed k (a .0) .0;
       key-most = range-passed k (a .0) .1;
       route-taken = r .0;
-      size = ltb-false room (length (bodyIn ero)) (c .0);
+      size = ltb-false room (length (bodyIn octets)) (c .0);
       versions-left = eqb-false (b .version) versionMost (d .0);
       place = leb-false places (targetOf b k) (f .0);
     }
 
 -- a report that every rule before 21 lets pass
-pub record Reached (b : Table) (store : List ℕ) (k : ℕ) (ero : List ℕ) (route : Verdict) : Type 0 where
+pub record Reached (b : Table) (store : List ℕ) (k : ℕ) (octets : List ℕ) (route : Verdict) : Type 0 where
   pub board : isBoard b (length store) ≡ true
   pub key : inRange k ≡ true
   pub route-taken : route .number ≡ 0
-  pub size : length (bodyIn ero) ≤ room
+  pub size : length (bodyIn octets) ≤ room
   pub versions-left : b .version ≡ versionMost → ⊥
 
-reached-rest : (b : Table) (store : List ℕ) (k : ℕ) (ero : List ℕ) (route : Verdict) → Reached b store k ero route
-    → reportVerdict b store k ero route ≡ cond (leb places (targetOf b k)) (refusedBy allPaths 0) route
+reached-rest : (b : Table) (store : List ℕ) (k : ℕ) (octets : List ℕ) (route : Verdict) → Reached b store k octets route
+    → reportVerdict b store k octets route ≡ cond (leb places (targetOf b k)) (refusedBy allPaths 0) route
 unfolding reportVerdict reportRules
-reached-rest b store k ero route r =
-    rw (r .board, r .key, eq-eqb (route .number) 0 (r .route-taken), le-ltb room (length (bodyIn ero)) (r .size), ne-eqb (b .version) versionMost (r .versions-left))
+reached-rest b store k octets route r =
+    rw (r .board, r .key, eq-eqb (route .number) 0 (r .route-taken), le-ltb room (length (bodyIn octets)) (r .size), ne-eqb (b .version) versionMost (r .versions-left))
 
 -- "21 exactly if the key is new and all 128 hold paths"
-pub all-paths-then : (b : Table) (store : List ℕ) (k : ℕ) (ero : List ℕ) (route : Verdict) → Reached b store k ero route → Full b k → reportVerdict b store k ero route ≡ refusedBy allPaths 0
-all-paths-then b store k ero route r f = reached-rest b store k ero route r ∙ rw (le-leb places (targetOf b k) (is-full b k f))
+pub all-paths-then : (b : Table) (store : List ℕ) (k : ℕ) (octets : List ℕ) (route : Verdict) → Reached b store k octets route → Full b k → reportVerdict b store k octets route ≡ refusedBy allPaths 0
+all-paths-then b store k octets route r f = reached-rest b store k octets route r ∙ rw (le-leb places (targetOf b k) (is-full b k f))
 
-pub all-paths-only : (b : Table) (store : List ℕ) (k : ℕ) (ero : List ℕ) (route : Verdict) → Reached b store k ero route → reportVerdict b store k ero route .number ≡ allPaths → Full b k
-all-paths-only b store k ero route r e = ⊎-elim (λ l. full-is b k l) (λ l. absurd (omega (arith, free l, r .route-taken))) (from? 128 (targetOf b k))
+pub all-paths-only : (b : Table) (store : List ℕ) (k : ℕ) (octets : List ℕ) (route : Verdict) → Reached b store k octets route → reportVerdict b store k octets route .number ≡ allPaths → Full b k
+all-paths-only b store k octets route r e = ⊎-elim (λ l. full-is b k l) (λ l. absurd (omega (arith, free l, r .route-taken))) (from? 128 (targetOf b k))
   where
     free : targetOf b k < 128 → route .number ≡ allPaths
     free l =
-        let q : reportVerdict b store k ero route ≡ route = reached-rest b store k ero route r ∙ rw (lt-leb 128 (targetOf b k) l) in
+        let q : reportVerdict b store k octets route ≡ route = reached-rest b store k octets route r ∙ rw (lt-leb 128 (targetOf b k) l) in
         sym (ap (λ (y : Verdict). y .number) q) ∙ e
 
 -- and every other report that got that far is accepted, with the number of segments
-pub reported-otherwise : (b : Table) (store : List ℕ) (k : ℕ) (ero : List ℕ) (route : Verdict) → Reached b store k ero route → (Full b k → ⊥) → reportVerdict b store k ero route ≡ route
-reported-otherwise b store k ero route r n =
-    ⊎-elim (λ l. absurd (n (full-is b k l))) (λ l. reached-rest b store k ero route r ∙ rw (lt-leb 128 (targetOf b k) l)) (from? 128 (targetOf b k))
+pub reported-otherwise : (b : Table) (store : List ℕ) (k : ℕ) (octets : List ℕ) (route : Verdict) → Reached b store k octets route → (Full b k → ⊥) → reportVerdict b store k octets route ≡ route
+reported-otherwise b store k octets route r n =
+    ⊎-elim (λ l. absurd (n (full-is b k l))) (λ l. reached-rest b store k octets route r ∙ rw (lt-leb 128 (targetOf b k) l)) (from? 128 (targetOf b k))
 
 -- ---- remove
 pub record RemovePassed (b : Table) (store : List ℕ) (k : ℕ) : Type 0 where
@@ -135,6 +135,11 @@ unfolding hasPath
 path-there b k e =
     let p = both-true (ltb (placeOf b k) places) (not (eqb (lengthAt b (placeOf b k)) 0)) (not-false (ltb (placeOf b k) places && not (eqb (lengthAt b (placeOf b k)) 0)) e) in
     (key-place-is b k (ltb-true (placeOf b k) places (p .0)), eqb-false (lengthAt b (placeOf b k)) 0 (not-true (eqb (lengthAt b (placeOf b k)) 0) (p .1)))
+
+-- and a path of the key is the one that the search finds
+pub path-has : (b : Table) → Proper b → (k i : ℕ) → (k ≡ 0 → ⊥) → KeyPlace b k i → PathAt b i → hasPath b k ≡ true
+unfolding hasPath
+path-has b p k i z x y = rw (key-place-found b p k i z x, lt-ltb i 128 (x .here), ne-eqb (lengthAt b i) 0 (y .body))
 
 pub remove-passed : (b : Table) (store : List ℕ) (k : ℕ) → removeVerdict b store k .number ≡ 0 → RemovePassed b store k
 unfolding removeVerdict removeRules

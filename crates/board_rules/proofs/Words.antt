@@ -23,7 +23,7 @@ use Rattle.board_rules.specs.Report.{bodyIn, reported}
 use Rattle.board_rules.specs.Remove.{removed}
 use Rattle.board_rules.specs.Body.{bodyRules, bodyNumber, octetsAt, bodyOf, bodyForm}
 use Rattle.board_rules.specs.Next.{nextVerdict, changeAt, handedAt, nextAnswer}
-use Rattle.board_rules.proofs.Verdicts.{IsBoard, whole-board}
+use Rattle.board_rules.proofs.Verdicts.{IsBoard, whole-board, path-has}
 
 -- ---- report: "A key on the table, path or removal, keeps its place"; "A new key takes the lowest empty place; with none, that of the oldest removal"
 no-place-full : (b : Table) (k i : ℕ) → Full b k → ReportPlace b k i → ⊥
@@ -37,12 +37,12 @@ report-goes b p k i z r =
 
 pub report-stores : (b : Table)
     → Proper b
-    → (k i : ℕ) (ero : List ℕ) (pst : ℕ)
+    → (k i : ℕ) (octets : List ℕ) (pst : ℕ)
     → (k ≡ 0 → ⊥)
     → ReportPlace b k i
-    → reported b k ero pst ≡ changed b i (bearing b k (length (bodyIn ero)) pst) (floorAfter b k i)
+    → reported b k octets pst ≡ changed b i (bearing b k (length (bodyIn octets)) pst) (floorAfter b k i)
 unfolding reported
-report-stores b p k i ero pst z r = rw (report-goes b p k i z r)
+report-stores b p k i octets pst z r = rw (report-goes b p k i z r)
 
 -- ---- remove: "The removal stays as a mark", at the key's place
 pub remove-marks : (b : Table) → Proper b → (k i : ℕ) → (k ≡ 0 → ⊥) → KeyPlace b k i → removed b k ≡ changed b i (bearing b k 0 0) (b .floor)
@@ -59,8 +59,7 @@ module _ (b : Table) (store : List ℕ) (k i : ℕ) (w : IsBoard b (length store
   range = rw (le-leb 1 k low, le-leb k 1048574 high)
 
   has : hasPath b k ≡ true
-  unfolding hasPath
-  has = rw (found, lt-ltb i 128 (x .here), ne-eqb (lengthAt b i) 0 (y .body))
+  has = path-has b (w .proper) k i (λ z. omega arith) x y
 
   pub body-accepted : bodyNumber b store k ≡ acceptedWith 0
   unfolding bodyNumber bodyRules

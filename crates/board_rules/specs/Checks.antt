@@ -18,7 +18,7 @@ use Rattle.board_record.specs.Table.{Table, keyAt, lengthAt}
 use Rattle.board_record.specs.Proper.{allBelow, freshB}
 use Rattle.board_rules.specs.declared.answer.Handed.{Handed}
 use Rattle.board_rules.specs.declared.answer.Handed.the-variants.{Refused, Path, Removed, Level}
-use Rattle.board_rules.specs.Rules.{inRange, hasPath}
+use Rattle.board_rules.specs.Rules.{inRange}
 use Rattle.board_rules.specs.Report.{bodyIn}
 
 -- a place holds a path, as a test
@@ -29,13 +29,17 @@ pathAtB b i = not (eqb (keyAt b i) 0) && not (eqb (lengthAt b i) 0)
 unfoldable pub fullB : Table → ℕ → Bool
 fullB b k = freshB (b .keys) places k && allBelow (pathAtB b) places
 
+-- 22 "key has no path": of all 128 places none holds a path of the key
+unfoldable pub noPathB : Table → ℕ → Bool
+noPathB b k = allBelow (λ i. not (eqb (keyAt b i) k && pathAtB b i)) places
+
 -- "Report (key, ERO, session, PST): 17, 18, the route checks, 19, 20, 21."
 abbrev pub reportChecks : Bool → Table → ℕ → List ℕ → Session → ℕ → List Check
-reportChecks whole b k ero session pst =
+reportChecks whole b k octets session pst =
     check notABoard 0 (not whole)
     ∷ (check keyOutOfRange 0 (not (inRange k))
-    ∷ (checksOf (formOf pst) ero true session pst
-    ++ (check bodyTooLong 0 (ltb room (length (bodyIn ero)))
+    ∷ (checksOf (formOf pst) octets true session pst
+    ++ (check bodyTooLong 0 (ltb room (length (bodyIn octets)))
     ∷ (check versionsUsedUp 0 (eqb (b .version) versionMost)
     ∷ (check allPaths 0 (fullB b k)
     ∷ [])))))
@@ -45,7 +49,7 @@ abbrev pub removeChecks : Bool → Table → ℕ → List Check
 removeChecks whole b k =
     check notABoard 0 (not whole)
     ∷ (check keyOutOfRange 0 (not (inRange k))
-    ∷ (check noPath 0 (not (hasPath b k))
+    ∷ (check noPath 0 (noPathB b k)
     ∷ (check versionsUsedUp 0 (eqb (b .version) versionMost)
     ∷ [])))
 
@@ -61,7 +65,7 @@ abbrev pub bodyChecks : Bool → Table → ℕ → List Check
 bodyChecks whole b k =
     check notABoard 0 (not whole)
     ∷ (check keyOutOfRange 0 (not (inRange k))
-    ∷ (check noPath 0 (not (hasPath b k))
+    ∷ (check noPath 0 (noPathB b k)
     ∷ []))
 
 -- "Next (mark s, w): 17; 24 if s or w is above the version; 23 exactly if the floor is above the larger of s and w."

@@ -13,11 +13,11 @@ use Rattle.board_record.specs.Lists.{row}
 use Rattle.board_record.specs.Table.{Table, tableOf, keyAt, versionAt, removalB}
 use Rattle.board_rules.specs.Rules.{Outcome, isBoard}
 
--- The first broken rule. `whole`: it is a board; top: the board's version.
+-- The first broken rule. `whole`: it is a board; `version`: the board's.
 unfoldable pub compactRules : Bool → ℕ → ℕ → Verdict
-compactRules whole c top =
+compactRules whole c version =
     cond (not whole) (refusedBy notABoard 0)
-    (cond (ltb top c) (refusedBy markAhead 0)
+    (cond (ltb version c) (refusedBy markAhead 0)
     (acceptedWith 0))
 
 unfoldable pub compactVerdict : Table → List ℕ → ℕ → Verdict

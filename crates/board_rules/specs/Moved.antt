@@ -15,11 +15,11 @@ use Rattle.board_record.specs.Table.{Table}
 use Rattle.board_record.specs.Search.{movedIn}
 use Rattle.board_rules.specs.Rules.{isBoard}
 
--- The first broken rule. `whole`: it is a board; top and floor are the board's.
+-- The first broken rule. `whole`: it is a board; `version` and `floor` are the board's.
 unfoldable pub movedRules : Bool → ℕ → ℕ → ℕ → Verdict
-movedRules whole v top floor =
+movedRules whole v version floor =
     cond (not whole) (refusedBy notABoard 0)
-    (cond (ltb top v) (refusedBy markAhead 0)
+    (cond (ltb version v) (refusedBy markAhead 0)
     (cond (ltb v floor) (refusedBy markTooOld 0)
     (acceptedWith 0)))
 

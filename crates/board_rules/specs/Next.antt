@@ -23,12 +23,12 @@ use Rattle.board_rules.specs.declared.answer.Handed.{Handed}
 use Rattle.board_rules.specs.declared.answer.Handed.the-variants.{Refused, Path, Removed, Level}
 use Rattle.board_rules.specs.Rules.{isBoard}
 
--- The first broken rule. `whole`: it is a board; top and floor are the board's.
+-- The first broken rule. `whole`: it is a board; `version` and `floor` are the board's.
 unfoldable pub nextRules : Bool → ℕ → ℕ → ℕ → ℕ → Verdict
-nextRules whole s w top floor =
+nextRules whole s w version floor =
     cond (not whole) (refusedBy notABoard 0)
-    (cond (ltb top s) (refusedBy markAhead 0)
-    (cond (ltb top w) (refusedBy markAhead 0)
+    (cond (ltb version s) (refusedBy markAhead 0)
+    (cond (ltb version w) (refusedBy markAhead 0)
     (cond (ltb (max s w) floor) (refusedBy markTooOld 0)
     (acceptedWith 0))))
 

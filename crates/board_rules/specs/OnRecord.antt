@@ -42,10 +42,10 @@ unfoldable pub resultOn : Board → Outcome → Result
 resultOn b o = resultOf (verdictOn b (o .verdict)) (kept (verdictOn b (o .verdict) .number) b (recordOf (o .table)))
 
 abbrev pub reportOn : Board → List ℕ → ℕ → List ℕ → Session → ℕ → Result
-reportOn b store k ero session pst = resultOn b (reportAnswer (tableIn b) store k ero session pst)
+reportOn b store k octets session pst = resultOn b (reportAnswer (tableIn b) store k octets session pst)
 
 unfoldable pub reportStoreOn : Board → List ℕ → ℕ → List ℕ → Session → ℕ → List ℕ
-reportStoreOn b store k ero session pst = cond (tidy b) (reportStore (tableIn b) store k ero session pst) store
+reportStoreOn b store k octets session pst = cond (tidy b) (reportStore (tableIn b) store k octets session pst) store
 
 abbrev pub removeOn : Board → List ℕ → ℕ → Result
 removeOn b store k = resultOn b (removeAnswer (tableIn b) store k)

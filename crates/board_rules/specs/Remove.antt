@@ -12,13 +12,13 @@ use Rattle.board_record.specs.Table.{Table, bearing, changed}
 use Rattle.board_record.specs.Search.{placeOf}
 use Rattle.board_rules.specs.Rules.{Outcome, isBoard, inRange, hasPath}
 
--- The first broken rule. `whole`: it is a board; `path`: the key has a path; top: the board's version.
+-- The first broken rule. `whole`: it is a board; `path`: the key has a path; `version`: the board's.
 unfoldable pub removeRules : Bool → ℕ → Bool → ℕ → Verdict
-removeRules whole k path top =
+removeRules whole k path version =
     cond (not whole) (refusedBy notABoard 0)
     (cond (not (inRange k)) (refusedBy keyOutOfRange 0)
     (cond (not path) (refusedBy noPath 0)
-    (cond (eqb top versionMost) (refusedBy versionsUsedUp 0)
+    (cond (eqb version versionMost) (refusedBy versionsUsedUp 0)
     (acceptedWith 0))))
 
 unfoldable pub removeVerdict : Table → List ℕ → ℕ → Verdict

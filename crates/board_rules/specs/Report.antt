@@ -18,41 +18,41 @@ use Rattle.board_rules.specs.Rules.{Outcome, isBoard, inRange}
 
 -- "a path body (the ERO after its header)"
 abbrev pub bodyIn : List ℕ → List ℕ
-bodyIn ero = drop header ero
+bodyIn octets = drop header octets
 
--- The first broken rule. `whole`: it is a board; `route`: what the route checks answer, with their place; n: octets of the body; top: the board's
--- version; target: the place that the report takes, 128 for none. "Acceptance carries the number of segments", as that of the route does.
+-- The first broken rule. `whole`: it is a board; `route`: what the route checks answer, with their place; `n`: octets of the body; `version`: the
+-- board's; `target`: the place that the report takes, 128 for none. "Acceptance carries the number of segments", as that of the route does.
 unfoldable pub reportRules : Bool → ℕ → Verdict → ℕ → ℕ → ℕ → Verdict
-reportRules whole k route n top target =
+reportRules whole k route n version target =
     cond (not whole) (refusedBy notABoard 0)
     (cond (not (inRange k)) (refusedBy keyOutOfRange 0)
     (cond (not (eqb (route .number) 0)) route
     (cond (ltb room n) (refusedBy bodyTooLong 0)
-    (cond (eqb top versionMost) (refusedBy versionsUsedUp 0)
+    (cond (eqb version versionMost) (refusedBy versionsUsedUp 0)
     (cond (leb places target) (refusedBy allPaths 0)
     route)))))
 
 unfoldable pub reportVerdict : Table → List ℕ → ℕ → List ℕ → Verdict → Verdict
-reportVerdict b store k ero route = reportRules (isBoard b (length store)) k route (length (bodyIn ero)) (b .version) (targetOf b k)
+reportVerdict b store k octets route = reportRules (isBoard b (length store)) k route (length (bodyIn octets)) (b .version) (targetOf b k)
 
 -- the table after an accepted report: "each accepted report .. raises the version by 1 and the change bears that"; the path's form is the PST (document 02,
 -- C-16)
 unfoldable pub reported : Table → ℕ → List ℕ → ℕ → Table
-reported b k ero pst = changed b (targetOf b k) (bearing b k (length (bodyIn ero)) pst) (floorAfter b k (targetOf b k))
+reported b k octets pst = changed b (targetOf b k) (bearing b k (length (bodyIn octets)) pst) (floorAfter b k (targetOf b k))
 
 -- the answer to a report whose route checks answer `route`; "Every refusal returns its number and place and no other content; board .. as they were"
 unfoldable pub reportWith : Table → List ℕ → ℕ → List ℕ → Verdict → ℕ → Outcome
-reportWith b store k ero route pst =
-    record { verdict = reportVerdict b store k ero route; table = kept (reportVerdict b store k ero route .number) b (reported b k ero pst) }
+reportWith b store k octets route pst =
+    record { verdict = reportVerdict b store k octets route; table = kept (reportVerdict b store k octets route .number) b (reported b k octets pst) }
 
 -- the store after it: "the body is written at the place's start, and no call here writes other octets of the store"
 unfoldable pub storeWith : Table → List ℕ → ℕ → List ℕ → Verdict → List ℕ
-storeWith b store k ero route =
-    kept (reportVerdict b store k ero route .number) store (placed store (room * targetOf b k) (bodyIn ero))
+storeWith b store k octets route =
+    kept (reportVerdict b store k octets route .number) store (placed store (room * targetOf b k) (bodyIn octets))
 
 -- "Report (key, ERO, session, PST)": the route checks are those of an ERO under the session and the PST
 unfoldable pub reportAnswer : Table → List ℕ → ℕ → List ℕ → Session → ℕ → Outcome
-reportAnswer b store k ero session pst = reportWith b store k ero (judgeOf ero true session pst) pst
+reportAnswer b store k octets session pst = reportWith b store k octets (judgeOf octets true session pst) pst
 
 unfoldable pub reportStore : Table → List ℕ → ℕ → List ℕ → Session → ℕ → List ℕ
-reportStore b store k ero session pst = storeWith b store k ero (judgeOf ero true session pst)
+reportStore b store k octets session pst = storeWith b store k octets (judgeOf octets true session pst)

@@ -16,7 +16,7 @@ isBoard b n = leb storeSize n && properB b
 unfoldable pub inRange : ℕ → Bool
 inRange k = leb keyLeast k && leb k keyMost
 
--- 22 "key has no path": that it has one
+-- 22 "key has no path": that it has one, by a search for its place. A look at all places (`Checks.noPathB`) says the same of a board: `no-path-test` in proofs/Checks.
 unfoldable pub hasPath : Table → ℕ → Bool
 hasPath b k = ltb (placeOf b k) places && not (eqb (lengthAt b (placeOf b k)) 0)
 

@@ -66,9 +66,9 @@ tracks-done : (t u : ℕ → Bool) (v : ℕ → ℕ) (i : ℕ) (b : Best) → Tr
 tracks-done t u v i b r h l f = let q : i ≡ 128 = omega arith in rw q at (r .at) ∙ least-same t u v 128 f
 
 -- ---- what the tests say on a board
-module _ (ks vs ls : List ℕ) (top floor : ℕ) (fs : List ℕ) (p : properB (tableOf ks vs ls top floor fs) ≡ true) where
+module _ (ks vs ls : List ℕ) (version floor : ℕ) (fs : List ℕ) (p : properB (tableOf ks vs ls version floor fs) ≡ true) where
   abbrev table : Table
-  table = tableOf ks vs ls top floor fs
+  table = tableOf ks vs ls version floor fs
 
   pub below : (i : ℕ) → i < places → getD vs i 0 < 18446744073709551615
   below i l = omega (arith, properB-sound table p i l .high, proper-is table p .version-in)
@@ -77,7 +77,7 @@ module _ (ks vs ls : List ℕ) (top floor : ℕ) (fs : List ℕ) (p : properB (t
   unfolding bare removalB
   bare-is i l = go (eqb (getD ks i 0) 0) refl (eqb (getD ls i 0) 0)
     where
-      o : Sound (entryAt table i) top floor
+      o : Sound (entryAt table i) version floor
       o = properB-sound table p i l
 
       go : (x : Bool) → eqb (getD ks i 0) 0 ≡ x → (y : Bool) → y && not (eqb (getD vs i 0) 0) ≡ not x && y

@@ -19,12 +19,12 @@ fn oldest<'a>(
     keys: &'a [u32; 128],
     versions: &'a [u64; 128],
     lengths: &'a [u16; 128],
-    top: u64,
+    version: u64,
     floor: u64,
     forms: &'a [u8; 128],
 ) -> usize
-    requires { ⌜ properB (tableOf (now keys) (now versions) (now lengths) top floor (now forms)) ≡ true ⌝ }
-    ensures oldest { λ r. ⌜ r ≡ oldestOf (tableOf (now (keys .entry)) (now (versions .entry)) (now (lengths .entry)) top floor (now (forms .entry))) ⌝ }
+    requires { ⌜ properB (tableOf (now keys) (now versions) (now lengths) version floor (now forms)) ≡ true ⌝ }
+    ensures oldest { λ r. ⌜ r ≡ oldestOf (tableOf (now (keys .entry)) (now (versions .entry)) (now (lengths .entry)) version floor (now (forms .entry))) ⌝ }
 {
     let mut best = no_best();
     let mut i: usize = 0;
@@ -40,13 +40,13 @@ pub fn target<'a>(
     keys: &'a [u32; 128],
     versions: &'a [u64; 128],
     lengths: &'a [u16; 128],
-    top: u64,
+    version: u64,
     floor: u64,
     forms: &'a [u8; 128],
     key: u64,
 ) -> usize
-    requires { ⌜ properB (tableOf (now keys) (now versions) (now lengths) top floor (now forms)) ≡ true ⌝ }
-    ensures target { λ r. ⌜ r ≡ targetOf (tableOf (now (keys .entry)) (now (versions .entry)) (now (lengths .entry)) top floor (now (forms .entry))) key ⌝ }
+    requires { ⌜ properB (tableOf (now keys) (now versions) (now lengths) version floor (now forms)) ≡ true ⌝ }
+    ensures target { λ r. ⌜ r ≡ targetOf (tableOf (now (keys .entry)) (now (versions .entry)) (now (lengths .entry)) version floor (now (forms .entry))) key ⌝ }
 {
     let known = place_in(keys, key);
     if known < PLACES {
@@ -56,7 +56,7 @@ pub fn target<'a>(
     if free < PLACES {
         return free;
     }
-    oldest(keys, versions, lengths, top, floor, forms)
+    oldest(keys, versions, lengths, version, floor, forms)
 }
 
 // The floor after a report of the key at the place.
@@ -68,7 +68,7 @@ pub fn floor_after<'a>(
     at: usize,
 ) -> u64
     requires { ⌜ at < places ⌝ }
-    ensures floor { λ r. ⌜ ((lengths forms : List ℕ) (top : ℕ) → r ≡ floorAfter (tableOf (now (keys .entry)) (now (versions .entry)) lengths top floor forms) key at) ⌝ }
+    ensures floor { λ r. ⌜ ((lengths forms : List ℕ) (version : ℕ) → r ≡ floorAfter (tableOf (now (keys .entry)) (now (versions .entry)) lengths version floor forms) key at) ⌝ }
 {
     let old = wide32(keys[at]);
     if old == 0 {

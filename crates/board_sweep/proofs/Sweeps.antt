@@ -105,7 +105,7 @@ module _ (ks vs ls : List ℕ) (m : ℕ) (k : length ks ≡ 128) (v : length vs 
   sweep-versions i xs ys r h l = r .versions ∙ swept-done (versionLeft ks vs ls m) vs i v h l
 
 -- ---- the board that a compaction leaves
-pub compacted-is : (ks vs ls : List ℕ) (top floor : ℕ) (fs : List ℕ) (m f : ℕ) (xs ys : List ℕ) → xs ≡ keysKept ks vs ls m 128 → ys ≡ versionsKept ks vs ls m 128 → f ≡ max floor m
-    → tableOf xs ys ls top f fs ≡ compacted (tableOf ks vs ls top floor fs) m
+pub compacted-is : (ks vs ls : List ℕ) (version floor : ℕ) (fs : List ℕ) (m f : ℕ) (xs ys : List ℕ) → xs ≡ keysKept ks vs ls m 128 → ys ≡ versionsKept ks vs ls m 128 → f ≡ max floor m
+    → tableOf xs ys ls version f fs ≡ compacted (tableOf ks vs ls version floor fs) m
 unfolding compacted keysKept versionsKept dropped removalB
-compacted-is ks vs ls top floor fs m f xs ys p q r = rw (p, q, r)
+compacted-is ks vs ls version floor fs m f xs ys p q r = rw (p, q, r)

@@ -51,7 +51,7 @@ pub fn report(
     forms: &mut [u8; 128],
     store: &mut [u8],
     key: u64,
-    ero: &[u8],
+    octets: &[u8],
     session: SessionRecord,
     pst: u64,
     addresses: &[u8],
@@ -59,16 +59,16 @@ pub fn report(
     ensures verdict { λ r.
         let before =
         boardOf (now (keys .entry)) (now (versions .entry)) (now (lengths .entry)) (now (version .entry)) (now (floor .entry)) (now (order .entry)) (now (tops .entry)) (now (forms .entry)) in
-        ⌜ r ≡ verdictOut (reportForOn before (now (store .entry)) key (now (ero .entry)) (sessionsIn session) pst (now (addresses .entry)) .verdict) ⌝ }
+        ⌜ r ≡ verdictOut (reportForOn before (now (store .entry)) key (now (octets .entry)) (sessionsIn session) pst (now (addresses .entry)) .verdict) ⌝ }
     ensures board { λ _.
         let before =
         boardOf (now (keys .entry)) (now (versions .entry)) (now (lengths .entry)) (now (version .entry)) (now (floor .entry)) (now (order .entry)) (now (tops .entry)) (now (forms .entry)) in
         let after = boardOf (now (keys .exit)) (now (versions .exit)) (now (lengths .exit)) (now (version .exit)) (now (floor .exit)) (now (order .exit)) (now (tops .exit)) (now (forms .exit)) in
-        ⌜ after ≡ reportForOn before (now (store .entry)) key (now (ero .entry)) (sessionsIn session) pst (now (addresses .entry)) .board ⌝ }
-    ensures octets { λ _.
+        ⌜ after ≡ reportForOn before (now (store .entry)) key (now (octets .entry)) (sessionsIn session) pst (now (addresses .entry)) .board ⌝ }
+    ensures stored { λ _.
         let before =
         boardOf (now (keys .entry)) (now (versions .entry)) (now (lengths .entry)) (now (version .entry)) (now (floor .entry)) (now (order .entry)) (now (tops .entry)) (now (forms .entry)) in
-        ⌜ now (store .exit) ≡ reportStoreForOn before (now (store .entry)) key (now (ero .entry)) (sessionsIn session) pst (now (addresses .entry)) ⌝ }
+        ⌜ now (store .exit) ≡ reportStoreForOn before (now (store .entry)) key (now (octets .entry)) (sessionsIn session) pst (now (addresses .entry)) ⌝ }
 {
     let both = border_session::sessions_in(session);
     let v = report_call::report(
@@ -82,7 +82,7 @@ pub fn report(
         forms,
         store,
         key,
-        ero,
+        octets,
         both,
         pst,
         addresses,

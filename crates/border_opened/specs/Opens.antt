@@ -3,8 +3,9 @@ use Prim.Native.Nat.{ℕ}
 use mathlib.Core.Bool.{cond}
 use lib.Dec.{ltb}
 use Rattle.flag_positions.specs.declared.Setup.{Setup}
+use Rattle.session.specs.Sessions.{mostOf}
 use Rattle.session.specs.declared.Opened.{Opened}
-use Rattle.border_records.specs.Records.{isYes, bit, limitIn, limitedFlag, mostOf, depthFrom, thereOf, valueOf}
+use Rattle.border_records.specs.Records.{isYes, bit, limitIn, limitedFlag, depthFrom, thereOf, valueOf}
 use Rattle.border_opened.specs.declared.opened.OpenedRecord.{OpenedRecord}
 use Rattle.border_opened.specs.declared.setup.SetupRecord.{SetupRecord}
 

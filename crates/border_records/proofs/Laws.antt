@@ -8,6 +8,7 @@ use borrow.Author.Tests.{ltb-false, lt-ltb}
 use Rattle.answers.proofs.Determined.{determined}
 use Rattle.answers.specs.declared.verdict.Verdict.{Verdict}
 use Rattle.msd.specs.Msd.{absent}
+use Rattle.session.specs.Sessions.{mostOf}
 use Rattle.session.specs.declared.Limit.{Limit}
 use Rattle.session.specs.declared.Limit.the-variants.{Free, Most}
 use Rattle.border_records.specs.declared.verdict.VerdictRecord.{VerdictRecord}
@@ -16,7 +17,6 @@ use Rattle.border_records.specs.Records.{
   bit,
   limitIn,
   limitedFlag,
-  mostOf,
   limitMost,
   shortOf,
   depthFrom,
@@ -34,11 +34,11 @@ limit-back Free = refl
 limit-back (Most n) = refl
 
 -- In 16 bits, of a limit that they hold.
-abbrev pub Held : Limit → Type 0
-Held Free = Unit {0}
-Held (Most n) = n ≤ limitMost
+abbrev pub InShort : Limit → Type 0
+InShort Free = Unit {0}
+InShort (Most n) = n ≤ limitMost
 
-pub short-back : (l : Limit) → Held l → limitIn (limitedFlag l) (shortOf l) ≡ l
+pub short-back : (l : Limit) → InShort l → limitIn (limitedFlag l) (shortOf l) ≡ l
 short-back Free h = refl
 short-back (Most n) h = ap Most (omega (arith, h))
 

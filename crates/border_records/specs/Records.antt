@@ -14,17 +14,13 @@ use Rattle.border_records.specs.declared.verdict.VerdictRecord.{VerdictR
 abbrev pub isYes : ℕ → Bool
 isYes flag = not (eqb flag 0)
 
--- A limit is a flag and a number; without the flag the number does not count, and an answer has 0 there.
+-- A limit is a flag and a number; without the flag the number does not count, and an answer has 0 there (`mostOf`, session/specs/Sessions).
 abbrev pub limitIn : ℕ → ℕ → Limit
 limitIn limited limit = cond (eqb limited 0) Free (Most limit)
 
 abbrev pub limitedFlag : Limit → ℕ
 limitedFlag Free = 0
 limitedFlag (Most n) = 1
-
-abbrev pub mostOf : Limit → ℕ
-mostOf Free = 0
-mostOf (Most n) = n
 
 -- In a session the number has 16 bits; a larger one is handed out as the largest of these, which no route reaches.
 abbrev pub limitMost : ℕ

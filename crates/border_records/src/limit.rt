@@ -1,7 +1,8 @@
 // A limit is a flag and a number. Without the flag there is none, whatever the number is. In a session the number has 16 bits.
 ghost use Prim.Native.Nat.{min};
 ghost use mathlib.Core.Path.{_≡_};
-ghost use Rattle.border_records.specs.Records.{limitIn, limitedFlag, mostOf, limitMost, shortOf};
+ghost use Rattle.session.specs.Sessions.{mostOf};
+ghost use Rattle.border_records.specs.Records.{limitIn, limitedFlag, limitMost, shortOf};
 use session::Limit;
 
 pub fn limit_in(limited: u8, limit: usize) -> Limit

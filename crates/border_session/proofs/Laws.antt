@@ -7,7 +7,7 @@ use Rattle.session.specs.declared.Opened.{Opened}
 use Rattle.session.specs.declared.Session.{Session}
 use Rattle.session.specs.declared.Sessions.{Sessions}
 use Rattle.session.specs.Sessions.{mplsAgreedBy, mplsAgreedOn, notAgreedOn, mplsSessionOf}
-use Rattle.border_records.proofs.Laws.{flag-back, Held, short-back, depth-back}
+use Rattle.border_records.proofs.Laws.{flag-back, InShort, short-back, depth-back}
 use Rattle.border_session.specs.Agreed.{sessionsIn, sessionsOut}
 
 -- A session of MPLS has no A, R, v and m, and so has that of two answers.
@@ -25,7 +25,7 @@ mpls-plain pcc pce = go (mplsAgreedBy pcc pce)
     go true = record { a = refl; r = refl; v = refl; m = refl }
     go false = record { a = refl; r = refl; v = refl; m = refl }
 
-pub sessions-back : (s : Sessions) → Held (s .srv6 .limit) → s .srv6 .v ≤ absent → s .srv6 .m ≤ absent → Held (s .mpls .limit) → Plain (s .mpls)
+pub sessions-back : (s : Sessions) → InShort (s .srv6 .limit) → s .srv6 .v ≤ absent → s .srv6 .m ≤ absent → InShort (s .mpls .limit) → Plain (s .mpls)
     → sessionsIn (sessionsOut s) ≡ s
 sessions-back s l v m d h =
     rw (

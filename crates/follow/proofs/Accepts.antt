@@ -129,19 +129,19 @@ ranged-same k out a c f = go (inRange k) refl
     go false e = refl
 
 module _ (x : World) (g : Good x) where
-  report-told : (k : ℕ) (ero : List ℕ) (both : Sessions) (pst : ℕ) (addresses : List ℕ)
-      → reportFor (x .table) (x .store) k ero both pst addresses .verdict ≡ reportSaid (x .story) k ero both pst addresses
+  report-told : (k : ℕ) (octets : List ℕ) (both : Sessions) (pst : ℕ) (addresses : List ℕ)
+      → reportFor (x .table) (x .store) k octets both pst addresses .verdict ≡ reportSaid (x .story) k octets both pst addresses
   unfolding reportFor reportAnswer reportWith reportVerdict reportRules
-  report-told k ero both pst addresses = go (rule28 addresses)
+  report-told k octets both pst addresses = go (rule28 addresses)
     where
       go : (t : Bool)
-          → (let under = sessionFor ero true (sessionUnder both pst) addresses in
-          let route = judgeOf ero true under pst in
-          cond t (outcomeOf (refusedBy notUsable 0) (x .table)) (reportAnswer (x .table) (x .store) k ero under pst) .verdict
+          → (let under = sessionFor octets true (sessionUnder both pst) addresses in
+          let route = judgeOf octets true under pst in
+          cond t (outcomeOf (refusedBy notUsable 0) (x .table)) (reportAnswer (x .table) (x .store) k octets under pst) .verdict
           ≡ cond t (refusedBy notUsable 0)
           (cond (not (inRange k)) (refusedBy keyOutOfRange 0)
           (cond (not (eqb (route .number) 0)) route
-          (cond (ltb room (length (bodyIn ero))) (refusedBy bodyTooLong 0)
+          (cond (ltb room (length (bodyIn octets))) (refusedBy bodyTooLong 0)
           (cond (eqb (version (x .story)) versionMost) (refusedBy versionsUsedUp 0)
           (cond (allTaken (x .story) k) (refusedBy allPaths 0)
           route))))))

@@ -49,7 +49,7 @@ module _ (b : Table) (st : List ℕ) (h : Story) (k : ℕ) (src : List ℕ) (pst
     others-stay : (j : ℕ) → j < places → (i ≡ j → ⊥) → pathIn (changed b i (bearing b k (length src) pst) f) (placed st (room * i) src) j ≡ pathIn b st j
     unfolding octetsAt
     others-stay j m d =
-        let o = proper-sound b (r .proper) j m .most in
+        let o = proper-sound b (r .proper) j m .size .most in
         rw (
           getD-set-other (b .lengths) i j (length src) 0 (λ e. d (sym e)),
           getD-set-other (b .forms) i j pst 0 (λ e. d (sym e)),

@@ -161,36 +161,36 @@ kept-same : (n : ℕ) (s : List ℕ) → kept n s s ≡ s
 kept-same zero s = refl
 kept-same (suc n) s = refl
 
-good-under : (x : World) (k : ℕ) (ero : List ℕ) (session : Session) (pst : ℕ) → Good x
-    → (let a = reportAnswer (x .table) (x .store) k ero session pst in
-    InStep (a .table) (reportStore (x .table) (x .store) k ero session pst) (told a (did (sets k (reportedPath ero pst)) (x .story)) (x .story)))
+good-under : (x : World) (k : ℕ) (octets : List ℕ) (session : Session) (pst : ℕ) → Good x
+    → (let a = reportAnswer (x .table) (x .store) k octets session pst in
+    InStep (a .table) (reportStore (x .table) (x .store) k octets session pst) (told a (did (sets k (reportedPath octets pst)) (x .story)) (x .story)))
 unfolding reportAnswer reportStore reportWith storeWith reported floorOf
-good-under x k ero session pst g =
-    let route = judgeOf ero true session pst in
+good-under x k octets session pst g =
+    let route = judgeOf octets true session pst in
     let b = x .table in
-    by-number InStep (reportVerdict b (x .store) k ero route .number) b _ (x .store) _ (x .story) _ g
+    by-number InStep (reportVerdict b (x .store) k octets route .number) b _ (x .store) _ (x .story) _ g
     (λ e.
-    let t = report-passed b (x .store) k ero route e in
-    let s = body-fits ero session pst (t .route-taken) in
-    let p = reported-proper b (x .store) k ero route pst (g .stands .sized) s e in
+    let t = report-passed b (x .store) k octets route e in
+    let s = body-fits octets session pst (t .route-taken) in
+    let p = reported-proper b (x .store) k octets route pst (g .stands .sized) s e in
     record {
-      stands = stands-report b (x .store) (x .story) k (bodyIn ero) pst (g .stands) (t .key-least) (omega (arith, least-some pst, s .least)) (t .size) (t .place) p;
+      stands = stands-report b (x .store) (x .story) k (bodyIn octets) pst (g .stands) (t .key-least) (omega (arith, least-some pst, s .least)) (t .size) (t .place) p;
       floor-is =
           floor-put b (x .store) (x .story) (g .stands) k (targetOf b k) (t .place) (t .key-least) (report-place-is b k (t .place))
           ∙ ap (λ (m : ℕ). floorPut (x .story) m k) (g .floor-is);
     })
 
 -- 28 leaves all as it was; else it is the report in the session of its form, under the limit for this route
-good-report : (x : World) (k : ℕ) (ero : List ℕ) (both : Sessions) (pst : ℕ) (addresses : List ℕ) → Good x → Good (step x (report k ero both pst addresses))
+good-report : (x : World) (k : ℕ) (octets : List ℕ) (both : Sessions) (pst : ℕ) (addresses : List ℕ) → Good x → Good (step x (report k octets both pst addresses))
 unfolding step reportFor reportStoreFor
-good-report x k ero both pst addresses g = go (rule28 addresses)
+good-report x k octets both pst addresses g = go (rule28 addresses)
   where
     go : (b : Bool)
-        → (let under = sessionFor ero true (sessionUnder both pst) addresses in
-        let a = cond b (outcomeOf (refusedBy notUsable 0) (x .table)) (reportAnswer (x .table) (x .store) k ero under pst) in
-        InStep (a .table) (cond b (x .store) (reportStore (x .table) (x .store) k ero under pst)) (told a (did (sets k (reportedPath ero pst)) (x .story)) (x .story)))
+        → (let under = sessionFor octets true (sessionUnder both pst) addresses in
+        let a = cond b (outcomeOf (refusedBy notUsable 0) (x .table)) (reportAnswer (x .table) (x .store) k octets under pst) in
+        InStep (a .table) (cond b (x .store) (reportStore (x .table) (x .store) k octets under pst)) (told a (did (sets k (reportedPath octets pst)) (x .story)) (x .story)))
     go true = g
-    go false = good-under x k ero (sessionFor ero true (sessionUnder both pst) addresses) pst g
+    go false = good-under x k octets (sessionFor octets true (sessionUnder both pst) addresses) pst g
 
 good-remove : (x : World) (k : ℕ) → Good x → Good (step x (remove k))
 unfolding step removeAnswer removed floorOf
@@ -218,7 +218,7 @@ good-compact x c g =
 
 good-step : (x : World) (a : Act) → Good x → Good (step x a)
 unfolding step
-good-step x (report k ero both pst addresses) g = good-report x k ero both pst addresses g
+good-step x (report k octets both pst addresses) g = good-report x k octets both pst addresses g
 good-step x (remove k) g = good-remove x k g
 good-step x (compact c) g = good-compact x c g
 good-step x (begin n) g = g
@@ -257,8 +257,8 @@ keeps-following x n f r k m = cases (Keeps (x .story)) (eqb m n) f (x .followers
 
 keeps-step : (x : World) (a : Act) → Good x → AllKeep x → AllKeep (step x a)
 unfolding step
-keeps-step x (report k ero both pst addresses) g r n =
-    keeps-told (reportFor (x .table) (x .store) k ero both pst addresses) _ (x .story) (x .followers n) (keeps-change (sets k (reportedPath ero pst)) (x .story) (x .followers n)) (r n)
+keeps-step x (report k octets both pst addresses) g r n =
+    keeps-told (reportFor (x .table) (x .store) k octets both pst addresses) _ (x .story) (x .followers n) (keeps-change (sets k (reportedPath octets pst)) (x .story) (x .followers n)) (r n)
 keeps-step x (remove k) g r n =
     keeps-told (removeAnswer (x .table) (x .store) k) _ (x .story) (x .followers n) (keeps-change (clears k) (x .story) (x .followers n)) (r n)
 keeps-step x (compact c) g r n =

@@ -38,12 +38,12 @@ allTaken h k = not (isSome (held h k)) && leb places (heldCount h)
 
 -- a report: 28, 18, the route checks, 19, 20, 21
 abbrev pub reportSaid : Story → ℕ → List ℕ → Sessions → ℕ → List ℕ → Verdict
-reportSaid h k ero both pst addresses =
-    let route = judgeOf ero true (sessionFor ero true (sessionUnder both pst) addresses) pst in
+reportSaid h k octets both pst addresses =
+    let route = judgeOf octets true (sessionFor octets true (sessionUnder both pst) addresses) pst in
     cond (rule28 addresses) (refusedBy notUsable 0)
     (cond (not (inRange k)) (refusedBy keyOutOfRange 0)
     (cond (not (eqb (route .number) 0)) route
-    (cond (ltb room (length (bodyIn ero))) (refusedBy bodyTooLong 0)
+    (cond (ltb room (length (bodyIn octets))) (refusedBy bodyTooLong 0)
     (cond (eqb (version h) versionMost) (refusedBy versionsUsedUp 0)
     (cond (allTaken h k) (refusedBy allPaths 0)
     route)))))
@@ -62,8 +62,8 @@ compactSaid h c = cond (ltb (version h) c) (refusedBy markAhead 0) (acceptedWith
 
 -- After any acts of anyone; 17 never comes.
 pub record VerdictsOf (h : Story) (b : Table) (store : List ℕ) : Type 0 where
-  pub report : (k : ℕ) (ero : List ℕ) (both : Sessions) (pst : ℕ) (addresses : List ℕ) →
-      reportFor b store k ero both pst addresses .verdict ≡ reportSaid h k ero both pst addresses
+  pub report : (k : ℕ) (octets : List ℕ) (both : Sessions) (pst : ℕ) (addresses : List ℕ) →
+      reportFor b store k octets both pst addresses .verdict ≡ reportSaid h k octets both pst addresses
   pub remove : (k : ℕ) → removeAnswer b store k .verdict ≡ removeSaid h k
   pub compact : (c : ℕ) → compactAnswer b store c .verdict ≡ compactSaid h c
 

@@ -40,7 +40,7 @@ pub data Act : Type 0 where
 
 -- the path of a report: its form is the PST
 abbrev pub reportedPath : List ℕ → ℕ → HeldPath
-reportedPath ero pst = record { form = pst; octets = bodyIn ero }
+reportedPath octets pst = record { form = pst; octets = bodyIn octets }
 
 -- the story goes on where the call was accepted
 abbrev pub told : Outcome → Story → Story → Story
@@ -55,12 +55,12 @@ abbrev pub following : World → ℕ → Follower → World
 following x n f = record { table = x .table; store = x .store; story = x .story; followers = λ m. cond (eqb m n) f (x .followers m) }
 
 unfoldable pub step : World → Act → World
-step x (report k ero both pst addresses) =
-    let a = reportFor (x .table) (x .store) k ero both pst addresses in
+step x (report k octets both pst addresses) =
+    let a = reportFor (x .table) (x .store) k octets both pst addresses in
     record {
       table = a .table;
-      store = reportStoreFor (x .table) (x .store) k ero both pst addresses;
-      story = told a (did (sets k (reportedPath ero pst)) (x .story)) (x .story);
+      store = reportStoreFor (x .table) (x .store) k octets both pst addresses;
+      story = told a (did (sets k (reportedPath octets pst)) (x .story)) (x .story);
       followers = x .followers;
     }
 step x (remove k) =

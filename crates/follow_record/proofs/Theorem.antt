@@ -45,8 +45,8 @@ answer-same x p n = ap (heardIn (x .store)) (next-is (x .table) p (x .store) (x 
 
 step-same : (x : World) → Proper (x .table) → (a : Act) → stepOn (recordedWorld x) a ≡ recordedWorld (step x a)
 unfolding stepOn step
-step-same x p (report k ero both pst addresses) =
-    rw (report-for-is (x .table) p (x .store) k ero both pst addresses, store-for-is (x .table) p (x .store) k ero both pst addresses)
+step-same x p (report k octets both pst addresses) =
+    rw (report-for-is (x .table) p (x .store) k octets both pst addresses, store-for-is (x .table) p (x .store) k octets both pst addresses)
 step-same x p (remove k) =
     ap (λ (a : Result). record { board = a .board; store = x .store; story = toldOn a (did (clears k) (x .story)) (x .story); followers = x .followers })
     (remove-is (x .table) p (x .store) k)
@@ -59,7 +59,7 @@ step-same x p (askCut n) = ap (λ (h : Heard). followingOn (recordedWorld x) n (
 
 step-proper : (x : World) → ListsWhole (x .table) → Proper (x .table) → (a : Act) → ListsWhole (step x a .table) × Proper (step x a .table)
 unfolding step
-step-proper x s p (report k ero both pst addresses) = for-proper (x .table) s p (x .store) k ero both pst addresses
+step-proper x s p (report k octets both pst addresses) = for-proper (x .table) s p (x .store) k octets both pst addresses
 step-proper x s p (remove k) = (remove-sized (x .table) (x .store) k s, remove-proper (x .table) (x .store) k s p)
 step-proper x s p (compact c) = (compact-sized (x .table) (x .store) c s, compact-proper (x .table) (x .store) c p)
 step-proper x s p (begin n) = (s, p)
@@ -162,8 +162,8 @@ verdicts-of-a-record-are-the-storys b store followers r acts =
     let v = verdicts-are-the-storys (tableIn b) store followers (ready-table b store r) acts in
     subst (λ (z : WorldOn). VerdictsOfRecord (z .story) (z .board) (z .store)) (sym (same b store followers r acts))
     (record {
-      report = λ k ero both pst addresses.
-          ap (λ (a : Result). a .verdict) (report-for-is (x .table) p (x .store) k ero both pst addresses) ∙ v .report k ero both pst addresses;
+      report = λ k octets both pst addresses.
+          ap (λ (a : Result). a .verdict) (report-for-is (x .table) p (x .store) k octets both pst addresses) ∙ v .report k octets both pst addresses;
       remove = λ k. ap (λ (a : Result). a .verdict) (remove-is (x .table) p (x .store) k) ∙ v .remove k;
       compact = λ c. ap (λ (a : Result). a .verdict) (compact-is (x .table) p (x .store) c) ∙ v .compact c;
     })

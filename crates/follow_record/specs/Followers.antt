@@ -40,12 +40,12 @@ abbrev pub followingOn : WorldOn → ℕ → Follower → WorldOn
 followingOn x n f = record { board = x .board; store = x .store; story = x .story; followers = λ m. cond (eqb m n) f (x .followers m) }
 
 unfoldable pub stepOn : WorldOn → Act → WorldOn
-stepOn x (report k ero both pst addresses) =
-    let a = reportForOn (x .board) (x .store) k ero both pst addresses in
+stepOn x (report k octets both pst addresses) =
+    let a = reportForOn (x .board) (x .store) k octets both pst addresses in
     record {
       board = a .board;
-      store = reportStoreForOn (x .board) (x .store) k ero both pst addresses;
-      story = toldOn a (did (sets k (reportedPath ero pst)) (x .story)) (x .story);
+      store = reportStoreForOn (x .board) (x .store) k octets both pst addresses;
+      story = toldOn a (did (sets k (reportedPath octets pst)) (x .story)) (x .story);
       followers = x .followers;
     }
 stepOn x (remove k) =
@@ -89,8 +89,8 @@ BodiesOfARecordAreThoseHeld = (b : Board) (store : List ℕ) (followers : ℕ �
 
 -- report, remove and compact are accepted and refused as the story says
 pub record VerdictsOfRecord (h : Story) (b : Board) (store : List ℕ) : Type 0 where
-  pub report : (k : ℕ) (ero : List ℕ) (both : Sessions) (pst : ℕ) (addresses : List ℕ) →
-      reportForOn b store k ero both pst addresses .verdict ≡ reportSaid h k ero both pst addresses
+  pub report : (k : ℕ) (octets : List ℕ) (both : Sessions) (pst : ℕ) (addresses : List ℕ) →
+      reportForOn b store k octets both pst addresses .verdict ≡ reportSaid h k octets both pst addresses
   pub remove : (k : ℕ) → removeOn b store k .verdict ≡ removeSaid h k
   pub compact : (c : ℕ) → compactOn b store c .verdict ≡ compactSaid h c
 

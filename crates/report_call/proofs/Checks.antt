@@ -26,12 +26,12 @@ chosen : (t : Bool) (x y : Result) → cond t x y .verdict ≡ cond t (x .verdic
 chosen true x y = refl
 chosen false x y = refl
 
-pub report-call-by-first : (b : Board) (store : List ℕ) (k : ℕ) (ero : List ℕ) (both : Sessions) (pst : ℕ) (addresses : List ℕ)
-    → ByFirst (reportForOn b store k ero both pst addresses .verdict) (reportForChecks (isRecord b (length store)) (tableIn b) k ero both pst addresses) (acceptanceOf (formOf pst) ero true)
+pub report-call-by-first : (b : Board) (store : List ℕ) (k : ℕ) (octets : List ℕ) (both : Sessions) (pst : ℕ) (addresses : List ℕ)
+    → ByFirst (reportForOn b store k octets both pst addresses .verdict) (reportForChecks (isRecord b (length store)) (tableIn b) k octets both pst addresses) (acceptanceOf (formOf pst) octets true)
 unfolding reportForOn
-report-call-by-first b store k ero both pst addresses =
-    let under = sessionFor ero true (sessionUnder both pst) addresses in
-    by-first _ (reportForChecks (isRecord b (length store)) (tableIn b) k ero both pst addresses) (acceptanceOf (formOf pst) ero true)
-    (omega arith, report-numbered (tableIn b) k ero under pst (isRecord b (length store))) refl
-    (chosen (rule28 addresses) (resultOf (refusedBy notUsable 0) b) (reportOn b store k ero under pst)
-    ∙ ap (λ (v : Verdict). cond (rule28 addresses) (refusedBy notUsable 0) v) (report-checked-on b store k ero under pst))
+report-call-by-first b store k octets both pst addresses =
+    let under = sessionFor octets true (sessionUnder both pst) addresses in
+    by-first _ (reportForChecks (isRecord b (length store)) (tableIn b) k octets both pst addresses) (acceptanceOf (formOf pst) octets true)
+    (omega arith, report-numbered (tableIn b) k octets under pst (isRecord b (length store))) refl
+    (chosen (rule28 addresses) (resultOf (refusedBy notUsable 0) b) (reportOn b store k octets under pst)
+    ∙ ap (λ (v : Verdict). cond (rule28 addresses) (refusedBy notUsable 0) v) (report-checked-on b store k octets under pst))

@@ -21,7 +21,7 @@ pub fn report(
     forms: &mut [u8; 128],
     store: &mut [u8],
     key: u64,
-    ero: &[u8],
+    octets: &[u8],
     both: Sessions,
     pst: u64,
     addresses: &[u8],
@@ -30,17 +30,17 @@ pub fn report(
         let before =
         boardOf (now (keys .entry)) (now (versions .entry)) (now (lengths .entry)) (now (version .entry)) (now (floor .entry)) (now (order .entry)) (now (tops .entry)) (now (forms .entry)) in
         let after = boardOf (now (keys .exit)) (now (versions .exit)) (now (lengths .exit)) (now (version .exit)) (now (floor .exit)) (now (order .exit)) (now (tops .exit)) (now (forms .exit)) in
-        ⌜ resultOf r after ≡ reportForOn before (now (store .entry)) key (now (ero .entry)) both pst (now (addresses .entry)) ⌝ }
-    ensures octets { λ r.
+        ⌜ resultOf r after ≡ reportForOn before (now (store .entry)) key (now (octets .entry)) both pst (now (addresses .entry)) ⌝ }
+    ensures stored { λ r.
         let before =
         boardOf (now (keys .entry)) (now (versions .entry)) (now (lengths .entry)) (now (version .entry)) (now (floor .entry)) (now (order .entry)) (now (tops .entry)) (now (forms .entry)) in
-        ⌜ now (store .exit) ≡ reportStoreForOn before (now (store .entry)) key (now (ero .entry)) both pst (now (addresses .entry)) ⌝ }
+        ⌜ now (store .exit) ≡ reportStoreForOn before (now (store .entry)) key (now (octets .entry)) both pst (now (addresses .entry)) ⌝ }
 {
     if !head_end::usable(addresses) {
         return refused(NOT_USABLE, 0);
     }
     let own = session::under(both, pst);
-    let here = route_limit::session_for(ero, true, own, addresses);
+    let here = route_limit::session_for(octets, true, own, addresses);
     board_report::report(
         keys,
         versions,
@@ -52,7 +52,7 @@ pub fn report(
         forms,
         store,
         key,
-        ero,
+        octets,
         here,
         pst,
     )

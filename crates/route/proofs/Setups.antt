@@ -16,6 +16,7 @@ use Rattle.forms.proofs.Laws.{form-mpls, form-srv6, srv6-shortest, mpls-shortes
 use Rattle.answers.specs.declared.verdict.Verdict.{Verdict}
 use Rattle.answers.specs.Verdicts.{carryingBoth}
 use Rattle.msd.specs.Msd.{absent}
+use Rattle.session.specs.Sessions.{mostOf}
 use Rattle.session.specs.declared.Limit.{Limit}
 use Rattle.session.specs.declared.Limit.the-variants.{Free, Most}
 use Rattle.session.specs.declared.Session.{Session}
@@ -23,7 +24,7 @@ use Rattle.route_rules.specs.SessionRules.{rule12}
 use Rattle.route_rules.specs.Parts.{limitedOf}
 use Rattle.route_pass.specs.Settled.{Settled}
 use Rattle.route.specs.declared.picking.Picked.{Picked}
-use Rattle.route.specs.Parts.{sessionBy, limitThere, mostAllowed}
+use Rattle.route.specs.Parts.{sessionBy, limitThere}
 use Rattle.route.specs.Routes.{rule13, judgeAs, segmentAs, judgeOf, segmentOf}
 use Rattle.route.proofs.Answer as answer
 use Rattle.route.proofs.Numbers as numbers
@@ -99,11 +100,11 @@ pub judge-parts : (s : List ℕ) (ero : Bool) (session : Session) (pst : ℕ) (l
 unfolding judgeOf judgeAs
 judge-parts s ero session pst limit e = rw (← e)
 
-limit-parts : (limit : Limit) → limit ≡ cond (limitThere limit) (Most (mostAllowed limit)) Free
+limit-parts : (limit : Limit) → limit ≡ cond (limitThere limit) (Most (mostOf limit)) Free
 limit-parts Free = refl
 limit-parts (Most most) = refl
 
-pub judge-session : (s : List ℕ) (ero : Bool) (session : Session) (pst : ℕ) (has : Bool) (most : ℕ) → has ≡ limitThere (session .limit) → most ≡ mostAllowed (session .limit)
+pub judge-session : (s : List ℕ) (ero : Bool) (session : Session) (pst : ℕ) (has : Bool) (most : ℕ) → has ≡ limitThere (session .limit) → most ≡ mostOf (session .limit)
     → judgeOf s ero (sessionBy (session .agreed) (session .n) has most) pst ≡ judgeOf s ero session pst
 judge-session s ero session pst has most h m = rw (h, m) (judge-parts s ero session pst _ (limit-parts (session .limit)))
 

@@ -20,11 +20,7 @@ abbrev pub sessionBy : Bool → Bool → Bool → ℕ → Session
 sessionBy agreed n has most =
     record { agreed = agreed; n = n; limit = cond has (Most most) Free; a = false; r = false; v = absent; m = absent }
 
--- Whether there is a limit, and how many segments it allows.
+-- Whether there is a limit.
 abbrev pub limitThere : Limit → Bool
 limitThere Free = false
 limitThere (Most most) = true
-
-abbrev pub mostAllowed : Limit → ℕ
-mostAllowed Free = 0
-mostAllowed (Most most) = most

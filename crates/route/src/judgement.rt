@@ -3,9 +3,10 @@ ghost use mathlib.Core.Path.{_≡_};
 ghost use mathlib.Core.Bool.{true, false};
 ghost use Prim.Native.Nat.{_<_, _≤_, _%_};
 ghost use Rattle.forms.specs.Forms.{formOf};
+ghost use Rattle.session.specs.Sessions.{mostOf};
 ghost use Rattle.route_rules.specs.SessionRules.{rule13};
 ghost use Rattle.route_pass.specs.Settled.{SettledBy, strayWorth};
-ghost use Rattle.route.specs.Parts.{sessionBy, limitThere, mostAllowed};
+ghost use Rattle.route.specs.Parts.{sessionBy, limitThere};
 ghost use Rattle.route.specs.Routes.{judgeOf};
 use answers::Verdict;
 use msd::ABSENT;
@@ -97,7 +98,7 @@ fn has_limit(limit: Limit) -> bool
 }
 
 fn most_of(limit: Limit) -> usize
-    ensures most { λ r. ⌜ r ≡ mostAllowed limit ⌝ }
+    ensures most { λ r. ⌜ r ≡ mostOf limit ⌝ }
 {
     match limit {
         Limit::Free => 0,

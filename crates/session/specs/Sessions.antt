@@ -10,6 +10,11 @@ use Rattle.session.specs.declared.Opened.{Opened}
 use Rattle.session.specs.declared.Session.{Session}
 use Rattle.session.specs.declared.Sessions.{Sessions}
 
+-- How many segments a limit allows; 0 where there is none.
+abbrev pub mostOf : Limit → ℕ
+mostOf Free = 0
+mostOf (Most most) = most
+
 -- The form at fault where none is.
 abbrev pub noForm : ℕ
 noForm = 0

@@ -26,8 +26,8 @@ returns c =
     let came = lent .before .before .before .before .before .before .before in
     let args = came .before .before .before .before .args in
     let b = withRows (tableOf (args .keys .now) (args .versions .now) (args .lengths .now) (args .version .now) (args .floor .now) (args .forms .now)) (args .order .now) (args .tops .now) in
-    told-under (λ (s : Sessions). reportForOn b (args .store .now) (args .key) (args .ero .now) s (args .pst) (args .addresses .now))
-    (λ (s : Sessions). reportStoreForOn b (args .store .now) (args .key) (args .ero .now) s (args .pst) (args .addresses .now))
+    told-under (λ (s : Sessions). reportForOn b (args .store .now) (args .key) (args .octets .now) s (args .pst) (args .addresses .now))
+    (λ (s : Sessions). reportStoreForOn b (args .store .now) (args .key) (args .octets .now) s (args .pst) (args .addresses .now))
     _ (args .session) _ _ _ _ (came .sessions-in .ensures) (e .0) (e .1) (c .verdict-out .ensures)
 
 pub report-spec : {M : Type 1} → statement M

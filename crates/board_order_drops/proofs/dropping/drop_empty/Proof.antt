@@ -1,4 +1,4 @@
--- The first loop sifts the row (`Sifting`): a number that names no place, one of an empty place, one that is kept. The second fills it up with 0 (`Filling`).
+-- The first loop sifts the order (`Sifting`): a number that names no place, one of an empty place, one that is kept. The second fills it up with 0 (`Filling`).
 use Prim.Native.Nat.{ℕ, _≤_, _-_}
 use native.Mathlib.Omega.{arith}
 use borrow.Author.Needs.{needs}
@@ -14,16 +14,16 @@ use Rattle.board_order_drops.proofs.dropping.drop_empty.Statement.{stat
 use Rattle.board_order_drops.proofs.dropping.drop_empty.Tie as tie
 
 abbrev Inv-loop : tie.InvT-loop
-Inv-loop keys versions lengths top floor order₀ forms dropped kept₀ i₀ order kept i = Sifting (tableOf keys versions lengths top floor forms) order₀ order kept i
+Inv-loop keys versions lengths version floor order₀ forms dropped kept₀ i₀ order kept i = Sifting (tableOf keys versions lengths version floor forms) order₀ order kept i
 
 abbrev μ-loop : tie.MeasureT-loop
-μ-loop keys versions lengths top floor order₀ forms dropped kept₀ i₀ order kept i = places - i
+μ-loop keys versions lengths version floor order₀ forms dropped kept₀ i₀ order kept i = places - i
 
 abbrev Inv-loop2 : tie.InvT-loop2
-Inv-loop2 keys versions lengths top floor order₀ forms dropped kept₀ i order kept = Filled (tableOf keys versions lengths top floor forms) order kept
+Inv-loop2 keys versions lengths version floor order₀ forms dropped kept₀ i order kept = Filled (tableOf keys versions lengths version floor forms) order kept
 
 abbrev μ-loop2 : tie.MeasureT-loop2
-μ-loop2 keys versions lengths top floor order₀ forms dropped kept₀ i order kept = places - kept
+μ-loop2 keys versions lengths version floor order₀ forms dropped kept₀ i order kept = places - kept
 
 returns : tie.Need-returns Inv-loop μ-loop Inv-loop2 μ-loop2
 returns c = in-order-is _ _ (c .before .before .pre .0) (c .before .before .pre .2 (not-true _ (c .if1 .taken)))

@@ -6,7 +6,7 @@ use mathlib.Core.Bool.{not}
 use lib.ListN.{length, getD}
 use lib.Dec.{eqb}
 use Rattle.board_record.specs.Sizes.{places}
-use Rattle.board_order_moves.specs.Rows.{lastWhere}
+use Rattle.board_order_moves.specs.Shifts.{lastWhere}
 use Rattle.board_order_moves.proofs.Lasts.{last-none, last-more, last-end}
 use Rattle.board_order_moves.proofs.finding.used_in.Statement.{statement}
 use Rattle.board_order_moves.proofs.finding.used_in.Tie as tie

@@ -1,4 +1,4 @@
--- The invariant: the numbers of the order so far name places that are sound (`Along`), the chains of the hash hold all their keys (`Hashed`), the largest versions
+-- The invariant: the numbers of the order so far name places that are sound (`Along`), the buckets of the hash hold all their keys (`Hashed`), the largest versions
 -- met are those so far (`Topped`), and the bound is the larger of the last version and the floor (`Bounded`). Each way out is a law of `Passing` or `Tops`.
 use Prim.Native.Nat.{ℕ, _≤_, _-_, _<_}
 use native.Mathlib.Omega.{arith}
@@ -9,27 +9,27 @@ use lib.ListN.{getD}
 use Rattle.board_record.specs.Sizes.{places}
 use Rattle.board_record.specs.Table.{tableOf}
 use Rattle.octets.proofs.Said.{said-yes}
-use Rattle.board_order_numbers.specs.Chain.{along}
+use Rattle.board_order_numbers.specs.Buckets.{along}
 use Rattle.board_proper.proofs.Keys.{Hashed, hashed-none, hashed-more}
-use Rattle.board_proper.proofs.Passing.{Along, along-none, along-more, fit-at, key-along, is-new, is-closed, clear-at, end-full, end-short}
-use Rattle.board_proper.proofs.Passing.{stop-floor, stop-version, stop-bodies, stop-low, stop-late, stop-new, stop-top, stop-closed}
-use Rattle.board_proper.proofs.Rows.{Bounded, bounded-none, bounded-more, is-late}
+use Rattle.board_proper.proofs.Passing.{Along, along-none, along-more, sound-found, key-along, is-new, is-closed, clear-at, end-full, end-short}
+use Rattle.board_proper.proofs.Passing.{stop-floor, stop-version, stop-bodies, stop-low, stop-late, stop-new, stop-last, stop-closed}
+use Rattle.board_proper.proofs.Rising.{Bounded, bounded-none, bounded-more, is-late}
 use Rattle.board_proper.proofs.Tops.{Topped, topped-none, topped-more, end-tops, no-tops}
 use Rattle.board_proper.proofs.pass.is_proper.Statement.{statement}
 use Rattle.board_proper.proofs.pass.is_proper.Tie as tie
 
 abbrev Inv-loop : tie.InvT-loop
-Inv-loop keys versions lengths top floor order tops forms m heads₀ nexts₀ seen₀ last₀ bound₀ i₀ heads nexts seen last bound i =
-    (i ≤ places) × Along (tableOf keys versions lengths top floor forms) order i last × Hashed (along keys order) heads nexts i × Topped versions order seen i
+Inv-loop keys versions lengths version floor order tops forms m heads₀ nexts₀ seen₀ last₀ bound₀ i₀ heads nexts seen last bound i =
+    (i ≤ places) × Along (tableOf keys versions lengths version floor forms) order i last × Hashed (along keys order) heads nexts i × Topped versions order seen i
     × Bounded floor last bound
 
 abbrev μ-loop : tie.MeasureT-loop
-μ-loop keys versions lengths top floor order tops forms m heads₀ nexts₀ seen₀ last₀ bound₀ i₀ heads nexts seen last bound i = places - i
+μ-loop keys versions lengths version floor order tops forms m heads₀ nexts₀ seen₀ last₀ bound₀ i₀ heads nexts seen last bound i = places - i
 
 returns : tie.Need-returns Inv-loop μ-loop
 returns c =
     let args = c .before .args in
-    let t = tableOf (args .keys .now) (args .versions .now) (args .lengths .now) (args .top) (args .floor) (args .forms .now) in
+    let t = tableOf (args .keys .now) (args .versions .now) (args .lengths .now) (args .version) (args .floor) (args .forms .now) in
     let order = args .order .now in
     no-tops t order (args .tops .now)
     (stop-floor t order (c .if1 .taken))
@@ -37,7 +37,7 @@ returns c =
 returns-2 : tie.Need-returns-2 Inv-loop μ-loop
 returns-2 c =
     let args = c .before .before .args in
-    let t = tableOf (args .keys .now) (args .versions .now) (args .lengths .now) (args .top) (args .floor) (args .forms .now) in
+    let t = tableOf (args .keys .now) (args .versions .now) (args .lengths .now) (args .version) (args .floor) (args .forms .now) in
     let order = args .order .now in
     no-tops t order (args .tops .now)
     (stop-version t order (c .if2 .taken))
@@ -52,7 +52,7 @@ returns-3 : tie.Need-returns-3 Inv-loop μ-loop
 returns-3 c =
     let b4 = c .before .before .before .before in
     let args = b4 .before .args in
-    let t = tableOf (args .keys .now) (args .versions .now) (args .lengths .now) (args .top) (args .floor) (args .forms .now) in
+    let t = tableOf (args .keys .now) (args .versions .now) (args .lengths .now) (args .version) (args .floor) (args .forms .now) in
     let order = args .order .now in
     no-tops t order (args .tops .now)
     (stop-bodies t order _ (c .before .bodies .ensures) (c .if3 .taken))
@@ -64,7 +64,7 @@ returns-4 : tie.Need-returns-4 Inv-loop μ-loop
 returns-4 c =
     let b4 = c .before .before .before .before in
     let args = b4 .before .before .before .args in
-    let t = tableOf (args .keys .now) (args .versions .now) (args .lengths .now) (args .top) (args .floor) (args .forms .now) in
+    let t = tableOf (args .keys .now) (args .versions .now) (args .lengths .now) (args .version) (args .floor) (args .forms .now) in
     let order = args .order .now in
     no-tops t order (args .tops .now)
     (stop-low t order _ (c .before .low .ensures) (c .if4 .taken))
@@ -84,11 +84,11 @@ returns-5 c =
     let b8 = b4 .before .before .before .before in
     let b12 = b8 .before .before .before .before in
     let args = b12 .before .args in
-    let t = tableOf (args .keys .now) (args .versions .now) (args .lengths .now) (args .top) (args .floor) (args .forms .now) in
+    let t = tableOf (args .keys .now) (args .versions .now) (args .lengths .now) (args .version) (args .floor) (args .forms .now) in
     let order = args .order .now in
     let inv = b4 .before .loop .inv in
     no-tops t order (args .tops .now)
-    (stop-top t order _ _ (inv .0) (inv .1) (c .if6 .taken))
+    (stop-last t order _ _ (inv .0) (inv .1) (c .if6 .taken))
 
 closed-requires : tie.Need-closed-requires Inv-loop μ-loop
 closed-requires c κs =
@@ -101,7 +101,7 @@ returns-6 c =
     let b8 = b4 .before .before .before .before in
     let b12 = b8 .before .before .before .before in
     let args = b12 .before .before .before .args in
-    let t = tableOf (args .keys .now) (args .versions .now) (args .lengths .now) (args .top) (args .floor) (args .forms .now) in
+    let t = tableOf (args .keys .now) (args .versions .now) (args .lengths .now) (args .version) (args .floor) (args .forms .now) in
     let order = args .order .now in
     let inv = b4 .before .before .before .loop .inv in
     no-tops t order (args .tops .now)
@@ -118,7 +118,7 @@ returns-7 c =
     let b12 = b8 .before .before .before .before in
     let b16 = b12 .before .before .before .before in
     let args = b16 .before .args in
-    let t = tableOf (args .keys .now) (args .versions .now) (args .lengths .now) (args .top) (args .floor) (args .forms .now) in
+    let t = tableOf (args .keys .now) (args .versions .now) (args .lengths .now) (args .version) (args .floor) (args .forms .now) in
     let order = args .order .now in
     let inv = b8 .before .loop .inv in
     let all = is-closed t order _ _ (inv .0) (inv .1) _ (c .before .before .before .closed .ensures) (c .before .before .if7 .left) in
@@ -145,31 +145,31 @@ returns-8 c =
     let b8 = b4 .before .before .before .before in
     let b12 = b8 .before .before .before .before in
     let args = b12 .before .before .before .args in
-    let t = tableOf (args .keys .now) (args .versions .now) (args .lengths .now) (args .top) (args .floor) (args .forms .now) in
+    let t = tableOf (args .keys .now) (args .versions .now) (args .lengths .now) (args .version) (args .floor) (args .forms .now) in
     let order = args .order .now in
     let inv = b4 .before .before .before .loop .inv in
     let is = b4 .numbered .ensures .is (c .before .before .before .if5 .left) in
     no-tops t order (args .tops .now)
     (stop-late t order _ _ _ _ _ _ (b4 .before .before .loop-test .taken) (inv .1) (inv .4) is (c .before .before .before .if5 .left) refl (c .before .late .ensures) (c .if8 .taken))
 
-mul-chained : tie.Need-mul-chained Inv-loop μ-loop
-mul-chained c =
+mul-bucketed : tie.Need-mul-bucketed Inv-loop μ-loop
+mul-bucketed c =
     let b4 = c .before .before .before .before in
     omega (arith, b4 .before .if5 .left)
 
-element-copy-out-chained : tie.Need-element-copy-out-chained Inv-loop μ-loop
-element-copy-out-chained c =
+element-copy-out-bucketed : tie.Need-element-copy-out-bucketed Inv-loop μ-loop
+element-copy-out-bucketed c =
     let b4 = c .before .before .before .before in
     omega (arith, b4 .before .if5 .left)
 
-chained-requires : tie.Need-chained-requires Inv-loop μ-loop
-chained-requires c κs =
+bucketed-requires : tie.Need-bucketed-requires Inv-loop μ-loop
+bucketed-requires c κs =
     let b4 = c .before .before .before .before in
     let b8 = b4 .before .before .before .before in
     let b12 = b8 .before .before .before .before in
     let b16 = b12 .before .before .before .before in
     let args = b16 .before .before .args in
-    let t = tableOf (args .keys .now) (args .versions .now) (args .lengths .now) (args .top) (args .floor) (args .forms .now) in
+    let t = tableOf (args .keys .now) (args .versions .now) (args .lengths .now) (args .version) (args .floor) (args .forms .now) in
     let order = args .order .now in
     let inv = b8 .before .before .loop .inv in
     let is = b4 .before .before .before .numbered .ensures .is (b4 .before .before .if5 .left) in
@@ -182,12 +182,12 @@ returns-9 c =
     let b12 = b8 .before .before .before .before in
     let b16 = b12 .before .before .before .before in
     let args = b16 .before .before .before .before .args in
-    let t = tableOf (args .keys .now) (args .versions .now) (args .lengths .now) (args .top) (args .floor) (args .forms .now) in
+    let t = tableOf (args .keys .now) (args .versions .now) (args .lengths .now) (args .version) (args .floor) (args .forms .now) in
     let order = args .order .now in
     let inv = b12 .loop .inv in
     let is = b8 .before .numbered .ensures .is (b8 .if5 .left) in
     no-tops t order (args .tops .now)
-    (stop-new t order _ _ _ _ (b8 .before .before .before .loop-test .taken) (inv .1) is (b8 .if5 .left) (c .before .chained .ensures .0) (c .if9 .taken))
+    (stop-new t order _ _ _ _ (b8 .before .before .before .loop-test .taken) (inv .1) is (b8 .if5 .left) (c .before .bucketed .ensures .0) (c .if9 .taken))
 
 mul-seen : tie.Need-mul-seen Inv-loop μ-loop
 mul-seen c = search needs
@@ -223,7 +223,7 @@ loop-again c =
     let b16 = b12 .before .before .before .before in
     let b20 = b16 .before .before .before .before in
     let args = b20 .before .args in
-    let t = tableOf (args .keys .now) (args .versions .now) (args .lengths .now) (args .top) (args .floor) (args .forms .now) in
+    let t = tableOf (args .keys .now) (args .versions .now) (args .lengths .now) (args .version) (args .floor) (args .forms .now) in
     let order = args .order .now in
     let inv = b12 .before .loop .inv in
     let is = b8 .before .before .numbered .ensures .is (b8 .before .if5 .left) in
@@ -231,12 +231,13 @@ loop-again c =
     let yes = said-yes _ _ (b4 .before .before .before .late .ensures) (b4 .before .before .if8 .left) in
     let above = is-late (args .floor) (b12 .before .loop .last) (b12 .before .loop .bound) (getD (args .versions .now) (b8 .before .before .numbered .result) 0)
     (getD (args .lengths .now) (b8 .before .before .numbered .result) 0) (inv .4) yes in
-    let new = not-false _ (c .before .if9 .left) in (
+    let new = not-false _ (c .before .if9 .left) in
+    let used = is-new t order _ _ _ (c .before .before .bucketed .ensures .0) new in (
       omega (arith, b12 .loop-test .taken),
-      along-more t order _ _ _ _ (inv .1) is (b8 .before .if5 .left) refl (above .0)
-          (fit-at t _ _ (b16 .before .bodies .ensures) (b16 .if3 .left) (b12 .before .before .before .low .ensures)
-          (b12 .before .before .if4 .left) _ (b8 .before .if5 .left) (is-new t order _ _ _ (c .before .before .chained .ensures .0) new) (above .1)),
-      hashed-more xs _ _ _ _ _ (inv .2 .fine) (key-along t order _ _ (b12 .loop-test .taken) is) (c .before .before .chained .ensures .0) new (c .before .before .chained .ensures .1),
+      along-more t order _ _ _ _ (inv .1) is (b8 .before .if5 .left) refl (above .0) used
+          (sound-found t _ _ (b16 .before .bodies .ensures) (b16 .if3 .left) (b12 .before .before .before .low .ensures)
+          (b12 .before .before .if4 .left) _ _ (b8 .before .if5 .left) used (above .0) (above .1)),
+      hashed-more xs _ _ _ _ _ (inv .2 .fine) (key-along t order _ _ (b12 .loop-test .taken) is) (c .before .before .bucketed .ensures .0) new (c .before .before .bucketed .ensures .1),
       topped-more (t .versions) order _ _ _ _ _ (inv .3) (inv .1 .risen) is (b8 .before .if5 .left) refl (above .0),
       bounded-more _ _ _ _ _ (inv .4) (above .0) (c .larger .ensures),
     )
@@ -246,11 +247,11 @@ returns-10 c =
     let b4 = c .before .before .before .before in
     let b8 = b4 .before .before .before .before in
     let args = b8 .before .before .args in
-    let t = tableOf (args .keys .now) (args .versions .now) (args .lengths .now) (args .top) (args .floor) (args .forms .now) in
+    let t = tableOf (args .keys .now) (args .versions .now) (args .lengths .now) (args .version) (args .floor) (args .forms .now) in
     let order = args .order .now in
     let inv = c .before .before .loop .inv in
     no-tops t order (args .tops .now)
-    (stop-top t order _ _ (inv .0) (inv .1) (c .if10 .taken))
+    (stop-last t order _ _ (inv .0) (inv .1) (c .if10 .taken))
 
 same-requires-2 : tie.Need-same-requires-2 Inv-loop μ-loop
 same-requires-2 c κs = search needs
@@ -260,7 +261,7 @@ returns-11 c =
     let b4 = c .before .before .before .before in
     let b8 = b4 .before .before .before .before in
     let args = b8 .before .before .before .before .args in
-    let t = tableOf (args .keys .now) (args .versions .now) (args .lengths .now) (args .top) (args .floor) (args .forms .now) in
+    let t = tableOf (args .keys .now) (args .versions .now) (args .lengths .now) (args .version) (args .floor) (args .forms .now) in
     let order = args .order .now in
     let inv = b4 .loop .inv in
     end-tops t order _ (args .tops .now) _ _ (inv .0) (inv .3) (inv .1 .risen)
@@ -293,9 +294,9 @@ is-proper-spec =
     element-copy-out-v
     late-requires
     returns-8
-    mul-chained
-    element-copy-out-chained
-    chained-requires
+    mul-bucketed
+    element-copy-out-bucketed
+    bucketed-requires
     returns-9
     mul-seen
     array-write-seen

@@ -25,9 +25,9 @@ returns c =
     let t = tableOf (args .keys .now) (args .versions .now) (args .lengths .now) (args .version .now) (args .floor .now) (args .forms .now) in
     let b = withRows t (args .order .now) (args .tops .now) in (
       result-not b _ _ _ _ (c .before .before .is-board .ensures) (c .before .if1 .taken) (c .refused .ensures)
-          (λ e. report-not-board t (args .store .now) (args .key) (args .ero .now) (args .session) (args .pst) false _ (sym e) refl (c .refused .ensures)),
-      store-not b (args .store .now) (args .key) (args .ero .now) (args .session) (args .pst) _ _ (c .before .before .is-board .ensures) (c .before .if1 .taken)
-          (λ e. store-not-board t (args .store .now) (args .key) (args .ero .now) (args .session) (args .pst) false (sym e) refl),
+          (λ e. report-not-board t (args .store .now) (args .key) (args .octets .now) (args .session) (args .pst) false _ (sym e) refl (c .refused .ensures)),
+      store-not b (args .store .now) (args .key) (args .octets .now) (args .session) (args .pst) _ _ (c .before .before .is-board .ensures) (c .before .if1 .taken)
+          (λ e. store-not-board t (args .store .now) (args .key) (args .octets .now) (args .session) (args .pst) false (sym e) refl),
     )
 
 target-requires : tie.Need-target-requires
@@ -55,15 +55,15 @@ returns-2 c =
     (args .floor .now) (args .forms .now) in
     let b = withRows t (args .order .now) (args .tops .now) in
     let h = record-is b _ _ (before10 .before .is-board .ensures) (before10 .if1 .left) in
-    let v = report-verdict t (args .store .now) (args .key) (args .ero .now) (args .session) (args .pst) true _ _ _ _
+    let v = report-verdict t (args .store .now) (args .key) (args .octets .now) (args .session) (args .pst) true _ _ _ _
     (sym (h .0)) refl (c .before .before .before .before .before .target .ensures)
     (c .before .before .before .before .body-size .ensures) (c .before .before .before .judge .ensures)
     (c .before .before .report-rules .ensures) in (
       result-refused b _ _ (h .1)
-          (report-refused t (args .store .now) (args .key) (args .ero .now) (args .session) (args .pst) _ v
+          (report-refused t (args .store .now) (args .key) (args .octets .now) (args .session) (args .pst) _ v
           (c .if2 .taken)) (c .if2 .taken),
-      store-on b (args .store .now) (args .key) (args .ero .now) (args .session) (args .pst) _ (h .1)
-          (store-refused t (args .store .now) (args .key) (args .ero .now) (args .session) (args .pst) _ v
+      store-on b (args .store .now) (args .key) (args .octets .now) (args .session) (args .pst) _ (h .1)
+          (store-refused t (args .store .now) (args .key) (args .octets .now) (args .session) (args .pst) _ v
           (c .if2 .taken)),
     )
 
@@ -117,7 +117,7 @@ cast-enter-3 c =
     let before21 = before14 .before .before .before .before .before .before .before in
     let args = before21 .before .before .before .before .before .before .before .before .before .before .before .before .args in
     let g = passed (args .key) (judge .result) (size .result) (args .version .now) (target .result) _ (rules .ensures) (before11 .if2 .left) in
-    let z = form-small (args .ero .now) (args .session) (args .pst) _ (judge .ensures) (g .route-taken) in
+    let z = form-small (args .octets .now) (args .session) (args .pst) _ (judge .ensures) (g .route-taken) in
     omega arith
 
 enter-requires : tie.Need-enter-requires
@@ -162,7 +162,7 @@ sub-lay c =
     let before24 = before17 .before .before .before .before .before .before .before in
     let args = before24 .before .before .before .before .before .before .before .before .before .before .before .before .args in
     let g = passed (args .key) (judge .result) (size .result) (args .version .now) (target .result) _ (rules .ensures) (before14 .if2 .left) in
-    let z = body-there (args .ero .now) (args .session) (args .pst) _ (judge .ensures) (g .route-taken) in
+    let z = body-there (args .octets .now) (args .session) (args .pst) _ (judge .ensures) (g .route-taken) in
     omega arith
 
 part-lay-start : tie.Need-part-lay-start
@@ -177,7 +177,7 @@ part-lay-start c =
     let before24 = before17 .before .before .before .before .before .before .before in
     let args = before24 .before .before .before .before .before .before .before .before .before .before .before .before .args in
     let g = passed (args .key) (judge .result) (size .result) (args .version .now) (target .result) _ (rules .ensures) (before14 .if2 .left) in
-    let z = body-there (args .ero .now) (args .session) (args .pst) _ (judge .ensures) (g .route-taken) in
+    let z = body-there (args .octets .now) (args .session) (args .pst) _ (judge .ensures) (g .route-taken) in
     omega arith
 
 part-lay-end : tie.Need-part-lay-end
@@ -198,8 +198,8 @@ lay-requires c κs =
     let b = withRows t (args .order .now) (args .tops .now) in
     let h = record-is b _ _ (before25 .before .is-board .ensures) (before25 .if1 .left) in
     let g = passed (args .key) (judge .result) (size .result) (args .version .now) (target .result) _ (rules .ensures) (before15 .if2 .left) in
-    lay-fits (args .store .now) (args .ero .now) _ _ _ (size .ensures) (g .size)
-    (report-room t (args .store .now) (args .key) (args .ero .now) (args .session) (args .pst) true _ (sym (h .0)) refl (g .place)) (c .before .start-of .ensures)
+    lay-fits (args .store .now) (args .octets .now) _ _ _ (size .ensures) (g .size)
+    (report-room t (args .store .now) (args .key) (args .octets .now) (args .session) (args .pst) true _ (sym (h .0)) refl (g .place)) (c .before .start-of .ensures)
 
 same-length : tie.Need-same-length
 same-length c = search needs
@@ -221,14 +221,14 @@ returns-3 c =
     let yes = before18 .if2 .left in
     let enter = c .before .before .before .before .before .before .enter in
     let raised = before10 .before .before .before .before .before .floor-after in
-    let v = report-verdict t (args .store .now) (args .key) (args .ero .now) (args .session) (args .pst) true _ _ _ _
+    let v = report-verdict t (args .store .now) (args .key) (args .octets .now) (args .session) (args .pst) true _ _ _ _
     (sym (h .0)) refl (target .ensures) (size .ensures) (judge .ensures) (rules .ensures) in (
       result-accepted b _ _ _ _ _ (h .1)
-          (report-accepted t (args .store .now) (args .key) (args .ero .now) (args .session) (args .pst) _ _ _ _ _ v
+          (report-accepted t (args .store .now) (args .key) (args .octets .now) (args .session) (args .pst) _ _ _ _ _ v
           yes (target .ensures) (size .ensures) (raised .ensures (args .lengths .now) (args .forms .now) (args .version .now)) (enter .ensures .0))
           yes (enter .ensures .1 .0) (enter .ensures .1 .1),
-      store-on b (args .store .now) (args .key) (args .ero .now) (args .session) (args .pst) _ (h .1)
-          (store-accepted t (args .store .now) (args .key) (args .ero .now) (args .session) (args .pst) _ _ _ _ v
+      store-on b (args .store .now) (args .key) (args .octets .now) (args .session) (args .pst) _ (h .1)
+          (store-accepted t (args .store .now) (args .key) (args .octets .now) (args .session) (args .pst) _ _ _ _ v
           yes (target .ensures) (c .before .before .before .before .start-of .ensures) (c .before .before .lay .ensures)),
     )
 

@@ -17,17 +17,17 @@ wide32-requires c κs = search needs
 returns : tie.Need-returns
 returns c =
     let args = c .before .before .before .args in
-    λ lengths forms top.
+    λ lengths forms version.
     sym
-    (floor-takes (tableOf (args .keys .now) (args .versions .now) lengths top (args .floor) forms) (args .key) (args .at)
+    (floor-takes (tableOf (args .keys .now) (args .versions .now) lengths version (args .floor) forms) (args .key) (args .at)
     (sym (c .before .wide32 .ensures) ∙ c .if1 .taken))
 
 returns-2 : tie.Need-returns-2
 returns-2 c =
     let args = c .before .before .before .before .args in
-    λ lengths forms top.
+    λ lengths forms version.
     sym
-    (floor-keeps (tableOf (args .keys .now) (args .versions .now) lengths top (args .floor) forms) (args .key) (args .at)
+    (floor-keeps (tableOf (args .keys .now) (args .versions .now) lengths version (args .floor) forms) (args .key) (args .at)
     (sym (c .before .before .wide32 .ensures) ∙ c .if2 .taken))
 
 mul-result : tie.Need-mul-result
@@ -39,9 +39,9 @@ element-copy-out-result c = search needs
 returns-3 : tie.Need-returns-3
 returns-3 c =
     let args = c .before .before .before .before .before .args in
-    λ lengths forms top.
+    λ lengths forms version.
     sym
-    (floor-drops (tableOf (args .keys .now) (args .versions .now) lengths top (args .floor) forms) (args .key) (args .at)
+    (floor-drops (tableOf (args .keys .now) (args .versions .now) lengths version (args .floor) forms) (args .key) (args .at)
     (λ e. c .before .before .if1 .left (c .before .before .before .wide32 .ensures ∙ e))
     (λ e. c .before .if2 .left (c .before .before .before .wide32 .ensures ∙ e)))
 

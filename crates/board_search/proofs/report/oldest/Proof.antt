@@ -8,10 +8,10 @@ use Rattle.board_search.proofs.report.oldest.Statement.{statement}
 use Rattle.board_search.proofs.report.oldest.Tie as tie
 
 abbrev Inv-loop : tie.InvT-loop
-Inv-loop keys versions lengths top floor forms best₀ i₀ best i = (i ≤ 128) × Tracks (λ j. bare (getD versions j 0) (getD lengths j 0)) (λ j. getD versions j 0) i best
+Inv-loop keys versions lengths version floor forms best₀ i₀ best i = (i ≤ 128) × Tracks (λ j. bare (getD versions j 0) (getD lengths j 0)) (λ j. getD versions j 0) i best
 
 abbrev μ-loop : tie.MeasureT-loop
-μ-loop keys versions lengths top floor forms best₀ i₀ best i = 128 - i
+μ-loop keys versions lengths version floor forms best₀ i₀ best i = 128 - i
 
 no-best-requires : tie.Need-no-best-requires Inv-loop μ-loop
 no-best-requires c κs = search needs
@@ -47,14 +47,14 @@ loop-again c =
       tracks-more _ _ _ _ _ (c .before .before .before .before .loop .inv .1)
           (c .before .before .before .loop-test .taken)
           (below (before6 .args .keys .now) (before6 .args .versions .now) (before6 .args .lengths .now)
-          (before6 .args .top) (before6 .args .floor) (before6 .args .forms .now) (before6 .pre) _ (c .before .before .before .loop-test .taken))
+          (before6 .args .version) (before6 .args .floor) (before6 .args .forms .now) (before6 .pre) _ (c .before .before .before .loop-test .taken))
           (c .older .ensures),
     )
 
 returns : tie.Need-returns Inv-loop μ-loop
 returns c =
     let args = c .before .before .before .args in
-    oldest-done (args .keys .now) (args .versions .now) (args .lengths .now) (args .top) (args .floor) (args .forms .now)
+    oldest-done (args .keys .now) (args .versions .now) (args .lengths .now) (args .version) (args .floor) (args .forms .now)
     (c .before .before .before .pre) _ _ (c .before .loop .inv .1) (c .before .loop .inv .0) (c .loop-test .left)
 
 pub oldest-spec : {M : Type 1} → statement M

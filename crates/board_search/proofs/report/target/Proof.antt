@@ -10,7 +10,7 @@ place-in-requires c κs = search needs
 returns : tie.Need-returns
 returns c =
     let args = c .before .before .args in
-    target-known (tableOf (args .keys .now) (args .versions .now) (args .lengths .now) (args .top) (args .floor) (args .forms .now))
+    target-known (tableOf (args .keys .now) (args .versions .now) (args .lengths .now) (args .version) (args .floor) (args .forms .now))
     (args .key) _ (c .before .place-in .ensures) (c .if1 .taken)
 
 place-in-requires-2 : tie.Need-place-in-requires-2
@@ -19,7 +19,7 @@ place-in-requires-2 c κs = search needs
 returns-2 : tie.Need-returns-2
 returns-2 c =
     let args = c .before .before .before .before .args in
-    target-free (tableOf (args .keys .now) (args .versions .now) (args .lengths .now) (args .top) (args .floor) (args .forms .now))
+    target-free (tableOf (args .keys .now) (args .versions .now) (args .lengths .now) (args .version) (args .floor) (args .forms .now))
     (args .key) _ _ (c .before .before .before .place-in .ensures) (c .before .before .if1 .left)
     (c .before .place-in2 .ensures) (c .if2 .taken)
 
@@ -29,7 +29,7 @@ oldest-requires c κs = search needs
 returns-3 : tie.Need-returns-3
 returns-3 c =
     let args = c .before .before .before .before .before .args in
-    target-oldest (tableOf (args .keys .now) (args .versions .now) (args .lengths .now) (args .top) (args .floor) (args .forms .now))
+    target-oldest (tableOf (args .keys .now) (args .versions .now) (args .lengths .now) (args .version) (args .floor) (args .forms .now))
     (args .key) _ _ _ (c .before .before .before .before .place-in .ensures) (c .before .before .before .if1 .left)
     (c .before .before .place-in2 .ensures) (c .before .if2 .left) (c .oldest .ensures)
 

@@ -1,13 +1,13 @@
--- The invariant: the walk of the key's chain has come to p, and no number from p on has the key (`Walking`). A link and each way out is a law of `Laws`.
+-- The invariant: the walk of the key's bucket has come to p, and no number from p on has the key (`Walking`). A link and each way out is a law of `Laws`.
 use Prim.Native.Nat.{ℕ, _≤_, _-_, _<_}
 use native.Mathlib.Omega.{arith}
 use borrow.Author.Needs.{needs}
 use mathlib.Core.Path.{_≡_, refl, sym, ap, _∙_}
 use lib.ListN.{getD}
-use Rattle.board_order_numbers.specs.Chain.{along, Walking}
+use Rattle.board_order_numbers.specs.Buckets.{along, Walking}
 use Rattle.board_order_numbers.proofs.Laws.{along-at, walk-on, walk-hit, walk-ends}
-use Rattle.board_order_numbers.proofs.chain.fresh.Statement.{statement}
-use Rattle.board_order_numbers.proofs.chain.fresh.Tie as tie
+use Rattle.board_order_numbers.proofs.bucket.fresh.Statement.{statement}
+use Rattle.board_order_numbers.proofs.bucket.fresh.Tie as tie
 
 abbrev Inv-loop : tie.InvT-loop
 Inv-loop keys order nexts i k start p₀ p = Walking (along keys order) i k p

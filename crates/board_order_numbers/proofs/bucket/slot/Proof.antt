@@ -1,9 +1,9 @@
-use Rattle.board_order_numbers.specs.Chain.{slotOf}
+use Rattle.board_order_numbers.specs.Buckets.{slotOf}
 use mathlib.Core.Path.{refl}
 use native.Mathlib.Omega.{arith}
 use borrow.Author.Needs.{needs}
-use Rattle.board_order_numbers.proofs.chain.slot.Statement.{statement}
-use Rattle.board_order_numbers.proofs.chain.slot.Tie as tie
+use Rattle.board_order_numbers.proofs.bucket.slot.Statement.{statement}
+use Rattle.board_order_numbers.proofs.bucket.slot.Tie as tie
 
 mul-result : tie.Need-mul-result
 mul-result c = search needs

@@ -1,4 +1,4 @@
--- No promise rests on this file: it serves the contracts of the row's functions.
+-- No promise rests on this file: it serves the contracts of the order's functions.
 use Prim.Native.Nat.{ℕ}
 use mathlib.Core.Bool.{Bool, not, _||_}
 use mathlib.Core.List.{List}
@@ -8,7 +8,7 @@ use Rattle.board_record.specs.Sizes.{places}
 use Rattle.board_record.specs.Search.{firstWhere}
 use Rattle.board_record.specs.Order.{placeOn}
 
--- number i of a row names no place, or one of a version above w
+-- number i of an order names no place, or one of a version above w
 unfoldable pub aboveB : List ℕ → List ℕ → ℕ → ℕ → Bool
 aboveB versions order w i = not (ltb (placeOn order i) places) || ltb w (getD versions (placeOn order i) 0)
 

@@ -1,5 +1,5 @@
-// A chain of a hash links the numbers of the order whose keys have that hash, the last one first. `heads[h]` is 1 more than the
-// last number whose key has the hash h, `nexts[x]` 1 more than the number before x in x's chain, and 0 ends it, so a walk goes down.
+// A bucket of a hash links the numbers of the order whose keys have that hash, the last one first. `heads[h]` is 1 more than the
+// last number whose key has the hash h, `nexts[x]` 1 more than the number before x in x's bucket, and 0 ends it, so a walk goes down.
 ghost use mathlib.Core.Path.{_≡_};
 ghost use mathlib.Core.Bool.{true, not, _&&_};
 ghost use Prim.Native.Nat.{ℕ, _+_, _<_, _≤_};
@@ -8,7 +8,7 @@ ghost use lib.Dec.{eqb};
 ghost use Rattle.board_record.specs.Sizes.{places};
 ghost use Rattle.board_record.specs.Proper.{freshB};
 ghost use Rattle.board_record.specs.Order.{placeOn};
-ghost use Rattle.board_order_numbers.specs.Chain.{along, slots, slotOf, Heads, Links, Walking};
+ghost use Rattle.board_order_numbers.specs.Buckets.{along, slots, slotOf, Heads, Links, Walking};
 use board_order::named;
 use board_record::wide32;
 use octets::wide;
@@ -18,7 +18,7 @@ const LOW: u64 = 4294967296;
 
 const MIX: u64 = 2654435761;
 
-const TOP: u64 = 4194304;
+const LOWEST_WORTH: u64 = 4194304;
 
 // hashes are below it
 pub const SLOTS: usize = 1024;
@@ -29,10 +29,10 @@ const HASHES: u64 = SLOTS as u64;
 fn slot(k: u64) -> usize
     ensures slot { λ r. ⌜ (r ≡ slotOf k) × (r < slots) ⌝ }
 {
-    (k % LOW * MIX / TOP % HASHES) as usize
+    (k % LOW * MIX / LOWEST_WORTH % HASHES) as usize
 }
 
-// None of the first i keys along the order is k; start is the head of k's chain.
+// None of the first i keys along the order is k; start is the head of k's bucket.
 fn fresh<'a>(
     keys: &'a [u32; 128],
     order: &'a [u8; 128],
@@ -56,8 +56,8 @@ fn fresh<'a>(
     true
 }
 
-// Whether k, the key of number i, is a key and none of those before it; it then joins its chain.
-pub fn chained<'a>(
+// Whether k, the key of number i, is a key and none of those before it; it then joins its bucket.
+pub fn bucketed<'a>(
     keys: &'a [u32; 128],
     order: &'a [u8; 128],
     heads: &mut [u8; 1024],

@@ -2,10 +2,10 @@ use native.Mathlib.Omega.{arith}
 use borrow.Author.Needs.{needs}
 use mathlib.Core.Path.{_≡_, sym}
 use Rattle.board_record.proofs.Logic.{true≢false}
-use Rattle.board_order_numbers.specs.Chain.{along}
+use Rattle.board_order_numbers.specs.Buckets.{along}
 use Rattle.board_order_numbers.proofs.Laws.{walk-from, joined, no-key, key-before, key-new}
-use Rattle.board_order_numbers.proofs.chain.chained.Statement.{statement}
-use Rattle.board_order_numbers.proofs.chain.chained.Tie as tie
+use Rattle.board_order_numbers.proofs.bucket.bucketed.Statement.{statement}
+use Rattle.board_order_numbers.proofs.bucket.bucketed.Tie as tie
 
 returns : tie.Need-returns
 returns c = (no-key _ _ (c .if1 .taken), λ e. absurd (true≢false (sym e)))
@@ -61,8 +61,8 @@ returns-3 c =
           (b5 .slot .ensures .0) (b5 .slot .ensures .1),
     )
 
-pub chained-spec : {M : Type 1} → statement M
-chained-spec =
+pub bucketed-spec : {M : Type 1} → statement M
+bucketed-spec =
     tie.close
     (tie.spec
     returns

@@ -1,4 +1,4 @@
--- No promise rests on this file: it serves the contracts of the row's functions.
+-- No promise rests on this file: it serves the contracts of the order's functions.
 use Prim.Native.Nat.{ℕ, zero, suc, _+_}
 use mathlib.Core.Bool.{Bool, cond}
 use mathlib.Core.List.{List}
@@ -12,7 +12,7 @@ unfoldable pub lastWhere : (ℕ → Bool) → ℕ → ℕ
 lastWhere t zero = 0
 lastWhere t (suc n) = cond (t n) (suc n) (lastWhere t n)
 
--- the row without its number `from`, where those behind it up to `to` have moved up and n stands at `to`
+-- the order without its number `from`, where those behind it up to `to` have moved up and n stands at `to`
 unfoldable pub shiftedAt : List ℕ → ℕ → ℕ → ℕ → ℕ → ℕ
 shiftedAt order from to n i = cond (ltb i from) (getD order i 0) (cond (ltb i to) (getD order (i + 1) 0) (cond (eqb i to) n (getD order i 0)))
 

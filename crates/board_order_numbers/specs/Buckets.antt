@@ -1,7 +1,7 @@
 -- No promise rests on this file: it serves the contracts of the pass's inner functions.
 --
--- Chains of a hash over a list of keys, 0 standing for none: where in the list the keys with one hash stand, the last one first. The list of heads has for each
--- hash 1 more than the last place below i with it, the list of links for each place 1 more than the place before it in its chain; 0 ends a chain.
+-- Buckets of a hash over a list of keys, 0 standing for none: where in the list the keys with one hash stand, the last one first. The list of heads has for each
+-- hash 1 more than the last place below i with it, the list of links for each place 1 more than the place before it in its bucket; 0 ends a bucket.
 use Prim.Native.Nat.{ℕ, _+_, _-_, _*_, _<_, _≤_, _%_, _/_}
 use mathlib.Core.Path.{_≡_}
 use mathlib.Core.List.{List}
@@ -25,12 +25,12 @@ low = 4294967296
 abbrev pub mix : ℕ
 mix = 2654435761
 
-abbrev pub top : ℕ
-top = 4194304
+abbrev pub lowestWorth : ℕ
+lowestWorth = 4194304
 
 -- the hash of a number
 unfoldable pub slotOf : ℕ → ℕ
-slotOf k = k % low * mix / top % slots
+slotOf k = k % low * mix / lowestWorth % slots
 
 -- place x holds a number with the hash h
 pub record Node (xs : List ℕ) (h x : ℕ) : Type 0 where
@@ -49,7 +49,7 @@ pub record Links (xs ns : List ℕ) (i : ℕ) : Type 0 where
   pub node : (x : ℕ) → x < i → (getD xs x 0 ≡ 0 → ⊥) → 0 < getD ns x 0 → Node xs (slotOf (getD xs x 0)) (getD ns x 0 - 1)
   pub all : (x j : ℕ) → x < i → j < x → (getD xs x 0 ≡ 0 → ⊥) → (getD xs j 0 ≡ 0 → ⊥) → slotOf (getD xs j 0) ≡ slotOf (getD xs x 0) → j < getD ns x 0
 
--- a walk of k's chain has come to p: no place from p on has k
+-- a walk of k's bucket has come to p: no place from p on has k
 pub record Walking (xs : List ℕ) (i k p : ℕ) : Type 0 where
   pub used : k ≡ 0 → ⊥
   pub low : p ≤ i

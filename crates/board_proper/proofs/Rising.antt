@@ -1,4 +1,4 @@
--- The numbers of a row so far name places whose versions rise from above 0. Assumes nothing.
+-- The numbers of an order so far name places whose versions rise from above 0. Assumes nothing.
 use Prim.Native.Nat.{ℕ, zero, suc, _+_, _<_, _≤_, max}
 use native.Mathlib.Omega.{arith}
 use mathlib.Core.Path.{_≡_, refl, sym, ap, _∙_}
@@ -13,7 +13,7 @@ use Rattle.board_record.specs.Order.{placeOn}
 use Rattle.board_record.proofs.Logic.{true≢false, same?, from?}
 use Rattle.board_order_numbers.specs.Numbers.{lateB}
 
--- the first i numbers of a row are places, their versions rise, and the last of these is `last`
+-- the first i numbers of an order are places, their versions rise, and the last of these is `last`
 pub record Risen (vs order : List ℕ) (i last : ℕ) : Type 0 where
   pub low : (j : ℕ) → j < i → placeOn order j < places
   pub above : (j : ℕ) → j < i → 0 < getD vs (placeOn order j) 0
