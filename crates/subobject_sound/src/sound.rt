@@ -3,8 +3,8 @@ ghost use mathlib.Core.Path.{_≡_};
 ghost use mathlib.Core.Bool.{true, false};
 ghost use Prim.Native.Nat.{_+_, _≤_};
 ghost use lib.ListN.{length};
-ghost use Rattle.forms.specs.Forms.{mplsForm, naiLength};
-ghost use Rattle.subobject.specs.Layout.{expectedLength};
+ghost use Rattle.forms.specs.Forms.{mplsForm, entrySize, naiLength};
+ghost use Rattle.subobject.specs.Layout.{bitLengths, expectedLength};
 ghost use Rattle.subobject.specs.Rules.{rule7, rule11, bitsAt, labelAt, sumAt};
 ghost use Rattle.subobject.specs.Inner.{OfLength, HeadSound, LabelSound};
 use forms::Form;
@@ -45,9 +45,9 @@ pub fn head_sound(form: Form, h: Head, ero: bool, n: bool) -> bool
     !subobject_rules::ten(h, ero, n)
 }
 
-// The sum of four octets.
+// The sum of four bit lengths.
 fn sum_in(s: &[u8], at: usize) -> usize
-    requires { ⌜ at + 4 ≤ length (now s) ⌝ }
+    requires { ⌜ at + bitLengths ≤ length (now s) ⌝ }
     ensures sum { λ r. ⌜ r ≡ sumAt (now (s .entry)) at ⌝ }
 {
     octets::wide(s[at])
@@ -69,7 +69,7 @@ pub fn structure_sound(form: Form, s: &[u8], at: usize, h: Head) -> bool
 
 // The label of the label stack entry at a place.
 fn label_in(s: &[u8], at: usize) -> usize
-    requires { ⌜ at + 4 ≤ length (now s) ⌝ }
+    requires { ⌜ at + entrySize ≤ length (now s) ⌝ }
     ensures label { λ r. ⌜ r ≡ labelAt (now (s .entry)) at ⌝ }
 {
     octets::wide(s[at]) * label_entry::FIRST_WORTH
@@ -79,7 +79,7 @@ fn label_in(s: &[u8], at: usize) -> usize
 
 // 29 and 30.
 pub fn label_sound(form: Form, s: &[u8], at: usize, h: Head) -> bool
-    requires { ⌜ (4 ≤ form .sid) × OfLength form h (now s) at ⌝ }
+    requires { ⌜ (entrySize ≤ form .sid) × OfLength form h (now s) at ⌝ }
     ensures sound { λ r. ⌜ (r ≡ true → LabelSound form h (now (s .entry)) at) ⌝ }
 {
     if label_rules::labelled(h) {
