@@ -9,6 +9,10 @@ use Rattle.board_record.specs.Proper.{pathOk}
 unfoldable pub bodyB : ℕ → ℕ → Bool
 bodyB length form = cond (eqb length 0) (eqb form 0) (pathOk length form)
 
--- a length in units; 16,384 or more where it is not a number of units
+-- above every length in units
+abbrev pub aboveLengths : ℕ
+aboveLengths = 16384
+
+-- a length in units; at least `aboveLengths` where it is not a number of units
 abbrev pub turnedOf : ℕ → ℕ
-turnedOf length = length / unit + length % unit * 16384
+turnedOf length = length / unit + length % unit * aboveLengths

@@ -19,13 +19,13 @@ const SRV6: u8 = objects::SRV6_SETUP as u8;
 const MPLS: u8 = objects::MPLS_SETUP as u8;
 
 // above every length in units
-const ABOVE: u16 = 16384;
+const ABOVE_LENGTHS: u16 = 16384;
 
-// A length in units; at least ABOVE where it is not a number of units.
+// A length in units; at least ABOVE_LENGTHS where it is not a number of units.
 fn turned(l: u16) -> u16
     ensures turned { λ r. ⌜ r ≡ turnedOf l ⌝ }
 {
-    l / UNIT + l % UNIT * ABOVE
+    l / UNIT + l % UNIT * ABOVE_LENGTHS
 }
 
 // Whether a length fits a form: that of a path, or 0 where there is none.

@@ -1,5 +1,5 @@
 -- The sizes and bounds of the table (document 01, "The board"), by the names that the code uses.
-use Prim.Native.Nat.{ℕ}
+use Prim.Native.Nat.{ℕ, _*_}
 use mathlib.Core.Bool.{cond}
 use lib.Dec.{eqb}
 use Rattle.objects.specs.Objects.{srv6Setup}
@@ -21,7 +21,7 @@ room = 384
 
 -- "Bodies lie in 49,152 lent octets"
 abbrev pub storeSize : ℕ
-storeSize = 49152
+storeSize = places * room
 
 -- "Keys are 1 to 1,048,574."
 abbrev pub keyLeast : ℕ

@@ -11,8 +11,8 @@ pub const GROUPS: usize = 16;
 // octets of the store that belong to a place: place i, from 0, starts at ROOM times i
 pub const ROOM: usize = 384;
 
-// octets of the store
-pub const STORE_SIZE: usize = 49152;
+// octets of the store: 49,152
+pub const STORE_SIZE: usize = PLACES * ROOM;
 
 // keys are 1 to 1,048,574
 pub const KEY_LEAST: u64 = 1;

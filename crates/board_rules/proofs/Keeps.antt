@@ -18,7 +18,7 @@ use Rattle.session.specs.declared.Session.{Session}
 use Rattle.route.specs.Routes.{judgeOf}
 use Rattle.route.proofs.Setups.{accepted-one, body-mpls, body-srv6}
 use Rattle.objects.specs.Objects.{unit, srv6Setup, mplsSetup}
-use Rattle.board_record.specs.Sizes.{places, room, bodyLeast, versionMost}
+use Rattle.board_record.specs.Sizes.{places, room, keyLeast, keyMost, bodyLeast, versionMost}
 use Rattle.board_record.specs.Table.{Table, tableOf, ListsWhole, keyAt, versionAt, lengthAt, formAt, Empty, Used, RemovalAt, bearing, entryAt, changed, removalB}
 use Rattle.board_record.specs.Search.{KeyPlace, placeOf, LowestEmpty, OldestRemoval, ReportPlace, keeps, takes, drops, targetOf, floorAfter}
 use Rattle.board_record.specs.Proper.{Proper, IsForm}
@@ -61,8 +61,8 @@ body-fits octets session pst z = ⊎-elim mpls srv6 (accepted-one octets true se
 report-fits : (b : Table)
     → Proper b
     → (k n pst i : ℕ)
-    → 1 ≤ k
-    → k ≤ 1048574
+    → keyLeast ≤ k
+    → k ≤ keyMost
     → Storable n pst
     → (b .version ≡ versionMost → ⊥)
     → i < places

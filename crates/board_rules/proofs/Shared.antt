@@ -15,30 +15,30 @@ use Rattle.board_record.specs.Order.{inOrder}
 use Rattle.board_record.specs.Tops.{inTops}
 use Rattle.board_record.specs.Record.{withRows}
 use Rattle.board_rules.specs.Rules.{isBoard, hasPath}
-use Rattle.board_rules.specs.Parts.{lengthIn, formIn}
+use Rattle.board_rules.specs.Parts.{columnIn}
 use Rattle.board_rules.specs.OnRecord.{isRecord}
 
 pub board-long : (b : Table) (order tops : List ℕ) (n : ℕ) (r : Bool) → storeSize ≤ n → r ≡ (properB b && inOrder b order && inTops (b .versions) tops)
     → r ≡ isRecord (withRows b order tops) n
 unfolding isRecord isBoard
-board-long b order tops n r l e = rw (le-leb 49152 n l) (e ∙ apart (properB b) (inOrder b order) (inTops (b .versions) tops))
+board-long b order tops n r l e = rw (le-leb storeSize n l) (e ∙ apart (properB b) (inOrder b order) (inTops (b .versions) tops))
   where
     apart : (p q t : Bool) → (p && q && t) ≡ (p && (q && t))
     apart true q t = refl
     apart false q t = refl
 
 -- at a place, the length and the form that the code reads are the table's
-pub length-here : (b : Table) (at n : ℕ) → at < places → n ≡ lengthIn (b .lengths) at → n ≡ lengthAt b at
-unfolding lengthIn
+pub length-here : (b : Table) (at n : ℕ) → at < places → n ≡ columnIn (b .lengths) at → n ≡ lengthAt b at
+unfolding columnIn
 length-here b at n l f = f ∙ rw (lt-ltb at 128 l)
 
-pub form-here : (b : Table) (at n : ℕ) → at < places → n ≡ formIn (b .forms) at → n ≡ formAt b at
-unfolding formIn
+pub form-here : (b : Table) (at n : ℕ) → at < places → n ≡ columnIn (b .forms) at → n ≡ formAt b at
+unfolding columnIn
 form-here b at n l f = f ∙ rw (lt-ltb at 128 l)
 
 -- the test for a path, on the numbers that the code has
-pub path-test : (b : Table) (k at n : ℕ) → at ≡ placeOf b k → n ≡ lengthIn (b .lengths) at → (ltb at places && not (eqb n 0)) ≡ hasPath b k
-unfolding hasPath lengthIn
+pub path-test : (b : Table) (k at n : ℕ) → at ≡ placeOf b k → n ≡ columnIn (b .lengths) at → (ltb at places && not (eqb n 0)) ≡ hasPath b k
+unfolding hasPath columnIn
 path-test b k at n e f = rw (f, ← e) (go (ltb at places))
   where
     go : (x : Bool) → x && not (eqb (cond x (getD (b .lengths) at 0) 0) 0) ≡ x && not (eqb (getD (b .lengths) at 0) 0)

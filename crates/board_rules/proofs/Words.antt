@@ -56,7 +56,7 @@ module _ (b : Table) (store : List ℕ) (k i : ℕ) (w : IsBoard b (length store
 
   range : inRange k ≡ true
   unfolding inRange
-  range = rw (le-leb 1 k low, le-leb k 1048574 high)
+  range = rw (le-leb keyLeast k low, le-leb k keyMost high)
 
   has : hasPath b k ≡ true
   has = path-has b (w .proper) k i (λ z. omega arith) x y

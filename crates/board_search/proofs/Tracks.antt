@@ -16,12 +16,12 @@ use Rattle.board_record.specs.Search.{leastWhere, oldestOf}
 use Rattle.board_record.specs.Proper.{properB}
 use Rattle.board_record.proofs.Proper.{Sound, properB-sound, proper-is}
 use Rattle.board_search.specs.declared.best.Best.{Best}
-use Rattle.board_search.specs.Best.{noBest, betterOf, bare}
+use Rattle.board_search.specs.Best.{noVersion, noBest, betterOf, bare}
 
 -- the best among the first n
 pub record Tracks (t : ℕ → Bool) (v : ℕ → ℕ) (n : ℕ) (b : Best) : Type 0 where
   pub at : b .at ≡ leastWhere t v n
-  pub version : b .version ≡ cond (ltb (leastWhere t v n) places) (v (leastWhere t v n)) 18446744073709551615
+  pub version : b .version ≡ cond (ltb (leastWhere t v n) places) (v (leastWhere t v n)) noVersion
 
 pub tracks-none : (t : ℕ → Bool) (v : ℕ → ℕ) → Tracks t v 0 noBest
 unfolding leastWhere
@@ -33,7 +33,7 @@ keep t v n b c r e f = rw f (record { at = rw e (r .at); version = rw e (r .vers
 take-it : (t : ℕ → Bool) (v : ℕ → ℕ) (n : ℕ) (c : Best) → n < places → leastWhere t v (suc n) ≡ n → c ≡ record { at = n; version = v n } → Tracks t v (suc n) c
 take-it t v n c l e f = rw f (record { at = sym e; version = rw (e, lt-ltb n 128 l) })
 
-tracks-step : (t : ℕ → Bool) (v : ℕ → ℕ) (n : ℕ) (b : Best) → Tracks t v n b → n < places → v n < 18446744073709551615 → Tracks t v (suc n) (betterOf b (t n) n (v n))
+tracks-step : (t : ℕ → Bool) (v : ℕ → ℕ) (n : ℕ) (b : Best) → Tracks t v n b → n < places → v n < noVersion → Tracks t v (suc n) (betterOf b (t n) n (v n))
 unfolding leastWhere betterOf
 tracks-step t v n b r l low = go (ltb (leastWhere t v n) 128) refl (t n) refl (leb (b .version) (v n)) refl
   where
@@ -54,7 +54,7 @@ tracks-step t v n b r l low = go (ltb (leastWhere t v n) 128) refl (t n) refl (l
     go false e false f false g = keep t v n b _ r (rw (leastWhere, f)) (rw (g, f))
 
 -- a turn of the loop, and its end
-pub tracks-more : (t : ℕ → Bool) (v : ℕ → ℕ) (i : ℕ) (a b : Best) → Tracks t v i a → i < places → v i < 18446744073709551615 → b ≡ betterOf a (t i) i (v i) → Tracks t v (i + 1) b
+pub tracks-more : (t : ℕ → Bool) (v : ℕ → ℕ) (i : ℕ) (a b : Best) → Tracks t v i a → i < places → v i < noVersion → b ≡ betterOf a (t i) i (v i) → Tracks t v (i + 1) b
 tracks-more t v i a b r l low e = rw (add-one, e) (tracks-step t v i a r l low)
 
 least-same : (t u : ℕ → Bool) (v : ℕ → ℕ) (n : ℕ) → ((i : ℕ) → i < n → t i ≡ u i) → leastWhere t v n ≡ leastWhere u v n
@@ -70,7 +70,7 @@ module _ (ks vs ls : List ℕ) (version floor : ℕ) (fs : List ℕ) (p : proper
   abbrev table : Table
   table = tableOf ks vs ls version floor fs
 
-  pub below : (i : ℕ) → i < places → getD vs i 0 < 18446744073709551615
+  pub below : (i : ℕ) → i < places → getD vs i 0 < noVersion
   below i l = omega (arith, properB-sound table p i l .high, proper-is table p .version-in)
 
   bare-is : (i : ℕ) → i < places → bare (getD vs i 0) (getD ls i 0) ≡ removalB table i

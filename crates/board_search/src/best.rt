@@ -3,9 +3,10 @@
 ghost use mathlib.Core.Path.{_≡_};
 ghost use Rattle.board_search.specs.Best.{betterOf, noBest, bare};
 use board_record::PLACES;
+use board_record::VERSION_MOST;
 
 // above every board's version, which is at most 2^64-2
-const NO_VERSION: u64 = 18446744073709551615;
+const NO_VERSION: u64 = VERSION_MOST + 1;
 
 pub struct Best {
     pub at: usize,

@@ -1,8 +1,9 @@
 -- What a record at the border stands for, and the record that an answer is handed out as (include/strundevi.h).
 -- `..In` reads a record that came in, `..Out` lays out an answer.
-use Prim.Native.Nat.{ℕ, min}
+use Prim.Native.Nat.{ℕ, _-_, min}
 use mathlib.Core.Bool.{Bool, cond, not}
 use lib.Dec.{eqb, ltb}
+use Rattle.octets.specs.Octets.{end16}
 use Rattle.answers.specs.declared.verdict.Verdict.{Verdict}
 pub use Rattle.octets.specs.Octets.{bit}
 use Rattle.msd.specs.Msd.{absent}
@@ -24,7 +25,7 @@ limitedFlag (Most n) = 1
 
 -- In a session the number has 16 bits; a larger one is handed out as the largest of these, which no route reaches.
 abbrev pub limitMost : ℕ
-limitMost = 65535
+limitMost = end16 - 1
 
 abbrev pub shortOf : Limit → ℕ
 shortOf Free = 0

@@ -35,7 +35,7 @@ pub fn most(limit: Limit) -> usize
 }
 
 // The largest limit that is handed out: the largest number of 16 bits.
-const LIMIT_MOST: usize = 65535;
+const LIMIT_MOST: usize = octets::END16 - 1;
 
 pub fn short_in(limited: u8, limit: u16) -> Limit
     ensures limit { λ r. ⌜ r ≡ limitIn limited limit ⌝ }

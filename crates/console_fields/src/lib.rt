@@ -16,12 +16,10 @@ use console_line_ends::labels_end;
 use console_line_ends::limit_field;
 use console_lines::ACCEPTED;
 use forms::Form;
+use printing::JOINT;
 use session::Opened;
 use subobject::Segment;
 use subobject_strays::Strays;
-use words::COMMA;
-
-const JOINT: [u8; 1] = [COMMA];
 
 // the octets that the line of an OPEN or of a segment takes at most
 pub const LONG: usize = 512;

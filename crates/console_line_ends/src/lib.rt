@@ -6,7 +6,7 @@ ghost use lib.ListN.{length};
 ghost use Rattle.printing.specs.Text.{Behind, fieldSize, spaced};
 ghost use Rattle.msd.specs.Msd.{depthIn};
 ghost use Rattle.console_lines.specs.Lines.{furtherWords};
-ghost use Rattle.console_line_ends.specs.Ends.{bit, limitText, depthText, mplsWords, flagWords, strayWords, labelWords};
+ghost use Rattle.console_line_ends.specs.Ends.{bit, limitText, depthText, mplsWords, mplsEndSize, flagWords, flagsEndSize, strayWords, straysEndSize, labelWords, labelsEndSize};
 use console_lines::END;
 use msd::ABSENT;
 use session::Limit;
@@ -50,9 +50,9 @@ fn depth_field(out: &mut [u8], at: usize, d: usize) -> usize
 
 // ` MPLS MN MLIMIT`, and the end of the line.
 fn mpls_end(out: &mut [u8], at: usize, o: Opened) -> usize
-    requires { ⌜ at + 64 ≤ length (now out) ⌝ }
+    requires { ⌜ at + mplsEndSize ≤ length (now out) ⌝ }
     ensures behind { λ r. ⌜ Behind (now (out .entry)) (now (out .exit)) at r (furtherWords (mplsWords o)) ⌝ }
-    ensures short { λ r. ⌜ r ≤ at + 64 ⌝ }
+    ensures short { λ r. ⌜ r ≤ at + mplsEndSize ⌝ }
 {
     let end = printing::field(out, at, bit(o.mpls));
     let end = printing::field(out, end, bit(o.mplsn));
@@ -63,9 +63,9 @@ fn mpls_end(out: &mut [u8], at: usize, o: Opened) -> usize
 
 // ` A R V M MPLS MN MLIMIT`, and the end of the line.
 pub fn flags_end(out: &mut [u8], at: usize, o: Opened) -> usize
-    requires { ⌜ at + 160 ≤ length (now out) ⌝ }
+    requires { ⌜ at + flagsEndSize ≤ length (now out) ⌝ }
     ensures behind { λ r. ⌜ Behind (now (out .entry)) (now (out .exit)) at r (furtherWords (flagWords o)) ⌝ }
-    ensures short { λ r. ⌜ r ≤ at + 160 ⌝ }
+    ensures short { λ r. ⌜ r ≤ at + flagsEndSize ⌝ }
 {
     let end = printing::field(out, at, bit(o.a));
     let end = printing::field(out, end, bit(o.r));
@@ -76,9 +76,9 @@ pub fn flags_end(out: &mut [u8], at: usize, o: Opened) -> usize
 
 // ` FLAGS SFLAGS RESERVED`, and the end of the line.
 fn strays_end(out: &mut [u8], at: usize, x: Strays) -> usize
-    requires { ⌜ at + 64 ≤ length (now out) ⌝ }
+    requires { ⌜ at + straysEndSize ≤ length (now out) ⌝ }
     ensures behind { λ r. ⌜ Behind (now (out .entry)) (now (out .exit)) at r (furtherWords (strayWords x)) ⌝ }
-    ensures short { λ r. ⌜ r ≤ at + 64 ⌝ }
+    ensures short { λ r. ⌜ r ≤ at + straysEndSize ⌝ }
 {
     let end = printing::field(out, at, x.flags as u64);
     let end = printing::field(out, end, x.structure as u64);
@@ -88,9 +88,9 @@ fn strays_end(out: &mut [u8], at: usize, x: Strays) -> usize
 
 // ` M C FLAGS SFLAGS RESERVED`, and the end of the line.
 pub fn labels_end(out: &mut [u8], at: usize, m: bool, c: bool, x: Strays) -> usize
-    requires { ⌜ at + 106 ≤ length (now out) ⌝ }
+    requires { ⌜ at + labelsEndSize ≤ length (now out) ⌝ }
     ensures behind { λ r. ⌜ Behind (now (out .entry)) (now (out .exit)) at r (furtherWords (labelWords m c x)) ⌝ }
-    ensures short { λ r. ⌜ r ≤ at + 106 ⌝ }
+    ensures short { λ r. ⌜ r ≤ at + labelsEndSize ⌝ }
 {
     let end = printing::field(out, at, bit(m));
     let end = printing::field(out, end, bit(c));

@@ -3,6 +3,7 @@ use Prim.Native.Nat.{ℕ, zero, suc, _+_, _-_, _*_, _%_}
 use mathlib.Core.Bool.{Bool, true, false, cond, not, _&&_, _||_}
 use mathlib.Core.List.{List, [], _∷_}
 use lib.Dec.{eqb, ltb, leb}
+use Rattle.octets.specs.Octets.{end16}
 use Rattle.words.specs.Words.{comma, dash, digitZero, digitNine, wordOf, wordsIn}
 use Rattle.same_octets.specs.Same.{sameOctets}
 use Rattle.decimal.specs.declared.Number.{Number}
@@ -26,9 +27,12 @@ abbrev pub isEmpty : List ℕ → Bool
 isEmpty [] = true
 isEmpty (c ∷ cs) = false
 
--- "0 to 2^64-1": there are 2^64 of them.
+-- "0 to 2^64-1", and how many these are
+abbrev pub mostNumber : ℕ
+mostNumber = 18446744073709551615
+
 abbrev pub numberRange : ℕ
-numberRange = 18446744073709551616
+numberRange = mostNumber + 1
 
 unfoldable pub isNumber : List ℕ → Bool
 isNumber w = not (isEmpty w) && (allDigits w && ltb (worth w 0) numberRange)
@@ -54,7 +58,7 @@ abbrev pub mostOctet : ℕ
 mostOctet = 255
 
 abbrev pub mostTwoOctets : ℕ
-mostTwoOctets = 65535
+mostTwoOctets = end16 - 1
 
 unfoldable pub isStructure : List ℕ → Bool
 isStructure w = isNone w || (eqb (wordsIn w comma) 4

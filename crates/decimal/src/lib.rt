@@ -7,12 +7,10 @@ ghost use Prim.Native.Nat.{_%_, _-_, _≤_, _<_};
 use octets::both;
 use octets::either;
 use words::COMMA;
-use words::DASH;
 use words::DIGIT_NINE;
 use words::DIGIT_ZERO;
+use words::NONE;
 use words::word;
-
-const NONE: [u8; 1] = [DASH];
 
 // the largest number that ten times itself and a digit more can be under 2^64
 const TENTH: u64 = 1844674407370955161;
@@ -23,7 +21,7 @@ const MOST_NUMBER: u64 = 18446744073709551615;
 // the largest number of one octet, and of two
 pub const MOST_OCTET: u64 = 255;
 
-pub const MOST_TWO_OCTETS: u64 = 65535;
+pub const MOST_TWO_OCTETS: u64 = (octets::END16 - 1) as u64;
 
 pub struct Number {
     pub good: bool,

@@ -2,7 +2,7 @@
 use Prim.Native.Nat.{ℕ, _+_, _*_, _/_, _%_}
 use mathlib.Core.Bool.{Bool, true, false, cond, not, _||_}
 use lib.Dec.{eqb}
-use Rattle.objects.specs.Objects.{mplsSetup, srv6Setup}
+use Rattle.objects.specs.Objects.{mplsSetup, srv6Setup, sidSize, naiSize}
 use Rattle.forms.specs.declared.Form.{Form}
 
 -- Values of NT: no NAI; a node of IPv4 and of IPv6; an adjacency of either; an unnumbered adjacency; a link-local adjacency (RFC 8664, 4.3.1).
@@ -43,8 +43,9 @@ adjacencySize = 32
 abbrev pub unnumberedSize : ℕ
 unnumberedSize = 16
 
+-- the longest, for which a segment has room
 abbrev pub linkLocalSize : ℕ
-linkLocalSize = 40
+linkLocalSize = naiSize
 
 -- The lengths of the NAIs for NT 1 to 6 are one number, with an octet for each: what that octet is worth.
 abbrev pub nt1 : ℕ
@@ -72,7 +73,7 @@ srv6Form =
       setup = srv6Setup;
       kind = 40;
       fixed = 8;
-      sid = 16;
+      sid = sidSize;
       v = 8;
       t = 4;
       f = 2;
@@ -84,6 +85,10 @@ srv6Form =
       nais = nodeSize * nt2 + adjacencySize * nt4 + linkLocalSize * nt6;
     }
 
+-- The octets of a label stack entry, which the SID of MPLS has.
+abbrev pub entrySize : ℕ
+entrySize = 4
+
 -- RFC 8664, 4.3.1: type 36; the last four flags are F, S, C, M, with M lowest, and V stands before them (document 003); NAI for NT 1 to 6.
 abbrev pub mplsForm : Form
 mplsForm =
@@ -91,7 +96,7 @@ mplsForm =
       setup = mplsSetup;
       kind = 36;
       fixed = 4;
-      sid = 4;
+      sid = entrySize;
       v = 16;
       t = 0;
       f = 8;

@@ -13,6 +13,8 @@ ghost use mathlib.Core.Path.{_≡_};
 ghost use Prim.Native.Nat.{_≤_};
 ghost use Rattle.forms.specs.Forms.{srv6Form, mplsForm, formOf, flagIn, naiLength, knows};
 use objects::MPLS_SETUP;
+use objects::NAI_SIZE;
+use objects::SID_SIZE;
 use objects::SRV6_SETUP;
 
 // values of NT: no NAI; a node of IPv4 and of IPv6; an adjacency of either; one of two nodes with an interface of each; one of link-local addresses
@@ -41,7 +43,8 @@ pub const ADJACENCY_SIZE: usize = 32;
 
 pub const UNNUMBERED_SIZE: usize = 16;
 
-pub const LINK_LOCAL_SIZE: usize = 40;
+// the longest, for which a segment has room
+pub const LINK_LOCAL_SIZE: usize = NAI_SIZE;
 
 // what the octet of an NT is worth among the lengths of NAIs
 const NT1: u64 = 256;
@@ -69,12 +72,12 @@ pub const MPLS_NAIS: u64 = SRV6_NAIS
     + IPV4_ADJACENCY_SIZE as u64 * NT3
     + UNNUMBERED_SIZE as u64 * NT5;
 
-// what S is worth in octet 3 of MPLS; its octets before the SID, and those of the SID
+// what S is worth in octet 3 of MPLS; its octets before the SID; those of a label stack entry, which its SID has
 pub const MPLS_S: usize = 4;
 
 pub const MPLS_FIXED: usize = 4;
 
-pub const MPLS_SID: usize = 4;
+pub const ENTRY_SIZE: usize = 4;
 
 // the last NT that a form may know
 const LAST_NT: usize = LINK_LOCAL;
@@ -108,7 +111,7 @@ pub fn srv6() -> Form
         setup: SRV6_SETUP as u8,
         kind: 40,
         fixed: 8,
-        sid: 16,
+        sid: SID_SIZE as u8,
         v: 8,
         t: 4,
         f: 2,
@@ -128,7 +131,7 @@ pub fn mpls() -> Form
         setup: MPLS_SETUP as u8,
         kind: 36,
         fixed: MPLS_FIXED as u8,
-        sid: MPLS_SID as u8,
+        sid: ENTRY_SIZE as u8,
         v: 16,
         t: 0,
         f: 8,

@@ -1,11 +1,11 @@
 -- The frame of a route object, taken apart once, and the rules 4, 5, 6 and 14 over it (document 01, "The route object").
-use Prim.Native.Nat.{ℕ, zero, suc, _+_, _-_, _/_, _%_}
+use Prim.Native.Nat.{ℕ, zero, suc, _+_, _-_, _%_}
 use mathlib.Core.List.{List, [], _∷_}
 use mathlib.Core.Bool.{Bool, true, false, cond, not, _&&_, _||_}
 use lib.ListN.{length}
 use lib.Dec.{ltb, leb, eqb}
-use Rattle.octets.specs.Octets.{octetOf, be16}
-use Rattle.objects.specs.Objects.{header, unit, classPlace, typePlace, lengthPlace, typeWorth, eroClass, rroClass, objectType}
+use Rattle.octets.specs.Octets.{octetOf}
+use Rattle.objects.specs.Objects.{header, unit, objectClass, objectKind, objectLength, eroClass, rroClass, objectType}
 use Rattle.answers.specs.Numbers.{frameBroken, routeEmpty, kindsMixed, noneOfForm}
 use Rattle.subobject.specs.Layout.{kindOf, sizeAt}
 use Rattle.frame.specs.Checks.{Check, check}
@@ -20,8 +20,8 @@ classOf ero = cond ero eroClass rroClass
 unfoldable pub headed : List ℕ → Bool → Bool
 headed s ero =
     not (ltb (length s) header)
-    && (eqb (octetOf s classPlace) (classOf ero)
-    && (eqb (octetOf s typePlace / typeWorth) objectType && (eqb (be16 s lengthPlace) (length s) && eqb (length s % unit) 0)))
+    && (eqb (objectClass s) (classOf ero)
+    && (eqb (objectKind s) objectType && (eqb (objectLength s) (length s) && eqb (length s % unit) 0)))
 
 -- "Each subobject length is a multiple of 4, at least 4, and fits" into what is left.
 unfoldable pub fitsIn : ℕ → ℕ → Bool

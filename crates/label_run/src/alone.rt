@@ -6,11 +6,12 @@ ghost use lib.Dec.{eqb, ltb};
 ghost use lib.ListN.{length};
 ghost use Rattle.octets.specs.Octets.{end16};
 ghost use Rattle.objects.specs.Objects.{header};
+ghost use Rattle.forms.specs.Forms.{entrySize};
 ghost use Rattle.subobject.specs.Rules.{labelAt, firstFree, goodLabel};
 ghost use Rattle.label_run.specs.Alone.{labelSize, LabelAlone, AloneTo};
 
-// The octets of a label alone, and its first four as a number: type 36, 8 octets, NT 0, F and M.
-pub const LABEL_SIZE: usize = forms::MPLS_FIXED + forms::MPLS_SID;
+// The octets of a label alone, and its first four as a number: type 36, 8 octets, NT 0 (octet 2 is 0), F and M (octet 3 is 9).
+pub const LABEL_SIZE: usize = forms::MPLS_FIXED + forms::ENTRY_SIZE;
 
 const ALONE: usize = 604504073;
 
@@ -24,7 +25,7 @@ pub const TTL_PLACE: usize = ENTRY_PLACE + label_entry::TIME_PLACE;
 
 // Of the labels below 16 only 7 may stand in a route: the label of the label stack entry at a place is above them if one of its first 16 bits is set.
 pub fn label_good(s: &[u8], at: usize) -> bool
-    requires { ⌜ at + 4 ≤ length (now s) ⌝ }
+    requires { ⌜ at + entrySize ≤ length (now s) ⌝ }
     ensures good { λ r. ⌜ (r ≡ true → (ltb (labelAt (now (s .entry)) at) firstFree && not (eqb (labelAt (now (s .entry)) at) goodLabel)) ≡ false) ⌝ }
 {
     if octets::read16(s, at) != 0 {

@@ -9,6 +9,7 @@ pub use logic::either;
 pub use logic::pick;
 pub use put::copy;
 pub use put::lay;
+pub use take::END16;
 pub use take::octet;
 pub use take::padded;
 pub use take::part4;

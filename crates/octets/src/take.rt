@@ -4,6 +4,9 @@ ghost use Prim.Native.Nat.{_+_, _*_, _≤_, _<_};
 ghost use lib.ListN.{length};
 ghost use Rattle.octets.specs.Octets.{octetOf, be16, end16, pad4, partOf};
 
+// what two octets say is below this
+pub const END16: usize = 65536;
+
 pub fn wide(x: u8) -> usize
     ensures same { λ r. ⌜ (r ≡ x) × (r < 256) ⌝ }
 {

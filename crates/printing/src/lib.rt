@@ -7,8 +7,8 @@ ghost use mathlib.Core.List.{[], _∷_};
 ghost use lib.ListN.{length};
 ghost use Rattle.printing.specs.Text.{Behind, numberSize, fieldSize, decimalOf, glyphOf, hexOf, octetsText, furtherText, listText, spaced};
 use words::COMMA;
-use words::DASH;
 use words::DIGIT_ZERO;
+use words::NONE;
 use words::SPACE;
 use words::UPPER_ABOVE;
 
@@ -17,9 +17,8 @@ const NUMBER_SIZE: usize = 20;
 
 const GAP: [u8; 1] = [SPACE];
 
-const NONE: [u8; 1] = [DASH];
-
-const JOINT: [u8; 1] = [COMMA];
+// `,`
+pub const JOINT: [u8; 1] = [COMMA];
 
 // `src` behind the text.
 pub fn push(out: &mut [u8], at: usize, src: &[u8]) -> usize

@@ -5,7 +5,7 @@
 // octets of its NAI, which are its local address, are one of the head end's addresses. Whether it has a SID is no matter.
 // H.Encaps' v then permits v + 1; what Segments Left permits stays. Only SRv6's session has A and R, so the segment is read in SRv6's form.
 ghost use mathlib.Core.Path.{_≡_};
-ghost use Prim.Native.Nat.{_≤_};
+ghost use Prim.Native.Nat.{_+_, _≤_};
 ghost use Rattle.objects.specs.Objects.{header};
 ghost use Rattle.forms.specs.Forms.{srv6Form, flagIn};
 ghost use Rattle.subobject.specs.Layout.{naiPlace};
@@ -17,12 +17,14 @@ use msd::ABSENT;
 use objects::HEADER;
 use session::Limit;
 use session::Session;
+use subobject::FLAGS_PLACE;
+use subobject::LOW_FLAGS_PLACE;
 use subobject::WORTH_NT;
 
 // The places of NT and of the flags of the first segment.
-const FIRST_NT: usize = HEADER + 2;
+const FIRST_NT: usize = HEADER + FLAGS_PLACE;
 
-const FIRST_FLAGS: usize = HEADER + 3;
+const FIRST_FLAGS: usize = HEADER + LOW_FLAGS_PLACE;
 
 // Whether an NT is that of an adjacency.
 fn adjacency(nt: usize) -> bool
@@ -33,7 +35,7 @@ fn adjacency(nt: usize) -> bool
 
 // Where the local address of the first segment stands, by its flags: behind the SID if there is one.
 fn local_place(flags: usize) -> usize
-    ensures place { λ r. ⌜ (r ≡ naiPlace srv6Form (flagIn flags (srv6Form .s)) header) × (r ≤ 28) ⌝ }
+    ensures place { λ r. ⌜ (r ≡ naiPlace srv6Form (flagIn flags (srv6Form .s)) header) × (r ≤ header + srv6Form .fixed + srv6Form .sid) ⌝ }
 {
     let form = forms::srv6();
     let fixed = octets::wide(form.fixed);

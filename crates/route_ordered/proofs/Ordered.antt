@@ -13,7 +13,7 @@ use Rattle.answers.specs.declared.verdict.Verdict.{Verdict}
 use Rattle.answers.specs.Numbers.{notAgreed}
 use Rattle.answers.specs.Verdicts.{refusedBy, acceptedWith, carryingBoth}
 use Rattle.session.specs.declared.Session.{Session}
-use Rattle.octets.specs.Octets.{be16}
+use Rattle.octets.specs.Octets.{be16, end16}
 use Rattle.objects.specs.Objects.{header}
 use Rattle.octets.proofs.Said.{both-true}
 use Rattle.frame.specs.Checks.{check, firstBroken}
@@ -45,7 +45,7 @@ frame-sound ero s e = both-true (headed s ero) (apartOf s .whole) (not-false _ e
 
 -- The octets' number is that of two octets.
 pub frame-bounds : (ero : Bool) (s : List ℕ) → rule4 s ero ≡ false → getD s 2 0 < 256 → getD s 3 0 < 256
-    → (header ≤ length s) × (length s < 65536) × (apartOf s .whole ≡ true)
+    → (header ≤ length s) × (length s < end16) × (apartOf s .whole ≡ true)
 unfolding be16
 frame-bounds ero s e h l =
     let f = frame-sound ero s e in

@@ -3,6 +3,7 @@ use Prim.Native.Nat.{ℕ, _<_, _/_, _%_}
 use mathlib.Core.Path.{_≡_}
 use mathlib.Core.List.{List}
 use mathlib.Core.Bool.{Bool}
+use Rattle.octets.specs.Octets.{end16}
 use Rattle.answers.specs.Verdicts.{acceptedWith, carryingBoth}
 use Rattle.forms.specs.declared.Form.{Form}
 use Rattle.frame.specs.Gathered.{frameOf}
@@ -13,9 +14,9 @@ pub record Settled (form : Form) (s : List ℕ) (ero n : Bool) (count stray : �
   pub frame : frameOf s ero (form .kind) ≡ acceptedWith count
   pub walk : walkOf form s ero n count ≡ carryingBoth count stray
 
--- What a pass hands back is one number: the segments, and those that are stray times this. A route of fewer than 65,536 octets has fewer of both.
+-- What a pass hands back is one number: the segments, and those that are stray times this. A route of fewer octets has fewer of both.
 abbrev pub strayWorth : ℕ
-strayWorth = 65536
+strayWorth = end16
 
 -- What such a number settles; 0 settles nothing.
 abbrev pub SettledBy : Form → List ℕ → Bool → Bool → ℕ → Type 0

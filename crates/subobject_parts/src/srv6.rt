@@ -5,12 +5,13 @@ ghost use Prim.Native.Nat.{_+_, _≤_};
 ghost use lib.ListN.{length};
 ghost use Rattle.octets.specs.Octets.{partOf};
 ghost use Rattle.forms.specs.Forms.{srv6Form, naiLength, knows};
+ghost use Rattle.subobject.specs.Layout.{sidSize, naiSize};
 use super::eights;
 
 // The SID at a place, if there is one.
 pub fn sid_srv6(s: &[u8], there: bool, at: usize) -> [u8; 16]
     requires { ⌜ at + cond there (srv6Form .sid) 0 ≤ length (now s) ⌝ }
-    ensures part { λ r. ⌜ r ≡ partOf (now (s .entry)) at (cond there (srv6Form .sid) 0) 16 ⌝ }
+    ensures part { λ r. ⌜ r ≡ partOf (now (s .entry)) at (cond there (srv6Form .sid) 0) sidSize ⌝ }
 {
     if there {
         return eights::sid_16(s, at);
@@ -21,7 +22,7 @@ pub fn sid_srv6(s: &[u8], there: bool, at: usize) -> [u8; 16]
 // The NAI of an NT at a place.
 pub fn nai_srv6(s: &[u8], nt: usize, at: usize) -> [u8; 40]
     requires { ⌜ (at + naiLength srv6Form nt ≤ length (now s)) × (knows srv6Form nt ≡ true) ⌝ }
-    ensures part { λ r. ⌜ r ≡ partOf (now (s .entry)) at (naiLength srv6Form nt) 40 ⌝ }
+    ensures part { λ r. ⌜ r ≡ partOf (now (s .entry)) at (naiLength srv6Form nt) naiSize ⌝ }
 {
     if nt == forms::NO_NAI {
         return [0u8; 40];

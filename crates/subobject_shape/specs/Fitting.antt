@@ -14,7 +14,13 @@ pub record Fitting (h : Head) (needed : Bool) : Type 0 where
   pub seven : rule7 mplsForm h ≡ false
   pub sid : (needed && eqb (h .s) 1) ≡ false
 
--- Two bits for each of the 16 ways in which F, S, C and M are set: 1 where they go with NT 0, 2 where with NT 1 to 6, 0 where with none; without S where a SID is
--- needed.
+-- Two bits for each of the 16 ways in which F, S, C and M are set: 1 where they go with NT 0, 2 where with NT 1 to 6, 0 where with none.
+abbrev pub ways : ℕ
+ways = 4522634
+
+-- The same where a SID is needed: without S.
+abbrev pub waysWithSid : ℕ
+waysWithSid = 4522122
+
 abbrev pub allowedBy : Bool → ℕ
-allowedBy needed = cond needed 4522122 4522634
+allowedBy needed = cond needed waysWithSid ways

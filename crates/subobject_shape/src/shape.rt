@@ -19,17 +19,18 @@ ghost use Rattle.subobject_shape.specs.Fitting.{Fitting, allowedBy};
 use subobject::Head;
 
 // Two bits for each of the 16 ways in which F, S, C and M are set: 1 where they go with NT 0, 2 where with NT 1 to 6, 0 where with none.
-const ANY: usize = 4522634;
+// From the lowest, with M worth 1, C 2, S 4 and F 8: 2 2 0 2, 2 0 0 0, 1 1 0 1, 0 0 0 0.
+const WAYS: usize = 4522634;
 
-// The same where a SID is needed.
-const WITH_SID: usize = 4522122;
+// The same where a SID is needed: 0 where S is set.
+const WAYS_WITH_SID: usize = 4522122;
 
-// Two bits for each NT: 1 for 0, 2 for 1 to 6, 3 for those above.
+// Two bits for each NT, that of 0 the lowest: 1 for 0, 2 for 1 to 6, 3 for 7 to 15.
 const NAMED: usize = 4294961833;
 
 // An octet for each NT to 6: the length with a SID.
 const LENGTHS: usize = (forms::MPLS_NAIS
-    + (forms::MPLS_FIXED + forms::MPLS_SID) as u64 * forms::EACH_NT) as usize;
+    + (forms::MPLS_FIXED + forms::ENTRY_SIZE) as u64 * forms::EACH_NT) as usize;
 
 // the low bits of octet 3 that are F, S, C and M
 const FOUR_BITS: usize = 16;
@@ -38,7 +39,7 @@ const FOUR_BITS: usize = 16;
 fn allowed(needed: bool) -> usize
     ensures allowed { λ r. ⌜ r ≡ allowedBy needed ⌝ }
 {
-    if needed { WITH_SID } else { ANY }
+    if needed { WAYS_WITH_SID } else { WAYS }
 }
 
 // Whether octets 1 to 3 are of a subobject that breaks none of these rules; 10 by whether a SID is needed.
@@ -51,7 +52,7 @@ fn fits(size: usize, high: usize, low: usize, needed: bool) -> bool
     if (allowed(needed) >> (2 * flags)) % 4 != (NAMED >> (2 * nt)) % 4 {
         return false;
     }
-    size + flags / forms::MPLS_S % 2 * forms::MPLS_SID == (LENGTHS >> (8 * nt)) % 256
+    size + flags / forms::MPLS_S % 2 * forms::ENTRY_SIZE == (LENGTHS >> (8 * nt)) % 256
 }
 
 // The same of the subobject at a place, which has the head h.

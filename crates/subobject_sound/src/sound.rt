@@ -3,7 +3,7 @@ ghost use mathlib.Core.Path.{_≡_};
 ghost use mathlib.Core.Bool.{true, false};
 ghost use Prim.Native.Nat.{_+_, _≤_};
 ghost use lib.ListN.{length};
-ghost use Rattle.forms.specs.Forms.{mplsForm, naiLength};
+ghost use Rattle.forms.specs.Forms.{mplsForm, entrySize, naiLength};
 ghost use Rattle.subobject.specs.Layout.{expectedLength};
 ghost use Rattle.subobject.specs.Rules.{rule7, rule11, bitsAt, labelAt};
 ghost use Rattle.subobject.specs.Inner.{OfLength, HeadSound, LabelSound};
@@ -59,7 +59,7 @@ pub fn structure_sound(form: Form, h: Head, s: &[u8], at: usize) -> bool
 
 // The label of the label stack entry at a place. `label_entry::label_at` reads octets past the end as 0; here the entry is there, and the pass asks for no end.
 fn label_in(s: &[u8], at: usize) -> usize
-    requires { ⌜ at + 4 ≤ length (now s) ⌝ }
+    requires { ⌜ at + entrySize ≤ length (now s) ⌝ }
     ensures label { λ r. ⌜ r ≡ labelAt (now (s .entry)) at ⌝ }
 {
     octets::wide(s[at]) * label_entry::FIRST_WORTH
@@ -69,7 +69,7 @@ fn label_in(s: &[u8], at: usize) -> usize
 
 // 29 and 30.
 pub fn label_sound(form: Form, h: Head, s: &[u8], at: usize) -> bool
-    requires { ⌜ (4 ≤ form .sid) × OfLength form h (now s) at ⌝ }
+    requires { ⌜ (entrySize ≤ form .sid) × OfLength form h (now s) at ⌝ }
     ensures sound { λ r. ⌜ (r ≡ true → LabelSound form h (now (s .entry)) at) ⌝ }
 {
     if label_rules::labelled(h) {

@@ -22,8 +22,11 @@ strayFlags form s at = be16 s (at + flagsPlace) % allFlags / form .free * form .
 abbrev pub structureReserved : Form → Head → ℕ → ℕ
 structureReserved form h at = structurePlace form (h .nt) at + bitLengths
 
+abbrev pub structureReservedSize : ℕ
+structureReservedSize = 3
+
 unfoldable pub structureFlags : Form → Head → List ℕ → ℕ → ℕ
-structureFlags form h s at = cond (hasStructure h) (octetOf s (structureReserved form h at + 3)) 0
+structureFlags form h s at = cond (hasStructure h) (octetOf s (structureReserved form h at + structureReservedSize)) 0
 
 -- "4-5 reserved", where the form has them, and the structure's three where it is there.
 abbrev pub reservedPlace : ℕ

@@ -9,7 +9,7 @@ ghost use Rattle.forms.specs.Forms.{srv6Form};
 ghost use Rattle.forms.specs.Sized.{Sized};
 ghost use Rattle.subobject.specs.Layout.{expectedLength};
 ghost use Rattle.subobject.specs.Inner.{OfLength};
-ghost use Rattle.subobject_strays.specs.Four.{straysWith, markedAt, endingMarked};
+ghost use Rattle.subobject_strays.specs.Four.{structureEnding, straysWith, markedAt, endingMarked};
 ghost use Rattle.subobject_strays.specs.Strays.{allFlags, reservedPlace, strayFlags, straysBy, noStrays, strayOne};
 use forms::Form;
 use subobject::FLAGS_PLACE;
@@ -18,11 +18,16 @@ use subobject::Head;
 // what NT's lowest bit is worth in the two octets that it shares with the flags
 pub const ALL_FLAGS: usize = 4096;
 
-// octets 2 to 5 of SRv6, the first the lowest, without NT, V, T, F and S
+// octets 2 to 5 of SRv6, the first the lowest, without NT, V, T, F and S: 15 of octet 2, 240 of octet 3, all of octets 4 and 5
 const SRV6_STRAY_BITS: usize = 4294963215;
 
 // the first of two reserved octets
 pub const RESERVED_PLACE: usize = 4;
+
+// the reserved octets of a structure, which stand before its flags; and all that stands behind its bit lengths
+const STRUCTURE_RESERVED_SIZE: usize = 3;
+
+const STRUCTURE_ENDING: usize = subobject::STRUCTURE_SIZE - subobject::BIT_LENGTHS;
 
 pub struct Strays {
     pub flags: u16,
@@ -63,13 +68,13 @@ fn reserved_two(form: Form, s: &[u8], at: usize) -> usize
 
 // The strays with a structure whose last four octets stand at p.
 fn with_structure(s: &[u8], p: usize, flags: usize, fixed: usize) -> Strays
-    requires { ⌜ (p + 4 ≤ length (now s)) × (flags < allFlags) ⌝ }
+    requires { ⌜ (p + structureEnding ≤ length (now s)) × (flags < allFlags) ⌝ }
     ensures strays { λ r. ⌜ r ≡ straysWith (now (s .entry)) p flags fixed ⌝ }
 {
     let more = octet_sums::sum_three(s, p);
     Strays {
         flags: flags as u16,
-        structure: s[p + 3],
+        structure: s[p + STRUCTURE_RESERVED_SIZE],
         reserved: octets::either(fixed != 0, more != 0),
     }
 }
@@ -122,7 +127,7 @@ fn ending_marked(form: Form, h: Head, s: &[u8], at: usize) -> bool
     ensures marked { λ r. ⌜ r ≡ endingMarked h (now (s .entry)) at ⌝ }
 {
     if subobject::structured(h) {
-        return octet_sums::four(s, at + h.size - 4) != 0;
+        return octet_sums::four(s, at + h.size - STRUCTURE_ENDING) != 0;
     }
     false
 }

@@ -12,6 +12,9 @@ pub const COMMA: u8 = 44;
 // `-`
 pub const DASH: u8 = 45;
 
+// the word for none
+pub const NONE: [u8; 1] = [DASH];
+
 pub const NEWLINE: u8 = 10;
 
 // `0` to `9`

@@ -24,7 +24,7 @@ use Rattle.writer_front.specs.Front.{barred, frontOf}
 use Rattle.writer_layout.specs.Readable.{Readable}
 use Rattle.writer_layout.specs.Parts.{Parts}
 use Rattle.writer_rules.specs.Looked.{Looked}
-use Rattle.writer_rules.specs.Refusals.{addNumber}
+use Rattle.writer_rules.specs.Refusals.{mostOctets, addNumber}
 use Rattle.writer_rules.proofs.Laws.{Taken, taken, Fits, fits-by, barred-number}
 use Rattle.writer_state.specs.declared.Writer.{Writer}
 use Rattle.writer_state.specs.declared.Written.{Written}
@@ -74,7 +74,7 @@ module _ {form : Form} {g : Segment} {h : Head} {front n size : ℕ} (k : Looked
     fit : Fits form g front n size
     fit = fits-by k (w .ero) (placed-in .segment .fit)
 
-    pub end-most : w .at + size ≤ 65532
+    pub end-most : w .at + size ≤ mostOctets
     end-most = omega (arith, fit .all, placed-in .end .most)
 
     pub write-asks : (Typed g) × (h ≡ headOfOutline form (outlineOf g)) × (rule8 form h ≡ false)

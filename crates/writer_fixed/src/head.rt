@@ -12,7 +12,10 @@ ghost use Rattle.writer_spare.specs.NaiSizes.{Known};
 ghost use Rattle.writer_fixed.specs.Small.{Small};
 use forms::Form;
 use subobject::BEHAVIOUR_PLACE;
+use subobject::FLAGS_PLACE;
 use subobject::Head;
+use subobject::LOW_FLAGS_PLACE;
+use subobject::SIZE_PLACE;
 use subobject_strays::RESERVED_PLACE;
 
 // the second octets of the reserved ones and of the behaviour
@@ -74,9 +77,9 @@ fn four(out: &mut [u8], form: Form, h: Head, size: usize)
     ensures four { λ _. ⌜ now (out .exit) ≡ over ((h .l * worthL + h .kind) ∷ h .size ∷ (h .nt * worthNT) ∷ flagsOctet form h ∷ []) (now (out .entry)) ⌝ }
 {
     out[0] = (h.l * subobject::WORTH_L + kind(form, h)) as u8;
-    out[1] = size as u8;
-    out[2] = (h.nt * subobject::WORTH_NT) as u8;
-    out[3] = flags(form, h) as u8;
+    out[SIZE_PLACE] = size as u8;
+    out[FLAGS_PLACE] = (h.nt * subobject::WORTH_NT) as u8;
+    out[LOW_FLAGS_PLACE] = flags(form, h) as u8;
 }
 
 // Two reserved octets and the endpoint behaviour.

@@ -3,7 +3,7 @@
 use Prim.Native.Nat.{ℕ, _+_, _*_, _/_, _%_, _≤_, _<_}
 use mathlib.Core.Path.{_≡_}
 use Rattle.forms.specs.declared.Form.{Form}
-use Rattle.forms.specs.Forms.{formOf, flagIn, naiLength}
+use Rattle.forms.specs.Forms.{entrySize, formOf, flagIn, naiLength}
 use Rattle.writer_spare.specs.NaiSizes.{NaiOctets}
 
 -- Six flags in one octet, each at what it is worth.
@@ -38,7 +38,7 @@ pub record Readable (form : Form) : Type 0 where
   pub kind : form .kind < 128
   -- parts are multiples of 4 octets, an NAI has one of six lengths, and a label fits into a SID
   pub sid : form .sid % 4 ≡ 0
-  pub label : 4 ≤ form .sid
+  pub label : entrySize ≤ form .sid
   pub nai : (nt : ℕ) → naiLength form nt % 4 ≡ 0
   pub sizes : (nt : ℕ) → NaiOctets (naiLength form nt)
   -- all flags fit into an octet, and stand apart in it

@@ -23,7 +23,7 @@ pub fn lay_sid(out: &mut [u8], form: Form, sid: &[u8], there: bool)
         return;
     }
     let f = forms::mpls();
-    let whole = octets::part4(sid, 0, forms::MPLS_SID);
+    let whole = octets::part4(sid, 0, forms::ENTRY_SIZE);
     octets::lay(out, octets::wide(f.fixed), &whole);
 }
 

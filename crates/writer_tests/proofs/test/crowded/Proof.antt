@@ -3,6 +3,7 @@ use mathlib.Core.Path.{sym, _∙_}
 use native.Mathlib.Omega.{arith}
 use borrow.Author.Tests.{ltb-false}
 use Rattle.octets.proofs.Said.{either-false}
+use Rattle.writer_tests.specs.Places.{mostOctets}
 use Rattle.writer_tests.proofs.Laws.{crowd-low, crowd-odd, crowd-end}
 use borrow.Author.Needs.{needs}
 use Rattle.writer_tests.proofs.test.crowded.Statement.{statement}
@@ -25,7 +26,7 @@ add-past : tie.Need-add-past
 add-past c =
     let b2 = c .before .before in
     let b3 = b2 .before in
-    let k = either-false (ltb (b3 .args .at) 4) (ltb 65532 (b3 .args .at)) (sym (b2 .either .ensures) ∙ c .before .if1 .left) in omega (arith, ltb-false 65532 (b3 .args .at) (k .1), b3 .pre)
+    let k = either-false (ltb (b3 .args .at) 4) (ltb mostOctets (b3 .args .at)) (sym (b2 .either .ensures) ∙ c .before .if1 .left) in omega (arith, ltb-false mostOctets (b3 .args .at) (k .1), b3 .pre)
 
 past-requires : tie.Need-past-requires
 past-requires c κs = search needs
