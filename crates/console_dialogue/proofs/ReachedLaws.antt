@@ -29,6 +29,6 @@ unfolding hearAll
 heard-all g read at h = rw (drop-of-length-le read h)
 
 pub start-made : {s : State} {store : List ℕ} (line memory : List ℕ) → s ≡ stateAtStart → store ≡ storeAtStart
-    → heardOf (record { state = s; kept = 0; lines = 0 }) line store memory ≡ heardAtStart
+    → heardOf (record { state = s; kept = 0; lines = 0 }) store memory line ≡ heardAtStart
 unfolding writerPart listIn
 start-made line memory p q = rw (p, q)

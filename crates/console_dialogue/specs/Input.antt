@@ -58,7 +58,7 @@ sayWhole input = sayAll heardAtStart input ++ turnNow (hearAll heardAtStart inpu
 
 -- what a state stands for, with what is kept of the line, the store and the memory of the writer's buffer
 abbrev pub heardOf : Hearing → List ℕ → List ℕ → List ℕ → Dialogue
-heardOf h line store memory = record { console = consoleOf (h .state) store memory; lines = h .lines; line = take (h .kept) line }
+heardOf h store memory line = record { console = consoleOf (h .state) store memory; lines = h .lines; line = take (h .kept) line }
 
 -- What is lent is large enough, and the octets that are kept lie within the line's.
 pub record ReadyToHear (kept : ℕ) (line store memory room out : List ℕ) : Type 0 where

@@ -15,4 +15,4 @@ pub record Ended (h : Hearing) : Type 0 where
   pub line : List ℕ
   pub store : List ℕ
   pub memory : List ℕ
-  pub reached : Reached (heardOf h line store memory)
+  pub reached : Reached (heardOf h store memory line)

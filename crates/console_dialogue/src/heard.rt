@@ -29,8 +29,8 @@ pub fn answer(
     out: &mut [u8],
 ) -> Said
     requires { ⌜ ReadyToHear (h .kept) (now line) (now store) (now memory) (now room) (now out) ⌝ }
-    ensures heard { λ r. ⌜ heardOf (r .hearing) (now (line .entry)) (now (store .exit)) (now (memory .exit)) ≡ lineEnded (heardOf h (now (line .entry)) (now (store .entry)) (now (memory .entry))) ⌝ }
-    ensures told { λ r. ⌜ Behind (now (out .entry)) (now (out .exit)) 0 (r .end) (turnNow (heardOf h (now (line .entry)) (now (store .entry)) (now (memory .entry))) .answer) ⌝ }
+    ensures heard { λ r. ⌜ heardOf (r .hearing) (now (store .exit)) (now (memory .exit)) (now (line .entry)) ≡ lineEnded (heardOf h (now (store .entry)) (now (memory .entry)) (now (line .entry))) ⌝ }
+    ensures told { λ r. ⌜ Behind (now (out .entry)) (now (out .exit)) 0 (r .end) (turnNow (heardOf h (now (store .entry)) (now (memory .entry)) (now (line .entry))) .answer) ⌝ }
     ensures begun { λ r. ⌜ r .hearing .kept ≡ 0 ⌝ }
 {
     let kept = h.kept;

@@ -37,8 +37,8 @@ fn take_all(
 ) -> Hearing
     requires { ⌜ ReadyToHear (h .kept) (now line) (now store) (now memory) (now room) (now out) ⌝ }
     ensures heard { λ r.
-        let before = heardOf h (now (line .entry)) (now (store .entry)) (now (memory .entry)) in
-        let after = heardOf r (now (line .exit)) (now (store .exit)) (now (memory .exit)) in
+        let before = heardOf h (now (store .entry)) (now (memory .entry)) (now (line .entry)) in
+        let after = heardOf r (now (store .exit)) (now (memory .exit)) (now (line .exit)) in
         ⌜ after ≡ hearAll before (now (read .entry)) ⌝ }
     ensures within { λ r. ⌜ r .kept ≤ length (now (line .entry)) ⌝ }
 {
@@ -72,8 +72,8 @@ fn listen(
 ) -> Listened
     requires { ⌜ ReadyToHear (h .kept) (now line) (now store) (now memory) (now room) (now out) ⌝ }
     ensures reached { λ r.
-        let before = heardOf h (now (line .entry)) (now (store .entry)) (now (memory .entry)) in
-        let after = heardOf (r .hearing) (now (line .exit)) (now (store .exit)) (now (memory .exit)) in
+        let before = heardOf h (now (store .entry)) (now (memory .entry)) (now (line .entry)) in
+        let after = heardOf (r .hearing) (now (store .exit)) (now (memory .exit)) (now (line .exit)) in
         ⌜ (Reached before → Reached after) ⌝ }
     ensures within { λ r. ⌜ r .hearing .kept ≤ length (now (line .entry)) ⌝ }
 {
@@ -107,7 +107,7 @@ fn go_on(
     out: &mut [u8],
 ) -> Hearing
     requires { ⌜ (now store ≡ storeAtStart) × ReadyToHear 0 (now line) (now store) (now memory) (now room) (now out) ⌝ }
-    ensures reached { λ r. ⌜ Reached (heardOf r (now (line .exit)) (now (store .exit)) (now (memory .exit))) ⌝ }
+    ensures reached { λ r. ⌜ Reached (heardOf r (now (store .exit)) (now (memory .exit)) (now (line .exit))) ⌝ }
 {
     let state = console_state::start();
     let mut h = Hearing {

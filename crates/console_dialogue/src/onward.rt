@@ -29,12 +29,12 @@ pub fn take_in(
 ) -> Onward
     requires { ⌜ (at < length (now read)) × ReadyToHear (h .kept) (now line) (now store) (now memory) (now room) (now out) ⌝ }
     ensures heard { λ r.
-        let before = heardOf h (now (line .entry)) (now (store .entry)) (now (memory .entry)) in
-        let after = heardOf (r .hearing) (now (line .exit)) (now (store .exit)) (now (memory .exit)) in
+        let before = heardOf h (now (store .entry)) (now (memory .entry)) (now (line .entry)) in
+        let after = heardOf (r .hearing) (now (store .exit)) (now (memory .exit)) (now (line .exit)) in
         ⌜ hearAll after (drop (r .next) (now (read .entry))) ≡ hearAll before (drop at (now (read .entry))) ⌝ }
     ensures said { λ r.
-        let before = heardOf h (now (line .entry)) (now (store .entry)) (now (memory .entry)) in
-        let after = heardOf (r .hearing) (now (line .exit)) (now (store .exit)) (now (memory .exit)) in
+        let before = heardOf h (now (store .entry)) (now (memory .entry)) (now (line .entry)) in
+        let after = heardOf (r .hearing) (now (store .exit)) (now (memory .exit)) (now (line .exit)) in
         ⌜ take (r .end) (now (out .exit)) ++ sayAll after (drop (r .next) (now (read .entry))) ≡ sayAll before (drop at (now (read .entry))) ⌝ }
     ensures within { λ r. ⌜ (at < r .next) × (r .next ≤ length (now (read .entry))) × (r .hearing .kept ≤ length (now (line .entry))) × (r .end ≤ length (now (out .entry))) ⌝ }
 {

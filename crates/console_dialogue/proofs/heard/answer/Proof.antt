@@ -44,7 +44,7 @@ unfolding nextNumber
 returns c =
     let before9 = c .before .before .before .before .before .before .before .before .before in
     let a = before9 .before .before .before .before .before .before .before .before .before .before .before .before .before .args in
-    let g = heardOf (a .h) (a .line .now) (a .store .now) (a .memory .now) in
+    let g = heardOf (a .h) (a .store .now) (a .memory .now) (a .line .now) in
     let e = before9 .before .before .before .before .before .before .before .numbered .ensures in
     (ended-made g e (before9 .answered .ensures .console), (turn-told g e (before9 .answered .ensures .told), refl))
 

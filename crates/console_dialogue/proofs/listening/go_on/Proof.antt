@@ -19,7 +19,7 @@ Inv-loop line₀ store₀ memory₀ room₀ out₀ h₀ more₀ turns₀ line st
     × (length room ≡ length room₀)
     × (length out ≡ length out₀)
     × (h .kept ≤ length line₀)
-    × Reached (heardOf h line store memory)
+    × Reached (heardOf h store memory line)
 
 abbrev μ-loop : tie.MeasureT-loop
 μ-loop line₀ store₀ memory₀ room₀ out₀ h₀ more₀ turns₀ line store memory room out h more turns = turns

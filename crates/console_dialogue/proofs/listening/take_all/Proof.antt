@@ -19,7 +19,7 @@ Inv-loop read line₀ store₀ memory₀ room₀ out₀ heard₀ at₀ line stor
     × (length room ≡ length room₀)
     × (length out ≡ length out₀)
     × (heard .kept ≤ length line₀)
-    × (hearAll (heardOf heard line store memory) (drop at read) ≡ hearAll (heardOf heard₀ line₀ store₀ memory₀) read)
+    × (hearAll (heardOf heard store memory line) (drop at read) ≡ hearAll (heardOf heard₀ store₀ memory₀ line₀) read)
 
 abbrev μ-loop : tie.MeasureT-loop
 μ-loop read line₀ store₀ memory₀ room₀ out₀ heard₀ at₀ line store memory room out heard at = length read - at
@@ -92,7 +92,7 @@ returns : tie.Need-returns Inv-loop μ-loop
 returns c =
     let l = c .before .loop in (
       sym
-          (heard-all (heardOf (l .heard) (l .line) (l .store) (l .memory))
+          (heard-all (heardOf (l .heard) (l .store) (l .memory) (l .line))
           (c .before .before .before .before .before .before .before .before .args .read .now) (l .at)
           (c .loop-test .left))
           ∙ l .inv .7,
