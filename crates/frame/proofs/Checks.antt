@@ -8,7 +8,7 @@ use lib.ListN.{length, getD}
 use native.Mathlib.Omega.{arith}
 use Rattle.answers.specs.declared.verdict.Verdict.{Verdict}
 use Rattle.answers.specs.Verdicts.{refusedBy, acceptedWith}
-use Rattle.answers.proofs.First.{EachOf, NoneOf, each-append, each-split, first-of-append, none-first-of, first-of-none}
+use Rattle.answers.proofs.First.{EachOf, NoneOf, each-append, each-split, first-of-append, none-first-of, first-of-none, first-of-keeps}
 use Rattle.frame.specs.Checks.{Check, check, firstBroken}
 
 -- one after the other ------------------------------------------------------------------------------------------
@@ -53,6 +53,10 @@ first-some (c ∷ cs) a b z n = go (c .broken) refl (λ r. first-some cs a b z r
     go : (x : Bool) → c .broken ≡ x → ((firstBroken cs a .number ≡ 0 → ⊥) → firstBroken cs a ≡ firstBroken cs b) → firstBroken (c ∷ cs) a ≡ firstBroken (c ∷ cs) b
     go true k rest = rw k
     go false k rest = rw k (rest (λ e. n (rw k e)))
+
+-- What holds of every refusal and of a verdict holds of the first broken check's, or that verdict.
+pub first-keeps : (P : Verdict → Type 0) → ((n p : ℕ) → P (refusedBy n p)) → (cs : List Check) {after : Verdict} → P after → P (firstBroken cs after)
+first-keeps P h cs x = first-of-keeps (λ (c : Check). c .broken) (λ (c : Check). refusedBy (c .number) (c .place)) P (λ c. h (c .number) (c .place)) cs x
 
 -- by rank ------------------------------------------------------------------------------------------------------
 

@@ -242,7 +242,7 @@ found-next o p rest h = go (eqb o 0) refl
 
 -- A place less to come, and its subobject seen.
 joined-next : (kinds : ℕ → ℕ) (kind first p : ℕ) (g : Facts) (ps : List ℕ) → 0 < p
-    → joined kinds kind first g (p ∷ ps) ≡ joined kinds kind first (seenOf g p (kinds p) kind first) ps
+    → joined kinds kind first g (p ∷ ps) ≡ joined kinds kind first (seenOf g (kinds p) kind first p) ps
 unfolding seenOf
 joined-next kinds kind first p g ps h = go (eqb (kinds p) first)
   where
@@ -300,20 +300,20 @@ module _ {s : List ℕ} {ero : Bool} {kind first at : ℕ} {g whole : Facts} (l 
   look-cut {r = r} n e f t = over-cut (l .rest) n (rw e at (sym f ∙ not-true r t))
 
   pub look-next : {len x k : ℕ} {r : Bool} {g′ : Facts} → 0 < at → at < length s → len ≡ getD s (at + 1) 0 → r ≡ fitsIn len (length s - at) → not r ≡ false
-      → x ≡ getD s at 0 → k ≡ kindOf x ero → g′ ≡ seenOf g at k kind first → Looking s ero kind first (at + len) g′ whole
+      → x ≡ getD s at 0 → k ≡ kindOf x ero → g′ ≡ seenOf g k kind first at → Looking s ero kind first (at + len) g′ whole
   unfolding octetOf
   look-next {r = r} h n e f t ex ek eg =
       rw (eg, ek, ex, e)
       (record {
         rest =
-            over-as (over-next (l .rest) n (rw e at (sym f ∙ not-false r t))) (lookRest (kindAt s ero) kind first (seenOf g at (kindAt s ero at) kind first))
+            over-as (over-next (l .rest) n (rw e at (sym f ∙ not-false r t))) (lookRest (kindAt s ero) kind first (seenOf g (kindAt s ero at) kind first at))
             (λ a. rw (joined-next (kindAt s ero) kind first at g (a .places) h));
       })
 
 pub now-fits : (len room : ℕ) (r : Bool) → r ≡ fitsIn len room → not r ≡ false → (unit ≤ len) × (len % unit ≡ 0) × (len ≤ room)
 now-fits len room r e n = fits-true len room (sym e ∙ not-false r n)
 
-pub seen-count : (g g′ : Facts) (at k kind first : ℕ) → g′ ≡ seenOf g at k kind first → g′ .count ≡ g .count + 1
+pub seen-count : (g g′ : Facts) (at k kind first : ℕ) → g′ ≡ seenOf g k kind first at → g′ .count ≡ g .count + 1
 unfolding seenOf
 seen-count g g′ at k kind first e = ap (λ (x : Facts). x .count) e ∙ go (eqb k first)
   where

@@ -22,7 +22,7 @@ noFacts whole = record { whole = whole; count = 0; any = false; other = 0 }
 
 -- A subobject more: of the first one's type, or of another.
 unfoldable pub seenOf : Facts → ℕ → ℕ → ℕ → ℕ → Facts
-seenOf g at k kind first =
+seenOf g k kind first at =
     cond (eqb k first) (record { whole = g .whole; count = g .count + 1; any = g .any; other = g .other })
     (record { whole = g .whole; count = g .count + 1; any = g .any || eqb k kind; other = cond (eqb (g .other) 0) at (g .other) })
 

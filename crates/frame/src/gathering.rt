@@ -38,9 +38,9 @@ fn earlier(had: usize, at: usize) -> usize
 }
 
 // A subobject of the type k at `at` more. Mostly it is of the type of the first.
-fn seen(g: Facts, at: usize, k: usize, kind: usize, first: usize) -> Facts
+fn seen(g: Facts, k: usize, kind: usize, first: usize, at: usize) -> Facts
     requires { ⌜ g .count < end16 ⌝ }
-    ensures seen { λ r. ⌜ r ≡ seenOf g at k kind first ⌝ }
+    ensures seen { λ r. ⌜ r ≡ seenOf g k kind first at ⌝ }
 {
     if k == first {
         return Facts {
@@ -83,10 +83,10 @@ pub fn look(s: &[u8], ero: bool, kind: usize, first: usize) -> Facts
         }
         g = seen(
             g,
-            at,
             subobject::kind(octets::wide(s[at]), ero),
             kind,
             first,
+            at,
         );
         at = at + len;
     }

@@ -9,13 +9,12 @@ use lib.Seq.{drop-cons}
 use native.Mathlib.Omega.{arith}
 use Rattle.forms.specs.declared.Form.{Form}
 use Rattle.answers.specs.declared.verdict.Verdict.{Verdict}
-use Rattle.answers.specs.Verdicts.{refusedBy}
-use Rattle.answers.proofs.First.{first-of-keeps}
 use Rattle.octets.proofs.Said.{cond-most}
 use Rattle.session.specs.declared.Session.{Session}
 use Rattle.subobject_strays.specs.Strays.{straysAt, isStray, strayIn}
 use Rattle.frame.specs.Checks.{Check, firstBroken}
 use Rattle.frame.specs.Frames.{placesOf}
+use Rattle.frame.proofs.Checks.{first-keeps}
 use Rattle.route.specs.declared.picking.Picked.{Picked}
 use Rattle.route.specs.Routes.{checksOf, countOf, strayCount, acceptanceOf, judgeAs, segmentAs}
 use Rattle.route.specs.Asked.{strayAsked}
@@ -42,12 +41,8 @@ stray-places : (form : Form) (s : List ℕ) (ero : Bool) (ps : List ℕ) → str
 stray-places form s ero [] = omega arith
 stray-places form s ero (p ∷ ps) = omega (arith, cond-most (isStray (straysAt form s ero p)) 1, stray-places form s ero ps)
 
--- What holds of every refusal and of a verdict holds of the first broken check's, or that verdict.
-kept-first : (P : Verdict → Type 0) → ((n p : ℕ) → P (refusedBy n p)) → (cs : List Check) {v : Verdict} → P v → P (firstBroken cs v)
-kept-first P h cs x = first-of-keeps (λ (c : Check). c .broken) (λ (c : Check). refusedBy (c .number) (c .place)) P (λ c. h (c .number) (c .place)) cs x
-
 within : (cs : List Check) (v : Verdict) → v .stray ≤ v .count → firstBroken cs v .stray ≤ firstBroken cs v .count
-within cs v h = kept-first (λ x. x .stray ≤ x .count) (λ n p. omega arith) cs h
+within cs v h = first-keeps (λ x. x .stray ≤ x .count) (λ n p. omega arith) cs h
 
 pub stray-within : (form : Form) (s : List ℕ) (ero : Bool) (session : Session) (pst : ℕ) → judgeAs form s ero session pst .stray ≤ judgeAs form s ero session pst .count
 unfolding judgeAs
@@ -55,7 +50,7 @@ stray-within form s ero session pst = within (checksOf form s ero session pst) (
 
 -- and 0 after a refusal,
 refusing : (cs : List Check) (v : Verdict) → v .number ≡ 0 → (firstBroken cs v .number ≡ 0 → ⊥) → firstBroken cs v .stray ≡ 0
-refusing cs v z n = kept-first (λ x. (x .number ≡ 0 → ⊥) → x .stray ≡ 0) (λ k p m. refl) cs (λ m. absurd (m z)) n
+refusing cs v z n = first-keeps (λ x. (x .number ≡ 0 → ⊥) → x .stray ≡ 0) (λ k p m. refl) cs (λ m. absurd (m z)) n
 
 pub refused-unstray : (form : Form) (s : List ℕ) (ero : Bool) (session : Session) (pst : ℕ) → (judgeAs form s ero session pst .number ≡ 0 → ⊥)
     → judgeAs form s ero session pst .stray ≡ 0
@@ -64,7 +59,7 @@ refused-unstray form s ero session pst n = refusing (checksOf form s ero session
 
 -- and where no subobject is stray.
 clean : (cs : List Check) (v : Verdict) → v .stray ≡ 0 → firstBroken cs v .stray ≡ 0
-clean cs v h = kept-first (λ x. x .stray ≡ 0) (λ n p. refl) cs h
+clean cs v h = first-keeps (λ x. x .stray ≡ 0) (λ n p. refl) cs h
 
 pub none-stray : (form : Form) (s : List ℕ) (ero : Bool) (session : Session) (pst : ℕ) → strayCount form s ero ≡ 0 → judgeAs form s ero session pst .stray ≡ 0
 unfolding judgeAs
