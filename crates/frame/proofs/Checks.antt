@@ -8,7 +8,12 @@ use lib.ListN.{length, getD}
 use native.Mathlib.Omega.{arith}
 use Rattle.answers.specs.declared.verdict.Verdict.{Verdict}
 use Rattle.answers.specs.Verdicts.{refusedBy, acceptedWith}
+use Rattle.forms.specs.declared.Form.{Form}
+use Rattle.subobject.specs.declared.head.Head.{Head}
+use Rattle.subobject.specs.Rules.{rule10, rules, subjectBy}
+use Rattle.subobject.proofs.Unbroken.{Unbroken, UnbrokenBy}
 use Rattle.frame.specs.Checks.{Check, check, firstBroken}
+use Rattle.frame.specs.Rows.{checksBy}
 
 -- one after the other ------------------------------------------------------------------------------------------
 
@@ -121,3 +126,13 @@ answer-first (c ∷ cs) after n p z e = go (c .broken) refl (λ r. answer-first 
     go false k rest =
         let r = rest (rw k at e) in
         record { rank = suc (r .rank); first = first-later c cs (r .rank) k (r .first); number = r .number; place = r .place }
+
+-- of a subobject -----------------------------------------------------------------------------------------------
+
+-- No check of a subobject is broken exactly if it is sound and keeps 10.
+module _ {form : Form} {h : Head} (s : List ℕ) (ero n : Bool) (at : ℕ) where
+  pub none-unbroken : None (checksBy rules (subjectBy form h s ero n at) at) → UnbrokenBy form h s at
+  none-unbroken c = record { r8 = c .0; r9 = c .1 .0; r7 = c .1 .1 .0; r11 = c .1 .1 .1 .1 .0; r29 = c .1 .1 .1 .1 .1 .0; r30 = c .1 .1 .1 .1 .1 .1 .0 }
+
+  pub unbroken-none : UnbrokenBy form h s at → rule10 h ero n ≡ false → None (checksBy rules (subjectBy form h s ero n at) at)
+  unbroken-none u e = (u .r8, (u .r9, (u .r7, (e, (u .r11, (u .r29, (u .r30, tt)))))))
