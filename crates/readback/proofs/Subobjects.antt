@@ -23,6 +23,7 @@ use Rattle.subobject.specs.Rules.{rule7, rule8, rule9, malformed, rule11, flagF
 use Rattle.subobject.specs.Segments.{segmentBy, segmentAt, outlineOf, headOfSegment, flagsOctet, fixedOctets, structureOctets, subobjectOf, bitsOf, bit}
 use Rattle.subobject.proofs.Unbroken.{UnbrokenAt, formed-seven}
 use Rattle.frame.specs.Frames.{kindAt}
+use Rattle.writer_fixed.specs.Small.{Bits}
 use Rattle.writer_spare.specs.Held.{Held}
 use Rattle.writer_spare.specs.Spare.{zeros, tidyOf}
 use Rattle.writer_layout.specs.Readable.{together, Readable}
@@ -65,15 +66,6 @@ unfolding expectedLength
 expected-again form nt s t = rw (there-again (eqb s 0) (eqb t 1))
 
 -- the head -----------------------------------------------------------------------------------------------------
-
-record Bits (h : Head) : Type 0 where
-  s : h .s ≤ 1
-  f : h .f ≤ 1
-  t : h .t ≤ 1
-  v : h .v ≤ 1
-  l : h .l ≤ 1
-  c : h .c ≤ 1
-  m : h .m ≤ 1
 
 bits-of : (form : Form) (ero : Bool) (s : List ℕ) (at : ℕ) → EachOctet s → Bits (headAt form s ero at)
 unfolding headAt headOf
