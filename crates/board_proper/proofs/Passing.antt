@@ -1,6 +1,6 @@
 -- The pass. So far the numbers of the order name used places, each sound under its own version, of rising version and distinct keys (`Along`). A number that
 -- breaks this shows that the record is not proper, by what a proper table and its chain have (`refuted`). Where the pass ends, the places named and the empty ones
--- are all there are (`Covered`), and then table and order are sound. Assumes nothing.
+-- are all there are (`Seen`), and then table and order are sound. Assumes nothing.
 use Prim.Native.Nat.{ℕ, zero, suc, _+_, _-_, _<_, _≤_}
 use native.Mathlib.Omega.{arith}
 use mathlib.Core.Path.{_≡_, refl, sym, ap, _∙_, subst}

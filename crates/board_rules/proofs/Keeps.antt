@@ -178,7 +178,7 @@ module _ (b : Table) (m : ℕ) where
   unfolding compacted
   compacted-version i l = row-at (λ j. cond (dropped b m j) 0 (versionAt b j)) 128 i l
 
-  dropped-is : (i : ℕ) → dropped b m i ≡ true → RemovalAt b i × (versionAt b i ≤ m)
+  pub dropped-is : (i : ℕ) → dropped b m i ≡ true → RemovalAt b i × (versionAt b i ≤ m)
   unfolding dropped
   dropped-is i e = let p = both-true (removalB b i) (leb (versionAt b i) m) e in (removal-is b i (p .0), leb-true (versionAt b i) m (p .1))
 

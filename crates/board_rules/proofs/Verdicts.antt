@@ -40,6 +40,10 @@ route-passed route x e = go (eqb (route .number) 0) refl e
     go true q h = (eqb-true (route .number) 0 q, h)
     go false q h = absurd (eqb-false (route .number) 0 q h)
 
+pub range-is : (k : ℕ) → keyLeast ≤ k → k ≤ keyMost → inRange k ≡ true
+unfolding inRange
+range-is k l m = rw (le-leb keyLeast k l, le-leb k keyMost m)
+
 pub range-passed : (k : ℕ) → not (inRange k) ≡ false → (keyLeast ≤ k) × (k ≤ keyMost)
 unfolding inRange
 range-passed k e =

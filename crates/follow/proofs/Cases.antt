@@ -2,7 +2,7 @@
 use Prim.Native.Nat.{ℕ}
 use native.Mathlib.Omega.{arith}
 use mathlib.Core.Path.{_≡_, refl, sym}
-use mathlib.Core.Bool.{Bool, true, false, cond, _||_}
+use mathlib.Core.Bool.{Bool, true, false, _||_}
 use mathlib.Core.Option.{Option, none, some}
 use mathlib.Core.Logic.{_⊎_, inl, inr}
 use Rattle.board_record.proofs.Logic.{true≢false}
@@ -26,8 +26,3 @@ or-cases false y e = inr e
 pub not-true-is-false : (x : Bool) → (x ≡ true → ⊥) → x ≡ false
 not-true-is-false true f = absurd (f refl)
 not-true-is-false false f = refl
-
--- a test, its two cases
-pub cases : {A : Type 0} (P : A → Type 0) (t : Bool) (a b : A) → (t ≡ true → P a) → (t ≡ false → P b) → P (cond t a b)
-cases P true a b f g = f refl
-cases P false a b f g = g refl

@@ -6,25 +6,17 @@ use mathlib.Core.Bool.{Bool, true, false, cond}
 use mathlib.Core.List.{List}
 use mathlib.Core.Option.{none}
 use mathlib.Core.Logic.{_⊎_, inl, inr, ⊎-elim}
-use lib.Dec.{leb}
-use borrow.Author.Tests.{leb-true}
 use Rattle.board_record.specs.Sizes.{places}
-use Rattle.board_record.specs.Table.{Table, keyAt, versionAt, lengthAt, formAt, Used, RemovalAt, removalB}
-use Rattle.octets.proofs.Said.{both-true}
-use Rattle.board_record.proofs.Search.{removal-is}
+use Rattle.board_record.specs.Table.{Table, keyAt, versionAt, lengthAt, formAt, Used}
 use Rattle.board_rules.specs.Body.{octetsAt}
 use Rattle.board_record.proofs.Lists.{length-row}
-use Rattle.board_rules.proofs.Keeps.{compacted-key, compacted-version, compacted-proper}
+use Rattle.board_rules.proofs.Keeps.{compacted-key, compacted-version, dropped-is, compacted-proper}
 use Rattle.board_rules.specs.Compact.{dropped, compacted}
 use Rattle.follow.specs.Story.{Story, compactedTo, held, last}
 use Rattle.follow.proofs.Begun.{pathIn, path-mark}
 use Rattle.follow.proofs.Table.{Stands}
 
 -- ---- a place that is dropped, and one that is not
-
-drop-means : (b : Table) (c i : ℕ) → dropped b c i ≡ true → RemovalAt b i × (versionAt b i ≤ c)
-unfolding dropped
-drop-means b c i e = let p = both-true (removalB b i) (leb (versionAt b i) c) e in (removal-is b i (p .0), leb-true (versionAt b i) c (p .1))
 
 drop-dec : (b : Table) (c i : ℕ) → (dropped b c i ≡ true) ⊎ (dropped b c i ≡ false)
 drop-dec b c i = go (dropped b c i) refl
@@ -64,7 +56,7 @@ module _ (b : Table) (st : List ℕ) (h : Story) (c : ℕ) (r : Stands b st h) (
   there-compacted : (k : ℕ) → 0 < last h k → ((i : ℕ) × (i < places) × (keyAt (compacted b c) i ≡ k)) ⊎ ((held h k ≡ none) × (last h k ≤ max (b .floor) c))
   there-compacted k p = ⊎-elim
       (λ y. ⊎-elim
-      (λ e. let m = drop-means b c (y .0) e in let g = r .here (y .0) (y .1) (m .0 .used) in
+      (λ e. let m = dropped-is b c (y .0) e in let g = r .here (y .0) (y .1) (m .0 .used) in
       inr (ap (held h) (sym (y .2)) ∙ g .1 ∙ path-mark b st (y .0) (m .0 .bare), omega (arith, ap (last h) (y .2), g .0, m .1)))
       (λ e. inl (y .0, y .1, stays b c (y .0) (y .1) e .0 ∙ y .2))
       (drop-dec b c (y .0)))

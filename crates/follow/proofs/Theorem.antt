@@ -12,14 +12,16 @@ use lib.ListN.{length}
 use lib.Dec.{eqb, ltb}
 use borrow.Author.Tests.{ne-eqb, lt-ltb, le-ltb}
 use Rattle.answers.specs.Numbers.{markTooOld, notUsable}
+use Rattle.answers.specs.declared.verdict.Verdict.{Verdict}
 use Rattle.answers.specs.Verdicts.{refusedBy, acceptedWith, kept}
+use Rattle.octets.proofs.Said.{cases}
 use Rattle.board_record.specs.Sizes.{places, storeSize}
 use Rattle.board_record.specs.Table.{Table, emptyTable, keyAt, versionAt, lengthAt, formAt}
 use Rattle.board_record.specs.Search.{targetOf, nextOf}
 use Rattle.board_record.proofs.Logic.{from?}
 use Rattle.board_record.proofs.Proper.{empty-sized, empty-proper}
 use Rattle.board_record.proofs.Search.{report-place-is}
-use Rattle.board_rules.specs.Rules.{Outcome, outcomeOf, isBoard}
+use Rattle.board_rules.specs.Rules.{outcomeOf, isBoard}
 use Rattle.board_rules.proofs.Verdicts.{whole-board, report-passed, remove-passed, compact-passed}
 use Rattle.board_rules.proofs.Keeps.{least-some, body-fits, reported-proper, removed-proper}
 use Rattle.board_rules.specs.Body.{octetsAt}
@@ -42,7 +44,6 @@ use Rattle.follow.specs.Follower.{Follower, fresh, makes, levels, Keeps}
 use Rattle.follow.specs.Heard.{Heard, refusal, change, level, heardIn, does, cutOff}
 use Rattle.follow.specs.Run.{World, Act, reportedPath, report, remove, compact, begin, ask, askCut, told, answerTo, following, step, run, start, allFresh}
 use Rattle.follow.specs.Promise.{Answered, Ready, KeptBy, NoFollowerIsFooled, NumbersAreTheStorys}
-use Rattle.follow.proofs.Cases.{cases}
 use Rattle.follow.proofs.Begun.{pathIn, begun-le, begun-none, begun-ordered}
 use Rattle.follow.proofs.Keeps.{has, keeps-fresh, keeps-change, keeps-compact, keeps-made, keeps-half, keeps-level}
 use Rattle.follow.proofs.Owed.{Owed, old, next, done, answered-of, answered-determined}
@@ -163,7 +164,7 @@ kept-same (suc n) s = refl
 
 good-under : (x : World) (k : ℕ) (octets : List ℕ) (session : Session) (pst : ℕ) → Good x
     → (let a = reportAnswer (x .table) (x .store) k octets session pst in
-    InStep (a .table) (reportStore (x .table) (x .store) k octets session pst) (told a (did (sets k (reportedPath octets pst)) (x .story)) (x .story)))
+    InStep (a .table) (reportStore (x .table) (x .store) k octets session pst) (told (a .verdict) (did (sets k (reportedPath octets pst)) (x .story)) (x .story)))
 unfolding reportAnswer reportStore reportWith storeWith reported floorOf
 good-under x k octets session pst g =
     let route = judgeOf octets true session pst in
@@ -188,7 +189,7 @@ good-report x k octets both pst addresses g = go (rule28 addresses)
     go : (b : Bool)
         → (let under = sessionFor octets true (sessionUnder both pst) addresses in
         let a = cond b (outcomeOf (refusedBy notUsable 0) (x .table)) (reportAnswer (x .table) (x .store) k octets under pst) in
-        InStep (a .table) (cond b (x .store) (reportStore (x .table) (x .store) k octets under pst)) (told a (did (sets k (reportedPath octets pst)) (x .story)) (x .story)))
+        InStep (a .table) (cond b (x .store) (reportStore (x .table) (x .store) k octets under pst)) (told (a .verdict) (did (sets k (reportedPath octets pst)) (x .story)) (x .story)))
     go true = g
     go false = good-under x k octets (sessionFor octets true (sessionUnder both pst) addresses) pst g
 
@@ -196,7 +197,7 @@ good-remove : (x : World) (k : ℕ) → Good x → Good (step x (remove k))
 unfolding step removeAnswer removed floorOf
 good-remove x k g =
     let a = removeAnswer (x .table) (x .store) k in
-    subst (λ (s : List ℕ). InStep (a .table) s (told a (did (clears k) (x .story)) (x .story)))
+    subst (λ (s : List ℕ). InStep (a .table) s (told (a .verdict) (did (clears k) (x .story)) (x .story)))
     (kept-same (removeVerdict (x .table) (x .store) k .number) (x .store))
     (by-number InStep (removeVerdict (x .table) (x .store) k .number) (x .table) _ (x .store) (x .store) (x .story) _ g
     (λ e.
@@ -208,7 +209,7 @@ good-compact : (x : World) (c : ℕ) → Good x → Good (step x (compact c))
 unfolding step compactAnswer compacted floorOf
 good-compact x c g =
     let a = compactAnswer (x .table) (x .store) c in
-    subst (λ (s : List ℕ). InStep (a .table) s (told a (compactedTo c (x .story)) (x .story)))
+    subst (λ (s : List ℕ). InStep (a .table) s (told (a .verdict) (compactedTo c (x .story)) (x .story)))
     (kept-same (compactVerdict (x .table) (x .store) c .number) (x .store))
     (by-number InStep (compactVerdict (x .table) (x .store) c .number) (x .table) _ (x .store) (x .store) (x .story) _ g
     (λ e. record {
@@ -237,8 +238,8 @@ good-start b store followers g = record { stands = stands-begun b store (g .prop
 -- ---- and every follower at what its mark says
 
 -- a call that is accepted or refused
-keeps-told : (a : Outcome) (more h : Story) (f : Follower) → (Keeps h f → Keeps more f) → Keeps h f → Keeps (told a more h) f
-keeps-told a more h f s r = cases (λ (y : Story). Keeps y f) (eqb (a .verdict .number) 0) more h (λ t. s r) (λ t. r)
+keeps-told : (v : Verdict) (more h : Story) (f : Follower) → (Keeps h f → Keeps more f) → Keeps h f → Keeps (told v more h) f
+keeps-told v more h f s r = cases (λ (y : Story). Keeps y f) (eqb (v .number) 0) more h (λ t. s r) (λ t. r)
 
 -- a follower that hears what it must, and does what it does
 keeps-does : (h : Story) → Ordered (beginningOf h) → (f : Follower) (both : Bool) (a : Heard) → Keeps h f → Owed h f a → Keeps h (does f both a)
@@ -258,11 +259,11 @@ keeps-following x n f r k m = cases (Keeps (x .story)) (eqb m n) f (x .followers
 keeps-step : (x : World) (a : Act) → Good x → AllKeep x → AllKeep (step x a)
 unfolding step
 keeps-step x (report k octets both pst addresses) g r n =
-    keeps-told (reportFor (x .table) (x .store) k octets both pst addresses) _ (x .story) (x .followers n) (keeps-change (sets k (reportedPath octets pst)) (x .story) (x .followers n)) (r n)
+    keeps-told (reportFor (x .table) (x .store) k octets both pst addresses .verdict) _ (x .story) (x .followers n) (keeps-change (sets k (reportedPath octets pst)) (x .story) (x .followers n)) (r n)
 keeps-step x (remove k) g r n =
-    keeps-told (removeAnswer (x .table) (x .store) k) _ (x .story) (x .followers n) (keeps-change (clears k) (x .story) (x .followers n)) (r n)
+    keeps-told (removeAnswer (x .table) (x .store) k .verdict) _ (x .story) (x .followers n) (keeps-change (clears k) (x .story) (x .followers n)) (r n)
 keeps-step x (compact c) g r n =
-    keeps-told (compactAnswer (x .table) (x .store) c) _ (x .story) (x .followers n) (keeps-compact c (x .story) (x .followers n)) (r n)
+    keeps-told (compactAnswer (x .table) (x .store) c .verdict) _ (x .story) (x .followers n) (keeps-compact c (x .story) (x .followers n)) (r n)
 keeps-step x (begin n) g r m = keeps-following x n (fresh (x .table)) r (keeps-fresh (x .story) (g .stands .ordered) (x .table) (g .stands .version-is)) m
 keeps-step x (ask n both) g r m =
     keeps-following x n (does (x .followers n) both (answerTo x n)) r

@@ -8,8 +8,8 @@ use Prim.Native.Nat.{ℕ}
 use mathlib.Core.Bool.{Bool, cond}
 use mathlib.Core.List.{List, [], _∷_}
 use lib.Dec.{eqb}
+use Rattle.answers.specs.declared.verdict.Verdict.{Verdict}
 use Rattle.board_record.specs.Table.{Table}
-use Rattle.board_rules.specs.Rules.{Outcome}
 use Rattle.board_rules.specs.Report.{bodyIn}
 use Rattle.report_call.specs.Reported.{reportFor, reportStoreFor}
 use Rattle.board_rules.specs.Remove.{removeAnswer}
@@ -43,8 +43,8 @@ abbrev pub reportedPath : List ℕ → ℕ → HeldPath
 reportedPath octets pst = record { form = pst; octets = bodyIn octets }
 
 -- the story goes on where the call was accepted
-abbrev pub told : Outcome → Story → Story → Story
-told a more h = cond (eqb (a .verdict .number) 0) more h
+abbrev pub told : Verdict → Story → Story → Story
+told v more h = cond (eqb (v .number) 0) more h
 
 -- what follower n hears if it asks
 abbrev pub answerTo : World → ℕ → Heard
@@ -60,15 +60,15 @@ step x (report k octets both pst addresses) =
     record {
       table = a .table;
       store = reportStoreFor (x .table) (x .store) k octets both pst addresses;
-      story = told a (did (sets k (reportedPath octets pst)) (x .story)) (x .story);
+      story = told (a .verdict) (did (sets k (reportedPath octets pst)) (x .story)) (x .story);
       followers = x .followers;
     }
 step x (remove k) =
     let a = removeAnswer (x .table) (x .store) k in
-    record { table = a .table; store = x .store; story = told a (did (clears k) (x .story)) (x .story); followers = x .followers }
+    record { table = a .table; store = x .store; story = told (a .verdict) (did (clears k) (x .story)) (x .story); followers = x .followers }
 step x (compact c) =
     let a = compactAnswer (x .table) (x .store) c in
-    record { table = a .table; store = x .store; story = told a (compactedTo c (x .story)) (x .story); followers = x .followers }
+    record { table = a .table; store = x .store; story = told (a .verdict) (compactedTo c (x .story)) (x .story); followers = x .followers }
 step x (begin n) = following x n (fresh (x .table))
 step x (ask n both) = following x n (does (x .followers n) both (answerTo x n))
 step x (askCut n) = following x n (cutOff (x .followers n) (answerTo x n))

@@ -24,7 +24,7 @@ use Rattle.board_rules.proofs.Stores.{remove-sized, compact-sized}
 use Rattle.follow.specs.Story.{clears, beginning, begun, did, compactedTo, version}
 use Rattle.follow.specs.Follower.{Follower}
 use Rattle.follow.specs.Heard.{Heard, heardIn, does, cutOff}
-use Rattle.follow.specs.Run.{World, Act, report, remove, compact, begin, ask, askCut, answerTo, step, run, start, allFresh}
+use Rattle.follow.specs.Run.{World, Act, report, remove, compact, begin, ask, askCut, told, answerTo, step, run, start, allFresh}
 use Rattle.follow.specs.Floor.{floorOf}
 use Rattle.follow.specs.Promise.{Answered, KeptBy, BodyGiven, Ready}
 use Rattle.follow.specs.Moved.{MovedSaid}
@@ -32,7 +32,7 @@ use Rattle.follow.proofs.Theorem.{no-follower-is-fooled, fresh-kept, numbers-ar
 use Rattle.follow.proofs.Bodies.{bodies-are-those-held}
 use Rattle.follow.proofs.Accepts.{verdicts-are-the-storys}
 use Rattle.follow.proofs.Moved.{moved-is-the-storys}
-use Rattle.follow_record.specs.Followers.{WorldOn, toldOn, answerToOn, followingOn, stepOn, runOn, ReadyOn, startOn}
+use Rattle.follow_record.specs.Followers.{WorldOn, answerToOn, followingOn, stepOn, runOn, ReadyOn, startOn}
 use Rattle.follow_record.specs.Followers.{NoFollowerOfARecordIsFooled, BodiesOfARecordAreThoseHeld, VerdictsOfRecord, VerdictsOfARecordAreTheStorys, NumbersOfARecordAreTheStorys}
 use Rattle.follow_record.specs.Moved.{MovedOnARecordIsTheStorys}
 use Rattle.follow_record.proofs.Same.{empty-record, sound, report-for-is, store-for-is, for-proper, remove-is, compact-is, number-is, body-is, form-is, next-is, moved-is}
@@ -48,10 +48,10 @@ unfolding stepOn step
 step-same x p (report k octets both pst addresses) =
     rw (report-for-is (x .table) p (x .store) k octets both pst addresses, store-for-is (x .table) p (x .store) k octets both pst addresses)
 step-same x p (remove k) =
-    ap (λ (a : Result). record { board = a .board; store = x .store; story = toldOn a (did (clears k) (x .story)) (x .story); followers = x .followers })
+    ap (λ (a : Result). record { board = a .board; store = x .store; story = told (a .verdict) (did (clears k) (x .story)) (x .story); followers = x .followers })
     (remove-is (x .table) p (x .store) k)
 step-same x p (compact c) =
-    ap (λ (a : Result). record { board = a .board; store = x .store; story = toldOn a (compactedTo c (x .story)) (x .story); followers = x .followers })
+    ap (λ (a : Result). record { board = a .board; store = x .store; story = told (a .verdict) (compactedTo c (x .story)) (x .story); followers = x .followers })
     (compact-is (x .table) p (x .store) c)
 step-same x p (begin n) = refl
 step-same x p (ask n both) = ap (λ (h : Heard). followingOn (recordedWorld x) n (does (x .followers n) both h)) (answer-same x p n)

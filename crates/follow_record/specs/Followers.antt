@@ -12,12 +12,12 @@ use Rattle.board_record.specs.declared.record.Board.{Board}
 use Rattle.board_record.specs.Sizes.{places, groups}
 use Rattle.board_record.specs.Table.{ListsWhole}
 use Rattle.board_record.specs.Record.{tableIn, emptyBoard}
-use Rattle.board_rules.specs.OnRecord.{isRecord, Result, removeOn, compactOn, bodyNumberOn, bodyOn, bodyFormOn, nextOn}
+use Rattle.board_rules.specs.OnRecord.{isRecord, removeOn, compactOn, bodyNumberOn, bodyOn, bodyFormOn, nextOn}
 use Rattle.report_call.specs.Reported.{reportForOn, reportStoreForOn}
 use Rattle.follow.specs.Story.{sets, clears, Story, beginning, begun, did, compactedTo, version}
 use Rattle.follow.specs.Follower.{Follower, fresh}
 use Rattle.follow.specs.Heard.{Heard, heardIn, does, cutOff}
-use Rattle.follow.specs.Run.{Act, reportedPath, report, remove, compact, begin, ask, askCut}
+use Rattle.follow.specs.Run.{Act, reportedPath, report, remove, compact, begin, ask, askCut, told}
 use Rattle.follow.specs.Floor.{floorOf}
 use Rattle.follow.specs.Promise.{Answered, KeptBy, BodyGiven}
 use Rattle.follow.specs.Accepts.{reportSaid, removeSaid, compactSaid}
@@ -27,10 +27,6 @@ pub record WorldOn : Type 0 where
   pub store : List ℕ
   pub story : Story
   pub followers : ℕ → Follower
-
--- the story goes on where the call was accepted
-abbrev pub toldOn : Result → Story → Story → Story
-toldOn a more h = cond (eqb (a .verdict .number) 0) more h
 
 -- what follower n hears if it asks
 abbrev pub answerToOn : WorldOn → ℕ → Heard
@@ -45,15 +41,15 @@ stepOn x (report k octets both pst addresses) =
     record {
       board = a .board;
       store = reportStoreForOn (x .board) (x .store) k octets both pst addresses;
-      story = toldOn a (did (sets k (reportedPath octets pst)) (x .story)) (x .story);
+      story = told (a .verdict) (did (sets k (reportedPath octets pst)) (x .story)) (x .story);
       followers = x .followers;
     }
 stepOn x (remove k) =
     let a = removeOn (x .board) (x .store) k in
-    record { board = a .board; store = x .store; story = toldOn a (did (clears k) (x .story)) (x .story); followers = x .followers }
+    record { board = a .board; store = x .store; story = told (a .verdict) (did (clears k) (x .story)) (x .story); followers = x .followers }
 stepOn x (compact c) =
     let a = compactOn (x .board) (x .store) c in
-    record { board = a .board; store = x .store; story = toldOn a (compactedTo c (x .story)) (x .story); followers = x .followers }
+    record { board = a .board; store = x .store; story = told (a .verdict) (compactedTo c (x .story)) (x .story); followers = x .followers }
 stepOn x (begin n) = followingOn x n (fresh (tableIn (x .board)))
 stepOn x (ask n both) = followingOn x n (does (x .followers n) both (answerToOn x n))
 stepOn x (askCut n) = followingOn x n (cutOff (x .followers n) (answerToOn x n))

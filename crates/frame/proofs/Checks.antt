@@ -9,7 +9,12 @@ use native.Mathlib.Omega.{arith}
 use Rattle.answers.specs.declared.verdict.Verdict.{Verdict}
 use Rattle.answers.specs.Verdicts.{refusedBy, acceptedWith}
 use Rattle.answers.proofs.First.{EachOf, NoneOf, each-append, each-split, first-of-append, none-first-of, first-of-none, first-of-keeps}
+use Rattle.forms.specs.declared.Form.{Form}
+use Rattle.subobject.specs.declared.head.Head.{Head}
+use Rattle.subobject.specs.Rules.{rule10, rules, subjectBy}
+use Rattle.subobject.proofs.Unbroken.{Unbroken, UnbrokenBy}
 use Rattle.frame.specs.Checks.{Check, check, firstBroken}
+use Rattle.frame.specs.RuleChecks.{checksBy}
 
 -- one after the other ------------------------------------------------------------------------------------------
 
@@ -141,3 +146,13 @@ by-first v cs after ns z e =
     named : (n p : ℕ) (f : Found cs n p) → refusedBy (checkOf cs (f .rank) .number) (checkOf cs (f .rank) .place) ≡ refusedBy n p
     named n p f =
         ap (λ (x : ℕ). refusedBy x (checkOf cs (f .rank) .place)) (f .number) ∙ ap (refusedBy n) (f .place)
+
+-- of a subobject -----------------------------------------------------------------------------------------------
+
+-- No check of a subobject is broken exactly if it is sound and keeps 10.
+module _ {form : Form} {h : Head} (s : List ℕ) (ero n : Bool) (at : ℕ) where
+  pub none-unbroken : None (checksBy rules (subjectBy form h s ero n at) at) → UnbrokenBy form h s at
+  none-unbroken c = record { r8 = c .0; r9 = c .1 .0; r7 = c .1 .1 .0; r11 = c .1 .1 .1 .1 .0; r29 = c .1 .1 .1 .1 .1 .0; r30 = c .1 .1 .1 .1 .1 .1 .0 }
+
+  pub unbroken-none : UnbrokenBy form h s at → rule10 h ero n ≡ false → None (checksBy rules (subjectBy form h s ero n at) at)
+  unbroken-none u e = (u .r8, (u .r9, (u .r7, (e, (u .r11, (u .r29, (u .r30, tt)))))))

@@ -12,7 +12,7 @@ use native.Mathlib.Omega.{arith}
 use borrow.Author.Tests.{eq-eqb, ne-eqb, le-ltb, le-leb, lt-leb, ltb-true, ltb-false, leb-true, eqb-true, eqb-false, not-true, not-false}
 use Rattle.octets.specs.Octets.{octetOf, be16}
 use Rattle.subobject.specs.Layout.{kindOf}
-use Rattle.octets.proofs.Said.{both-true, or-none}
+use Rattle.octets.proofs.Said.{both-true, or-assoc, or-none}
 use Rattle.objects.specs.Objects.{header, unit, classPlace, typePlace, lengthPlace, typeWorth, objectType}
 use Rattle.frame.specs.declared.gathering.Facts.{Facts}
 use Rattle.frame.specs.Frames.{classOf, headed, fitsIn, Apart, ended, unfilled, from, apart, apartOf, kindAt, anyIs, otherThan, mixedAt}
@@ -222,10 +222,6 @@ rest-starts s ero kind first e = record { fuel = suc (length s); enough = omega 
         rw e (first-any (kindAt s ero) kind (suc (length s)) s w) in
         rw w (λ i. record { whole = true; count = zero-add (length ps) i; any = a i; other = o i })
 
-or-assoc : (a b c : Bool) → (a || (b || c)) ≡ ((a || b) || c)
-or-assoc true b c = refl
-or-assoc false b c = refl
-
 zero-self : (n : ℕ) → cond (eqb n 0) 0 n ≡ n
 zero-self n = go (eqb n 0) refl
   where
@@ -250,7 +246,7 @@ joined-next kinds kind first p g ps h = go (eqb (kinds p) first)
     n = omega arith
 
     a : (g .any || (eqb (kinds p) kind || anyOther kinds kind first ps)) ≡ ((g .any || eqb (kinds p) kind) || anyOther kinds kind first ps)
-    a = or-assoc (g .any) (eqb (kinds p) kind) (anyOther kinds kind first ps)
+    a = sym (or-assoc (g .any) (eqb (kinds p) kind) (anyOther kinds kind first ps))
 
     o : cond (eqb (g .other) 0) p (g .other) ≡ cond (eqb (cond (eqb (g .other) 0) p (g .other)) 0) (otherThan kinds ps first) (cond (eqb (g .other) 0) p (g .other))
     o = found-next (g .other) p (otherThan kinds ps first) h

@@ -1,5 +1,5 @@
--- Any two answers that fit the contract of a function of this crate are equal; of `part4`, `part16` and `part40` by `part-determined`, of `copy`
--- and `lay` what the buffer holds afterwards.
+-- Any two answers that fit the contract of a function of this crate are equal; of `wide` by `determined` itself, of
+-- `part4`, `part16` and `part40` by `part-determined`, of `copy` and `lay` what the buffer holds afterwards.
 use Prim.Native.Nat.{ℕ}
 use mathlib.Core.Path.{_≡_}
 use mathlib.Core.List.{List}
@@ -15,9 +15,6 @@ either-determined a b = determined
 
 pub pick-determined : (a : Bool) (n m : ℕ) {x y : ℕ} → x ≡ (cond a n m) → y ≡ (cond a n m) → x ≡ y
 pick-determined a n m = determined
-
-pub wide-determined : (n : ℕ) {x y : ℕ} → x ≡ (n) → y ≡ (n) → x ≡ y
-wide-determined n = determined
 
 pub octet-determined : (s : List ℕ) (at : ℕ) {x y : ℕ} → x ≡ (octetOf s at) → y ≡ (octetOf s at) → x ≡ y
 octet-determined s at = determined

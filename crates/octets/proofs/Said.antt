@@ -1,6 +1,6 @@
 -- What a test that was made tells of its parts. `not-true` and `not-false` of the toolchain's `borrow.Author.Tests` turn a negated test;
 -- the others that several crates need stand here.
-use Prim.Native.Nat.{ℕ, _≤_}
+use Prim.Native.Nat.{ℕ, _+_, _≤_}
 use native.Mathlib.Nat.{le-refl}
 use native.Mathlib.Omega.{arith}
 use mathlib.Core.Path.{_≡_, refl, sym, _∙_}
@@ -42,6 +42,15 @@ pub or-true : (a : Bool) → (a || true) ≡ true
 or-true true = refl
 or-true false = refl
 
+pub or-assoc : (a b c : Bool) → ((a || b) || c) ≡ (a || (b || c))
+or-assoc true b c = refl
+or-assoc false b c = refl
+
+-- What holds of both choices holds of the one that is made.
+pub cases : {A : Type 0} (P : A → Type 0) (t : Bool) (a b : A) → (t ≡ true → P a) → (t ≡ false → P b) → P (cond t a b)
+cases P true a b f g = f refl
+cases P false a b f g = g refl
+
 -- A choice that is made.
 pub cond-yes : {A : Type 0} (t : Bool) (a b : A) → t ≡ true → cond t a b ≡ a
 cond-yes t a b e = rw e
@@ -53,3 +62,7 @@ cond-no t a b e = rw e
 pub cond-most : (b : Bool) (n : ℕ) → cond b n 0 ≤ n
 cond-most true n = le-refl n
 cond-most false n = omega arith
+
+-- Where it is not, there is room for it.
+pub there-room : (n room at : ℕ) (b : Bool) → b ≡ true → at + cond b n 0 ≤ room → at + n ≤ room
+there-room n room at b e h = rw e at h

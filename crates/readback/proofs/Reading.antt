@@ -2,7 +2,7 @@
 -- (`reads`, from Segments), and so no check of the whole object finds anything (`checks-all`); which object that is, Images says.
 use Prim.Native.Nat.{ℕ, zero, suc, _+_, _-_, _*_, _/_, _%_, _≤_, _<_}
 use mathlib.Core.Path.{_≡_, refl, sym, _∙_, ap}
-use mathlib.Core.Bool.{Bool, true, false, false≢true, cond, not, _&&_, _||_}
+use mathlib.Core.Bool.{Bool, true, false, cond, not, _&&_, _||_}
 use mathlib.Core.List.{List, [], _∷_, _++_, append-assoc, append-nil}
 use lib.Dec.{eqb, ltb, leb}
 use lib.Seq.{getD-take, length-take-le}
@@ -12,7 +12,7 @@ use native.Mathlib.Omega.{arith}
 use borrow.Author.Tests.{eq-eqb, ne-eqb, eqb-true, eqb-false, not-false, lt-ltb}
 use Rattle.octets.specs.Octets.{octetOf, be16, hi, lo, part, over, partOf}
 use Rattle.octets.proofs.Laws.{length-part, getD-part}
-use Rattle.octets.proofs.Said.{both-true, and-false, and-no}
+use Rattle.octets.proofs.Said.{both-true, and-false, and-no, cases}
 use Rattle.answers.specs.Verdicts.{acceptedWith, carryingBoth}
 use Rattle.forms.specs.declared.Form.{Form}
 use Rattle.forms.specs.Forms.{srv6Form, mplsForm, formOf, naiLength}
@@ -21,16 +21,19 @@ use Rattle.session.specs.declared.Session.{Session}
 use Rattle.session.specs.declared.Limit.the-variants.{Free}
 use Rattle.subobject.specs.declared.head.Head.{Head}
 use Rattle.subobject.specs.declared.segment.Segment.{Segment}
-use Rattle.subobject.specs.Layout.{sidLength, structureThere, structureLength, expectedLength, kindOf, headOf, headAt}
-use Rattle.subobject.specs.Rules.{rule7, rule8, rule9, malformed, rule10, rule11, flagF, hasStructure, sumAt, bitsAt, labelAt, timeAt, hasLabel, rule29, rule30}
-use Rattle.subobject.specs.Segments.{segmentAt, noSegment, headOfSegment, fixedOctets, structureOctets, subobjectOf, bitsOf, bit}
+use Rattle.subobject.specs.Layout.{sidLength, structureThere, structureLength, kindOf, headOf, headAt}
+use Rattle.subobject.specs.Rules.{rule10, rule11, hasStructure, sumAt, bitsAt, labelAt, timeAt, hasLabel, rule29, rule30}
+use Rattle.subobject.specs.Segments.{segmentAt, noSegment, headOfSegment, fixedOctets, structureOctets, subobjectOf, bitsOf}
+use Rattle.subobject.proofs.Unbroken.{UnbrokenBy}
 use Rattle.subobject_strays.specs.Strays.{straysAt, noStrays, strayIn}
 use Rattle.frame.specs.Checks.{Check, check, firstBroken}
-use Rattle.frame.specs.Frames.{classOf, headed, fitsIn, Apart, apartOf, placesOf, kindAt, anyIs, otherThan, mixedAt, rule4, rule5, rule6, rule6Place, rule14, frameChecks}
-use Rattle.frame.specs.Chains.{Chain, stop, link}
-use Rattle.frame.proofs.Chains.{chain-whole}
-use Rattle.frame.proofs.Checks.{None, none-first, none-append}
+use Rattle.frame.specs.Frames.{classOf, headed, fitsIn, Apart, apart, apartOf, placesOf, kindAt, anyIs, rule4, rule5, rule14, frameChecks}
+use Rattle.frame.specs.Fills.{FillsFrom, stop, link}
+use Rattle.frame.proofs.Fills.{fills-whole}
+use Rattle.frame.proofs.Checks.{None, none-first, none-append, unbroken-none}
 use Rattle.frame.proofs.Laws.{fits-made}
+use Rattle.frame.proofs.OneKind.{AllKind, kind-present, kinds-unmixed, kinds-present}
+use Rattle.frame.proofs.OneKind.AllKind.{none as kind-none, next as kind-next}
 use Rattle.frame_rules.proofs.Laws.{headed-last}
 use Rattle.route.specs.declared.picking.Picked.{Picked}
 use Rattle.route_walk.specs.Walk.{checksAt, subobjectChecks}
@@ -59,8 +62,7 @@ use Rattle.readback.proofs.Segments.{Plain, plain, there, stands-four, 
 -- the octets of a segment --------------------------------------------------------------------------------------
 
 fours : (b : Bool) (n : ℕ) → n % 4 ≡ 0 → cond b n 0 % 4 ≡ 0
-fours true n e = e
-fours false n e = refl
+fours b n e = cases (λ (x : ℕ). x % 4 ≡ 0) b n 0 (λ t. e) (λ t. refl)
 
 fixed-fours : {form : Form} → Sized form → (4 ≤ form .fixed) × (form .fixed % 4 ≡ 0)
 fixed-fours {form} z = go (form .behaves) (form .fixed) (z .fixed)
@@ -92,7 +94,7 @@ size-at : {form : Form} → Sized form → Readable form → (p : List ℕ) (g :
 size-at {form} z r p g gs h = stands-octet _ (stands-four z r g (next-stands form p g gs)) 1 (omega arith) ∙ size-subobject z g h
 
 body-chain : {form : Form} → Sized form → Readable form → (gs : List Segment) (p : List ℕ) → AllTyped gs
-    → Chain (p ++ writtenBody form gs) (length p) (placesFrom form (length p) gs)
+    → FillsFrom (p ++ writtenBody form gs) (length p) (placesFrom form (length p) gs)
 body-chain z r [] p h = let e : length p ≡ length (p ++ []) = ap length (sym (append-nil p)) in stop e
 body-chain {form} z r (g ∷ gs) p (more hg h) =
     let x = subobjectOf form g in
@@ -101,8 +103,8 @@ body-chain {form} z r (g ∷ gs) p (more hg h) =
     let l : length s ≡ length p + (length x + length (writtenBody form gs)) = omega (arith, length-append p (x ++ writtenBody form gs), length-append x (writtenBody form gs)) in
     let e = size-at z r p g gs hg in
     let o : fitsIn (octetOf s (length p + 1)) (length s - length p) ≡ true = rw e (fits-made (length x) (length s - length p) (y .0) (y .1) (omega arith)) in
-    let c : Chain s (length p + length x) (placesFrom form (length p + length x) gs) = simp (append-assoc, length-append) at (body-chain z r gs (p ++ x) h) in
-    let t : Chain s (length p + octetOf s (length p + 1)) (placesFrom form (length p + length x) gs) = rw e c in
+    let c : FillsFrom s (length p + length x) (placesFrom form (length p + length x) gs) = simp (append-assoc, length-append) at (body-chain z r gs (p ++ x) h) in
+    let t : FillsFrom s (length p + octetOf s (length p + 1)) (placesFrom form (length p + length x) gs) = rw e c in
     link (λ (q : length p ≡ length s). omega arith) o t
 
 -- labels -------------------------------------------------------------------------------------------------------
@@ -164,12 +166,7 @@ module _ {s : List ℕ} {at : ℕ} (x : List ℕ) (n : ℕ) (t : Stands s at (ta
 pub record Reads (form : Form) (ero : Bool) (s : List ℕ) (at : ℕ) (g : Segment) : Type 0 where
   pub head : headAt form s ero at ≡ headOfSegment form g
   pub segment : segmentAt form s ero at ≡ g
-  pub r8 : rule8 form (headOfSegment form g) ≡ false
-  pub r9 : rule9 (headOfSegment form g) ≡ false
-  pub formed : malformed (headOfSegment form g) ≡ false
-  pub r11 : rule11 (headOfSegment form g) (bitsAt form (headOfSegment form g) s at) ≡ false
-  pub r29 : rule29 (headOfSegment form g) (labelAt s (at + form .fixed)) ≡ false
-  pub r30 : rule30 (headOfSegment form g) (timeAt s (at + form .fixed)) ≡ false
+  pub sound : UnbrokenBy form (headOfSegment form g) s at
   pub strays : straysAt form s ero at ≡ noStrays
   pub ignored : zeros (ignoredAt form s ero at) ≡ true
 
@@ -216,12 +213,14 @@ module _ {form : Form} (z : Sized form) (r : Readable form) {s : List ℕ} {at :
       record {
         head = head-back z r g t ero p;
         segment = segment-back z r g t ero h p;
-        r8 = f .r8;
-        r9 = f .r9;
-        formed = p .formed;
-        r11 = bits-back (p .sided) (f .r11) (g .structured) refl;
-        r29 = label-back (f .r29) (hasLabel (headOfSegment form g)) refl;
-        r30 = time-back (f .r30) (hasLabel (headOfSegment form g)) refl;
+        sound = record {
+          r8 = f .sound .r8;
+          r9 = f .sound .r9;
+          r7 = f .sound .r7;
+          r11 = bits-back (p .sided) (f .sound .r11) (g .structured) refl;
+          r29 = label-back (f .sound .r29) (hasLabel (headOfSegment form g)) refl;
+          r30 = time-back (f .sound .r30) (hasLabel (headOfSegment form g)) refl;
+        };
         strays = strays-back z r g t ero h p;
         ignored = ignored-back z r g t ero h p;
       }
@@ -241,11 +240,6 @@ all-read {form} z r ero (g ∷ gs) p (more hg h) (also fg f) =
 
 -- no rule is broken --------------------------------------------------------------------------------------------
 
-rule7-off : (form : Form) (g : Segment) → malformed (headOfSegment form g) ≡ false → rule7 form (headOfSegment form g) ≡ false
-unfolding rule7 headOfSegment
-rule7-off form g e =
-    rw (eq-eqb (flagF (g .nt)) (flagF (g .nt)) refl, eq-eqb (expectedLength form (g .nt) (bit (not (g .hassid))) (bit (g .structured))) _ refl) e
-
 rule10-off : (ero : Bool) (h : Head) → rule10 h ero true ≡ false
 unfolding rule10
 rule10-off ero h = and-no ero _ (and-false (eqb (h .s) 1))
@@ -255,34 +249,18 @@ module _ {form : Form} {ero : Bool} {s : List ℕ} where
   unfolding headAt headOf headOfSegment
   kind-read r = ap (λ (h : Head). h .kind) (r .head)
 
-  others-none : {ps : List ℕ} {gs : List Segment} → AllRead form ero s ps gs → otherThan (kindAt s ero) ps (form .kind) ≡ 0
-  others-none none = refl
-  others-none (next r a) = rw (eq-eqb _ (form .kind) (kind-read r)) (others-none a)
+  kinds-read : {ps : List ℕ} {gs : List Segment} → AllRead form ero s ps gs → AllKind (kindAt s ero) (form .kind) ps
+  kinds-read none = kind-none
+  kinds-read (next r a) = kind-next (kind-read r) (kinds-read a)
 
   checks-none : {p : ℕ} {g : Segment} → Reads form ero s p g → None (checksAt form s ero true p)
   checks-none {p} {g} r =
-      rw (r .head) (r .r8, (r .r9, (rule7-off form g (r .formed), (rule10-off ero (headOfSegment form g), (r .r11, (r .r29, (r .r30, tt)))))))
+      rw (r .head) (unbroken-none s ero true p (r .sound) (rule10-off ero (headOfSegment form g)))
 
   subobjects-none : {ps : List ℕ} {gs : List Segment} → AllRead form ero s ps gs → None (subobjectChecks form s ero true ps)
   subobjects-none none = tt
   subobjects-none (next {p} {ps} r a) =
       none-append (checksAt form s ero true p) (subobjectChecks form s ero true ps) (checks-none r) (subobjects-none a)
-
-  mixed-none : {ps : List ℕ} {gs : List Segment} → AllRead form ero s ps gs → mixedAt (kindAt s ero) ps ≡ 0
-  mixed-none none = refl
-  mixed-none (next r a) = rw (kind-read r) (others-none a)
-
-  any-there : {ps : List ℕ} {gs : List Segment} → AllRead form ero s ps gs → (length gs ≡ 0 → ⊥) → anyIs (kindAt s ero) ps (form .kind) ≡ true
-  any-there none h = absurd (h refl)
-  any-there (next {p} r a) h = rw (eq-eqb (kindAt s ero p) (form .kind) (kind-read r))
-
-  any-kind : {ps : List ℕ} {gs : List Segment} → AllRead form ero s ps gs → (k : ℕ) → anyIs (kindAt s ero) ps k ≡ true → k ≡ form .kind
-  any-kind none k e = absurd (false≢true e)
-  any-kind (next {p} {ps} r a) k e = go (eqb (kindAt s ero p) k) refl e (any-kind a k)
-    where
-      go : (b : Bool) → eqb (kindAt s ero p) k ≡ b → (b || anyIs (kindAt s ero) ps k) ≡ true → (anyIs (kindAt s ero) ps k ≡ true → k ≡ form .kind) → k ≡ form .kind
-      go true q e rest = sym (eqb-true (kindAt s ero p) k q) ∙ kind-read r
-      go false q e rest = rest e
 
   read-length : {ps : List ℕ} {gs : List Segment} → AllRead form ero s ps gs → length ps ≡ length gs
   read-length none = refl
@@ -321,13 +299,15 @@ module _ (form : Form) (s : List ℕ) (ero : Bool) (ps : List ℕ) (gs : List Se
   stand = λ i. q i .places
 
   whole-none : None (wholeChecks form s ero openSession (form .setup))
-  unfolding rule4 rule5 rule6 rule6Place rule14 rule13
+  unfolding rule4 rule5 rule13
   whole-none =
+      let kinds : AllKind (kindAt s ero) (form .kind) (placesOf s) = rw stand (kinds-read a) in
       let r4 : rule4 s ero ≡ false = rw (hd, filled) in
       let r5 : rule5 s ≡ false = rw stand (ne-eqb (length ps) 0 (λ z. some (sym (read-length a) ∙ z))) in
-      let r6 : rule6 s ero (form .kind) ≡ false = rw stand (rw (any-there a some, mixed-none a)) in
+      let n : length (placesOf s) ≡ 0 → ⊥ = λ z. some (sym (rw stand (read-length a)) ∙ z) in
+      let r6 = kinds-unmixed s ero kinds in
       let r13 : rule13 form true (form .setup) ≡ false = rw (eq-eqb (form .setup) (form .setup) refl) in
-      let r14 : rule14 s ero (form .kind) ≡ false = rw stand (rw (any-there a some)) in
+      let r14 = kinds-present s ero kinds (omega (arith, n)) in
       (r4, (r5, (r6, (r14, (r13, tt)))))
 
   last-none : None (lastChecks (placesOf s) ero Free (length (placesOf s)))
@@ -384,7 +364,7 @@ object-apart : {form : Form} → Sized form → Readable form → (ero : Bool) (
     → apartOf (objectOf form gs ero) ≡ record { whole = true; places = placesFrom form 4 gs }
 unfolding objectOf headerOf
 object-apart {form} z r ero gs h =
-    chain-whole (objectOf form gs ero) (placesFrom form 4 gs) (body-chain z r gs (headerOf ero (4 + length (writtenBody form gs))) h)
+    fills-whole (objectOf form gs ero) (placesFrom form 4 gs) (body-chain z r gs (headerOf ero (4 + length (writtenBody form gs))) h)
 
 object-read : {form : Form} → Sized form → Readable form → (ero : Bool) (gs : List Segment) → AllTyped gs → AllFit form ero gs
     → AllRead form ero (objectOf form gs ero) (placesFrom form 4 gs) gs
@@ -463,7 +443,7 @@ module _ (ero : Bool) (pst : ℕ) (gs : List Segment) (b : List ℕ) (w : Writer
   pub written-unstray : (session : Session) (any : ℕ) → judgeOf (objectIn (writeRun b w gs ero pst)) ero session any .stray ≡ 0
   written-unstray session any =
       rw (m .object)
-      (unstray-any pst (objectOf (formOf pst) gs ero) ero (λ k e. any-kind body k (rw places at e))
+      (unstray-any pst (objectOf (formOf pst) gs ero) ero (λ k e. sym (kind-present (kinds-read body) k (rw places at e)))
       (unstray (formOf pst) (objectOf (formOf pst) gs ero) ero (placesFrom (formOf pst) 4 gs) gs (object-headed (formOf pst) ero gs (m .most) (m .fours))
       (object-apart (sized-by pst) (readable-by pst) ero gs typed) body (some-there (formOf pst) gs (m .filled))) session any)
 

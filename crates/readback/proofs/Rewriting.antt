@@ -1,14 +1,14 @@
--- The third theorem: rewriting what was read gives the same octets exactly if all ignored bits were 0. An acceptance says that the subobjects fill the object (`whole-chain`), all of
+-- The third theorem: rewriting what was read gives the same octets exactly if all ignored bits were 0. An acceptance says that the subobjects fill the object (`whole-fills`), all of
 -- the form's type and sound (`all-sound`); then each run of octets, header and subobjects, is compared with the written one by itself (`header-same`, `header-back`; Subobjects).
 use Prim.Native.Nat.{ℕ, zero, suc, _+_, _-_, _*_, _/_, _%_, _≤_, _<_}
 use mathlib.Core.Path.{_≡_, refl, sym, _∙_, ap}
-use mathlib.Core.Bool.{Bool, true, false, cond, not, _&&_, _||_}
+use mathlib.Core.Bool.{Bool, true, false, not, _&&_, _||_}
 use mathlib.Core.List.{List, [], _∷_, _++_, append-assoc, append-nil}
 use lib.Dec.{eqb, ltb}
 use lib.ListN.{length, getD, take, drop, length-append, length-drop, take-append-drop, drop-of-length-le}
 use lib.Seq.{drop-cons, drop-drop, take-at, drop-at, length-take-le}
 use native.Mathlib.Omega.{arith}
-use borrow.Author.Tests.{eqb-true, eqb-false, eq-eqb, ne-eqb, le-ltb, lt-ltb, not-true, not-false}
+use borrow.Author.Tests.{eqb-true, eqb-false, eq-eqb, ne-eqb, le-ltb, lt-ltb, not-true}
 use Rattle.octets.specs.Octets.{octetOf, be16, part, hi, lo, over, placed}
 use Rattle.octets.proofs.Laws.{length-part, getD-part, length-over, length-placed}
 use Rattle.forms.specs.declared.Form.{Form}
@@ -21,10 +21,12 @@ use Rattle.subobject.specs.Layout.{headAt}
 use Rattle.subobject.specs.Rules.{rule7, rule8, rule9, rule11, bitsAt}
 use Rattle.subobject.specs.Segments.{segmentAt, noSegment, subobjectOf}
 use Rattle.frame.specs.Checks.{check, firstBroken}
-use Rattle.frame.specs.Frames.{classOf, headed, fitsIn, placesOf, kindAt, anyIs, otherThan, mixedAt, rule4, rule5, rule6, rule6Place, rule14}
-use Rattle.frame.specs.Chains.{Chain, stop, link}
-use Rattle.frame.proofs.Chains.{whole-chain}
-use Rattle.frame.proofs.Checks.{None, none-first, none-append, none-split}
+use Rattle.frame.specs.Frames.{classOf, headed, fitsIn, placesOf, kindAt, rule4, rule5}
+use Rattle.frame.specs.Fills.{FillsFrom, stop, link}
+use Rattle.frame.proofs.Fills.{whole-fills}
+use Rattle.frame.proofs.OneKind.{AllKind, frame-kinds}
+use Rattle.frame.proofs.OneKind.AllKind.{next as kind-next}
+use Rattle.frame.proofs.Checks.{None, none-first, none-append, none-split, none-unbroken}
 use Rattle.frame.proofs.Laws.{fits-true, headed-sized}
 use Rattle.route_walk.specs.Walk.{checksAt, subobjectChecks}
 use Rattle.route.specs.Routes.{lastChecks, checksOf, countOf, acceptanceOf, judgeAs, pickOf, segmentAs, judgeOf, segmentOf, rule15}
@@ -59,52 +61,13 @@ abbrev partsOf : List ℕ → List ℕ → List ℕ
 partsOf s [] = []
 partsOf s (p ∷ ps) = part s p (octetOf s (p + 1)) ++ partsOf s ps
 
-parts-all : {s : List ℕ} {at : ℕ} {ps : List ℕ} → Chain s at ps → drop at s ≡ partsOf s ps
+parts-all : {s : List ℕ} {at : ℕ} {ps : List ℕ} → FillsFrom s at ps → drop at s ≡ partsOf s ps
 unfolding part
 parts-all {s} {at} (stop e) = let h : length s ≤ at = omega arith in drop-of-length-le s h
 parts-all {s} {at} (link l d c) =
     let n = octetOf s (at + 1) in
     let ih = parts-all c in
     sym (take-append-drop n (drop at s)) ∙ rw (drop-drop n at s, ih)
-
--- types --------------------------------------------------------------------------------------------------------
-
--- Every place is behind the header.
-data Behind : List ℕ → Type 0 where
-  none : Behind []
-  next : {p : ℕ} {ps : List ℕ} → 0 < p → Behind ps → Behind (p ∷ ps)
-
-behind : {s : List ℕ} {at : ℕ} {ps : List ℕ} → 0 < at → Chain s at ps → Behind ps
-behind h (stop e) = none
-behind h (link n d c) = next h (behind (omega arith) c)
-
-data AllKind (kinds : ℕ → ℕ) (kind : ℕ) : List ℕ → Type 0 where
-  none : AllKind kinds kind []
-  next : {p : ℕ} {ps : List ℕ} → kinds p ≡ kind → AllKind kinds kind ps → AllKind kinds kind (p ∷ ps)
-
--- No place of another type: all are of this one.
-no-other : (kinds : ℕ → ℕ) (kind : ℕ) {ps : List ℕ} → Behind ps → otherThan kinds ps kind ≡ 0 → AllKind kinds kind ps
-no-other kinds kind none e = none
-no-other kinds kind (next {p} {ps} h b) e = go (eqb (kinds p) kind) refl e (λ r. no-other kinds kind b r)
-  where
-    go : (x : Bool) → eqb (kinds p) kind ≡ x → cond x (otherThan kinds ps kind) p ≡ 0 → (otherThan kinds ps kind ≡ 0 → AllKind kinds kind ps) → AllKind kinds kind (p ∷ ps)
-    go true ex r rest = next (eqb-true (kinds p) kind ex) (rest r)
-    go false ex r rest = absurd (omega arith)
-
--- One of them is of the wanted type, so all are.
-some-is : (kinds : ℕ → ℕ) (kind want : ℕ) {ps : List ℕ} → AllKind kinds kind ps → anyIs kinds ps want ≡ true → kind ≡ want
-some-is kinds kind want none e = absurd (let z : _≡_ {A = ℕ} 0 1 = cc in omega arith)
-some-is kinds kind want (next {p} {ps} q a) e = go (eqb (kinds p) want) refl e (λ r. some-is kinds kind want a r)
-  where
-    go : (x : Bool) → eqb (kinds p) want ≡ x → (x || anyIs kinds ps want) ≡ true → (anyIs kinds ps want ≡ true → kind ≡ want) → kind ≡ want
-    go true ex r rest = sym q ∙ eqb-true (kinds p) want ex
-    go false ex r rest = rest r
-
-all-kind : (kinds : ℕ → ℕ) (want : ℕ) {ps : List ℕ} → Behind ps → anyIs kinds ps want ≡ true → mixedAt kinds ps ≡ 0 → AllKind kinds want ps
-all-kind kinds want none e m = none
-all-kind kinds want (next {p} {ps} h b) e m =
-    let a : AllKind kinds (kinds p) (p ∷ ps) = next refl (no-other kinds (kinds p) b m) in
-    rw (some-is kinds (kinds p) want a e) at a
 
 -- every subobject is sound -------------------------------------------------------------------------------------
 
@@ -115,22 +78,12 @@ data AllSound (form : Form) (ero : Bool) (s : List ℕ) : List ℕ → Type 0 wh
 sound-at : (form : Form) (ero n : Bool) (s : List ℕ) (p : ℕ) → EachOctet s → kindAt s ero p ≡ form .kind → p + octetOf s (p + 1) ≤ length s
     → None (checksAt form s ero n p) → Sound form ero s p
 sound-at form ero n s p o k i c =
-    record {
-      octets = o;
-      kind = k;
-      r8 = c .0;
-      r9 = c .1 .0;
-      r7 = c .1 .1 .0;
-      r11 = c .1 .1 .1 .1 .0;
-      r29 = c .1 .1 .1 .1 .1 .0;
-      r30 = c .1 .1 .1 .1 .1 .1 .0;
-      inside = i;
-    }
+    record { octets = o; kind = k; rules = none-unbroken s ero n p c; inside = i }
 
-all-sound : (form : Form) (ero n : Bool) (s : List ℕ) {at : ℕ} {ps : List ℕ} → EachOctet s → Chain s at ps → AllKind (kindAt s ero) (form .kind) ps
+all-sound : (form : Form) (ero n : Bool) (s : List ℕ) {at : ℕ} {ps : List ℕ} → EachOctet s → FillsFrom s at ps → AllKind (kindAt s ero) (form .kind) ps
     → None (subobjectChecks form s ero n ps) → AllSound form ero s ps
 all-sound form ero n s o (stop e) k c = none
-all-sound form ero n s {at} o (link {ps = ps} l d r) (next q k) c =
+all-sound form ero n s {at} o (link {ps = ps} l d r) (kind-next q k) c =
     let t = none-split (checksAt form s ero n at) (subobjectChecks form s ero n ps) c in
     next (sound-at form ero n s at o q (lies-within s at d) (t .0)) (all-sound form ero n s o r k (t .1))
 
@@ -150,7 +103,7 @@ module _ {form : Form} (z : Sized form) (r : Readable form) {ero : Bool} {s : Li
   all-fit (next d a) = also (fit z r d) (all-fit a)
 
   -- As many octets are written as were read.
-  body-length : {at : ℕ} {ps : List ℕ} → Chain s at ps → AllSound form ero s ps → at + length (writtenBody form (segmentsAt form ero s ps)) ≡ length s
+  body-length : {at : ℕ} {ps : List ℕ} → FillsFrom s at ps → AllSound form ero s ps → at + length (writtenBody form (segmentsAt form ero s ps)) ≡ length s
   body-length {at} (stop e) none = omega arith
   body-length {at} (link {ps = ps} l i c) (next d a) =
       let ih = body-length c a in
@@ -187,12 +140,12 @@ add-taken : (form : Form) (ero : Bool) (room at : ℕ) (g : Segment) → Fit for
 unfolding addNumber noRoom
 add-taken form ero room at g t l f h k =
     rw (
-      t .r8,
-      t .r9,
+      t .sound .r8,
+      t .sound .r9,
       t .fit,
-      t .r11,
-      t .r29,
-      t .r30,
+      t .sound .r11,
+      t .sound .r29,
+      t .sound .r30,
       proper at room l f (omega arith) (omega arith),
       within (at + length (subobjectOf form g)) room h k,
     )
@@ -322,11 +275,7 @@ module _ (s : List ℕ) (ero : Bool) (session : Session) (pst : ℕ) (accepted :
 
 -- the theorem --------------------------------------------------------------------------------------------------
 
-and-rest : (a b : Bool) → a ≡ true → (a && b) ≡ false → b ≡ false
-and-rest true b e f = f
-and-rest false b e f = absurd (let z : _≡_ {A = ℕ} 0 1 = cc in omega arith)
-
-not-filled : {s : List ℕ} {at : ℕ} {ps : List ℕ} → Chain s at ps → (length ps ≡ 0 → ⊥) → at < length s
+not-filled : {s : List ℕ} {at : ℕ} {ps : List ℕ} → FillsFrom s at ps → (length ps ≡ 0 → ⊥) → at < length s
 not-filled (stop e) h = absurd (h refl)
 not-filled {s} {at} (link n d c) h = omega (arith, fits-true (octetOf s (at + 1)) (length s - at) d)
 
@@ -342,20 +291,15 @@ module _ (s : List ℕ) (ero : Bool) (session : Session) (pst : ℕ) (octets : E
   header : Header ero s
   header = header-of ero s (accepted-frame (formOf pst) s ero session pst accepted .0)
 
-  filled : Chain s 4 (placesOf s)
-  filled = whole-chain s (accepted-frame (formOf pst) s ero session pst accepted .1)
+  filled : FillsFrom s 4 (placesOf s)
+  filled = whole-fills s (accepted-frame (formOf pst) s ero session pst accepted .1)
 
-  present : anyIs (kindAt s ero) (placesOf s) (formOf pst .kind) ≡ true
-  unfolding rule14
-  present = not-false _ (no-check .1 .1 .1 .0)
-
-  unmixed : mixedAt (kindAt s ero) (placesOf s) ≡ 0
-  unfolding rule6 rule6Place
-  unmixed = eqb-true _ 0 (not-false _ (and-rest (anyIs (kindAt s ero) (placesOf s) (formOf pst .kind)) _ present (no-check .1 .1 .0)))
+  kinds : AllKind (kindAt s ero) (formOf pst .kind) (placesOf s)
+  kinds = frame-kinds s ero (formOf pst .kind) (accepted-frame (formOf pst) s ero session pst accepted .1) (no-check .1 .1 .0) (no-check .1 .1 .1 .0)
 
   sound : AllSound (formOf pst) ero s (placesOf s)
   sound =
-      all-sound (formOf pst) ero (session .n) s octets filled (all-kind (kindAt s ero) (formOf pst .kind) (behind (omega arith) filled) present unmixed)
+      all-sound (formOf pst) ero (session .n) s octets filled kinds
       (none-split (subobjectChecks (formOf pst) s ero (session .n) (placesOf s)) (lastChecks (placesOf s) ero (session .limit) (countOf s))
       (no-check .1 .1 .1 .1 .1) .0)
 

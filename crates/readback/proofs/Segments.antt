@@ -138,7 +138,7 @@ abbrev firstPart : Form → Segment → List ℕ
 firstPart form g =
     (headOfSegment form g .l * 128 + form .kind) ∷ headOfSegment form g .size ∷ (g .nt * 16) ∷ flagsOctet form (headOfSegment form g) ∷ []
 
-abbrev secondPart : Bool → ℕ → List ℕ
+abbrev pub secondPart : Bool → ℕ → List ℕ
 secondPart b behaviour = cond b (0 ∷ 0 ∷ hi behaviour ∷ lo behaviour ∷ []) []
 
 abbrev sidPart : Form → Segment → List ℕ
@@ -163,9 +163,9 @@ tidied form g e =
     let y = both-true (zeros (drop (naiLength form (g .nt)) (g .nai))) _ (z .1) in
     record { sid = z .0; nai = y .0; structure = y .1 }
 
-pub sid-there : (form : Form) (g : Segment) → sidLength form (headOfSegment form g .s) ≡ cond (g .hassid) (form .sid) 0
+sid-length : (form : Form) (g : Segment) → sidLength form (headOfSegment form g .s) ≡ cond (g .hassid) (form .sid) 0
 unfolding headOfSegment
-sid-there form g = rw (bit-none (g .hassid))
+sid-length form g = rw (bit-none (g .hassid))
 
 pub there : (form : Form) (g : Segment) → (g .structured && not (g .hassid)) ≡ false → hasStructure (headOfSegment form g) ≡ g .structured
 unfolding headOfSegment hasStructure
@@ -182,7 +182,7 @@ sided g q e = not-false (g .hassid) (rw q at e)
 
 -- A SID that is there, as long as the form has it.
 full-sid : (form : Form) (g : Segment) → g .hassid ≡ true → sidLength form (headOfSegment form g .s) ≡ form .sid
-full-sid form g e = sid-there form g ∙ ap (λ (b : Bool). cond {A = ℕ} b (form .sid) 0) e
+full-sid form g e = sid-length form g ∙ ap (λ (b : Bool). cond {A = ℕ} b (form .sid) 0) e
 
 any-both : (x y : List ℕ) → anySet x ≡ false → anySet y ≡ false → anySet (x ++ y) ≡ false
 any-both [] y e f = f
@@ -250,7 +250,7 @@ module _ {form : Form} (z : Sized form) (r : Readable form) {s : List ℕ} {at :
       let p : part s (at + form .fixed) k ≡ sidPart form g = rw (length-sid z g h) at (stands-part (sidPart form g) stands-sid) in
       rw p
       (padded-back (g .sid) k 16 (h .sid) (omega (arith, z .sid, cond-most (eqb (headOfSegment form g .s) 0) (form .sid)))
-      (rw (sid-there form g) (tidied form g e .sid)))
+      (rw (sid-length form g) (tidied form g e .sid)))
 
   pub nai-back : Typed g → tidyOf form g ≡ true → partOf s (at + form .fixed + sidLength form (headOfSegment form g .s)) (naiLength form (g .nt)) 40 ≡ g .nai
   unfolding partOf

@@ -19,9 +19,11 @@ use Rattle.forms.proofs.Laws.{flag-most, nai-most}
 use Rattle.subobject.specs.declared.head.Head.{Head}
 use Rattle.subobject.specs.declared.segment.Segment.{Segment}
 use Rattle.subobject.specs.Layout.{sidLength, structureThere, structureLength, expectedLength, kindOf, headOf, headAt}
-use Rattle.subobject.specs.Rules.{rule7, rule8, rule9, malformed, rule11, flagF, hasStructure, sumAt, bitsAt, labelAt, timeAt, hasLabel, rule29, rule30}
+use Rattle.subobject.specs.Rules.{rule7, rule8, rule9, malformed, rule11, flagF, hasStructure, sumAt, labelAt, timeAt, hasLabel, rule29, rule30}
 use Rattle.subobject.specs.Segments.{segmentBy, segmentAt, outlineOf, headOfSegment, flagsOctet, fixedOctets, structureOctets, subobjectOf, bitsOf, bit}
+use Rattle.subobject.proofs.Unbroken.{UnbrokenAt}
 use Rattle.frame.specs.Frames.{kindAt}
+use Rattle.writer_fixed.specs.Small.{Bits}
 use Rattle.writer_spare.specs.Typed.{Typed}
 use Rattle.writer_spare.specs.Spare.{zeros, tidyOf}
 use Rattle.writer_layout.specs.Readable.{together, Readable}
@@ -32,6 +34,7 @@ use Rattle.writer_rules.proofs.Checks.{seven-written}
 use Rattle.writer_rules.proofs.Laws.{Fit, size-subobject}
 use Rattle.readback.specs.Ignored.{EachOctet, unassignedAt, assignedAt, endingAt, ignoredAt}
 use Rattle.readback.proofs.Stands.{Stands, zeros-are}
+use Rattle.readback.proofs.Segments.{secondPart}
 use Rattle.readback.proofs.Reading.{bits-off, sum-back, label-part, time-part, label-off, time-off, label-sid}
 use Rattle.readback.proofs.Parts.{part-add, length-partOf, take-partOf, drop-partOf, append-same, octet-small, zeros-replicate, zeros-append, zeros-split, zeros-cons, zeros-uncons}
 
@@ -39,12 +42,7 @@ use Rattle.readback.proofs.Parts.{part-add, length-partOf, take-partOf,
 pub record Sound (form : Form) (ero : Bool) (s : List ℕ) (at : ℕ) : Type 0 where
   pub octets : EachOctet s
   pub kind : kindAt s ero at ≡ form .kind
-  pub r8 : rule8 form (headAt form s ero at) ≡ false
-  pub r9 : rule9 (headAt form s ero at) ≡ false
-  pub r7 : rule7 form (headAt form s ero at) ≡ false
-  pub r11 : rule11 (headAt form s ero at) (bitsAt form (headAt form s ero at) s at) ≡ false
-  pub r29 : rule29 (headAt form s ero at) (labelAt s (at + form .fixed)) ≡ false
-  pub r30 : rule30 (headAt form s ero at) (timeAt s (at + form .fixed)) ≡ false
+  pub rules : UnbrokenAt form s ero at
   pub inside : at + octetOf s (at + 1) ≤ length s
 
 -- bits ---------------------------------------------------------------------------------------------------------
@@ -70,19 +68,6 @@ expected-again form nt s t = rw (there-again (eqb s 0) (eqb t 1))
 
 -- the head -----------------------------------------------------------------------------------------------------
 
-record Bits (h : Head) : Type 0 where
-  s : h .s ≤ 1
-  f : h .f ≤ 1
-  t : h .t ≤ 1
-  v : h .v ≤ 1
-  l : h .l ≤ 1
-  c : h .c ≤ 1
-  m : h .m ≤ 1
-
-only-most : (ero : Bool) (n : ℕ) → n ≤ 1 → cond ero n 0 ≤ 1
-only-most true n h = h
-only-most false n h = omega arith
-
 bits-of : (form : Form) (ero : Bool) (s : List ℕ) (at : ℕ) → EachOctet s → Bits (headAt form s ero at)
 unfolding headAt headOf
 bits-of form ero s at o =
@@ -92,8 +77,8 @@ bits-of form ero s at o =
       s = flag-most x (form .s);
       f = flag-most x (form .f);
       t = flag-most x (form .t);
-      v = only-most ero (flagIn x (form .v)) (flag-most x (form .v));
-      l = only-most ero (octetOf s at / 128) (omega arith);
+      v = omega (arith, flag-most x (form .v), cond-most ero (flagIn x (form .v)));
+      l = omega (arith, cond-most ero (octetOf s at / 128));
       c = flag-most x (form .c);
       m = flag-most x (form .m);
     }
@@ -236,16 +221,12 @@ foreign-off form ero s at =
     four-off _ _ _ _ (flag-off x (form .m) true) (flag-off x (form .c) true) (flag-off x (form .t) (eqb (flagIn x (form .s)) 0))
     (behaviour-off (form .behaves) (be16 s (at + 6)))
 
-cond-small : (b : Bool) (n : ℕ) → n < 65536 → cond b n 0 < 65536
-cond-small true n h = h
-cond-small false n h = omega arith
-
 -- the segment is fit to be written -----------------------------------------------------------------------------
 
 module _ {form : Form} (z : Sized form) (r : Readable form) {ero : Bool} {s : List ℕ} {at : ℕ} (d : Sound form ero s at) where
   laid : Laid form s at (headAt form s ero at)
   unfolding headAt headOf
-  laid = laid-of form s at (headAt form s ero at) (lengths-of form (headAt form s ero at) (d .r7)) (d .inside)
+  laid = laid-of form s at (headAt form s ero at) (lengths-of form (headAt form s ero at) (d .rules .r7)) (d .inside)
 
   low : (structureThere (headAt form s ero at .s) (headAt form s ero at .t) ≡ true → at + form .fixed + form .sid + naiLength form (headAt form s ero at .nt) + 8 ≤ length s)
   low e = bits-inside form s at (headAt form s ero at) laid e
@@ -267,7 +248,7 @@ module _ {form : Form} (z : Sized form) (r : Readable form) {ero : Bool} {s : Li
       let h = headAt form s ero at in
       record {
         nt = nt-small;
-        behaviour = cond-small (form .behaves) (be16 s (at + 6)) behaviour-small;
+        behaviour = omega (arith, behaviour-small, cond-most (form .behaves) (be16 s (at + 6)));
         sid = length-partOf s (at + form .fixed) (sidLength form (h .s)) 16 (laid .sid) sid-fits;
         nai = length-partOf s (at + form .fixed + sidLength form (h .s)) (naiLength form (h .nt)) 40 (laid .nai) (nai-most z (h .nt));
         structure = bits-long s (at + form .fixed + form .sid + naiLength form (h .nt)) (structureThere (h .s) (h .t)) low;
@@ -275,7 +256,7 @@ module _ {form : Form} (z : Sized form) (r : Readable form) {ero : Bool} {s : Li
 
   head-written : headOfSegment form (segmentAt form s ero at) ≡ again form (headAt form s ero at)
   unfolding segmentAt
-  head-written = head-again form (headAt form s ero at) s at (bits-of form ero s at (d .octets)) (lengths-of form (headAt form s ero at) (d .r7))
+  head-written = head-again form (headAt form s ero at) s at (bits-of form ero s at (d .octets)) (lengths-of form (headAt form s ero at) (d .rules .r7))
 
   sid-tidy : (b : Bool) (n : ℕ) → at + form .fixed + cond b n 0 ≤ length s → cond b n 0 ≤ 16
       → zeros (drop (cond b n 0) (partOf s (at + form .fixed) (cond b n 0) 16)) ≡ true
@@ -302,7 +283,7 @@ module _ {form : Form} (z : Sized form) (r : Readable form) {ero : Bool} {s : Li
       let sp = at + form .fixed + form .sid + naiLength form (h .nt) in
       let i = low e in
       let l : sp + 4 ≤ length s = omega arith in
-      rw e (rw (bits-whole s sp l, ← sum-back (part s sp 4) (part-stands s sp 4 l) (length-part s sp 4 l)) (d .r11))
+      rw e (rw (bits-whole s sp l, ← sum-back (part s sp 4) (part-stands s sp 4 l) (length-part s sp 4 l)) (d .rules .r11))
   sums false e = bits-off (headAt form s ero at) (bitsOf (segmentAt form s ero at)) e
 
   sid-of : segmentAt form s ero at .sid ≡ partOf s (at + form .fixed) (sidLength form (headAt form s ero at .s)) 16
@@ -313,24 +294,24 @@ module _ {form : Form} (z : Sized form) (r : Readable form) {ero : Bool} {s : Li
   long e = omega (arith, r .label, label-sid form (headAt form s ero at) e)
 
   label : (b : Bool) → hasLabel (headAt form s ero at) ≡ b → rule29 (headAt form s ero at) (labelAt (segmentAt form s ero at .sid) 0) ≡ false
-  label true e = ap (rule29 (headAt form s ero at)) (ap (λ (x : List ℕ). labelAt x 0) sid-of ∙ label-part s (at + form .fixed) _ 16 (laid .sid) (long e)) ∙ d .r29
+  label true e = ap (rule29 (headAt form s ero at)) (ap (λ (x : List ℕ). labelAt x 0) sid-of ∙ label-part s (at + form .fixed) _ 16 (laid .sid) (long e)) ∙ d .rules .r29
   label false e = label-off (headAt form s ero at) _ e
 
   time : (b : Bool) → hasLabel (headAt form s ero at) ≡ b → rule30 (headAt form s ero at) (timeAt (segmentAt form s ero at .sid) 0) ≡ false
-  time true e = ap (rule30 (headAt form s ero at)) (ap (λ (x : List ℕ). timeAt x 0) sid-of ∙ time-part s (at + form .fixed) _ 16 (laid .sid) (long e)) ∙ d .r30
+  time true e = ap (rule30 (headAt form s ero at)) (ap (λ (x : List ℕ). timeAt x 0) sid-of ∙ time-part s (at + form .fixed) _ 16 (laid .sid) (long e)) ∙ d .rules .r30
   time false e = time-off (headAt form s ero at) _ e
 
   known : rule8 form (headOfSegment form (segmentAt form s ero at)) ≡ false
   unfolding rule8
-  known = rw head-written (d .r8)
+  known = rw head-written (d .rules .r8)
 
   something : rule9 (headOfSegment form (segmentAt form s ero at)) ≡ false
   unfolding rule9
-  something = rw head-written (d .r9)
+  something = rw head-written (d .rules .r9)
 
   formed : malformed (headOfSegment form (segmentAt form s ero at)) ≡ false
   unfolding malformed
-  formed = rw head-written (lengths-of form (headAt form s ero at) (d .r7) .formed)
+  formed = rw head-written (lengths-of form (headAt form s ero at) (d .rules .r7) .formed)
 
   five-off : (a b c e f : Bool) → a ≡ false → b ≡ false → c ≡ true → e ≡ false → f ≡ false → (a || (b || (not c || (e || f)))) ≡ false
   five-off a b c e f ea eb ec ee ef = rw (ea, eb, ec, ee, ef)
@@ -361,12 +342,15 @@ module _ {form : Form} (z : Sized form) (r : Readable form) {ero : Bool} {s : Li
       let h = headAt form s ero at in
       let g = segmentAt form s ero at in
       record {
-        r8 = known;
-        r9 = something;
+        sound = record {
+          r8 = known;
+          r9 = something;
+          r7 = seven-written form g ∙ formed;
+          r11 = rw head-written (bits-again form h (bitsOf g) ∙ sums (hasStructure h) refl);
+          r29 = rw head-written (label-again (labelAt (g .sid) 0) ∙ label (hasLabel h) refl);
+          r30 = rw head-written (time-again (timeAt (g .sid) 0) ∙ time (hasLabel h) refl);
+        };
         fit = fitting;
-        r11 = rw head-written (bits-again form h (bitsOf g) ∙ sums (hasStructure h) refl);
-        r29 = rw head-written (label-again (labelAt (g .sid) 0) ∙ label (hasLabel h) refl);
-        r30 = rw head-written (time-again (timeAt (g .sid) 0) ∙ time (hasLabel h) refl);
       }
 
 -- octet by octet -----------------------------------------------------------------------------------------------
@@ -425,9 +409,6 @@ module _ (a u w v t iv it fv ft wv wt rest : ℕ) (hv : v + iv ≡ fv) (ht : t +
       go (ℕ.suc n) k = times-zero it wt (u * w + iv * wv) (omega arith) (let q = flags-split e in omega arith)
 
 -- the reserved octets and the behaviour ------------------------------------------------------------------------
-
-abbrev secondPart : Bool → ℕ → List ℕ
-secondPart b behaviour = cond b (0 ∷ 0 ∷ hi behaviour ∷ lo behaviour ∷ []) []
 
 module _ (s : List ℕ) (at : ℕ) (o : EachOctet s) where
   high-kept : hi (be16 s (at + 6)) ≡ octetOf s (at + 6)

@@ -7,7 +7,7 @@ use mathlib.Core.Bool.{Bool, true, false, cond}
 use lib.Dec.{eqb}
 use lib.ListN.{length}
 use native.Mathlib.Omega.{arith}
-use borrow.Author.Tests.{eq-eqb, ne-eqb, le-ltb}
+use borrow.Author.Tests.{ne-eqb, le-ltb}
 use Rattle.answers.specs.Verdicts.{acceptedWith, carryingBoth}
 use Rattle.octets.specs.Octets.{octetOf}
 use Rattle.objects.specs.Objects.{header}
@@ -17,10 +17,11 @@ use Rattle.subobject.specs.Layout.{headOf, headAt, kindOf, sidPlace}
 use Rattle.subobject.specs.Rules.{rule7, rule8, rule9, rule10, rule11, rule29, rule30, bitsAt, labelAt, timeAt, rules, subjectBy}
 use Rattle.subobject_strays.specs.Strays.{straysBy, straysAt, strayOne, strayIn}
 use Rattle.frame.specs.Checks.{Check, firstBroken}
-use Rattle.frame.specs.Frames.{Apart, ended, headed, fitsIn, apartOf, placesOf, kindAt, anyIs, otherThan, mixedAt, rule4, rule5, rule6, rule6Place, rule14}
+use Rattle.frame.specs.Frames.{Apart, ended, headed, fitsIn, apartOf, placesOf, kindAt, rule4, rule5}
 use Rattle.frame.specs.Gathered.{frameOf}
-use Rattle.frame.proofs.Checks.{None, none-first, none-append}
+use Rattle.frame.proofs.Checks.{None, none-first, none-append, unbroken-none}
 use Rattle.frame.proofs.Laws.{Over, over-starts, over-ends, over-next}
+use Rattle.frame.proofs.OneKind.{AllKind, none, next, kinds-unmixed, kinds-present}
 use Rattle.frame.specs.RuleChecks.{checksBy}
 use Rattle.route_walk.specs.Walk.{checksAt, subobjectChecks, walkOf}
 use Rattle.route_pass.specs.Settled.{Settled, SettledBy, strayWorth}
@@ -68,7 +69,8 @@ pub good-made : (form : Form) (s : List ℕ) (ero n : Bool) (at : ℕ) (h : Head
 good-made form s ero n at h e k a b c d f g i =
     record {
       kind = head-kind form s ero at ∙ ap (λ (x : Head). x .kind) (sym e) ∙ k;
-      rules = subst (λ (x : Head). None (checksBy rules (subjectBy form x s ero n at) at)) e (a, (b, (c, (d, (f, (g, (i, tt)))))));
+      rules = subst (λ (x : Head). None (checksBy rules (subjectBy form x s ero n at) at)) e
+          (unbroken-none s ero n at (record { r8 = a; r9 = b; r7 = c; r11 = f; r29 = g; r30 = i }) d);
     }
 
 pub gone-on : {form : Form} {s : List ℕ} {ero n : Bool} {at count stray : ℕ} → Gone form s ero n at count stray → (h : Head) (one : ℕ) → at < length s
@@ -102,17 +104,9 @@ module _ (form : Form) (s : List ℕ) (ero n : Bool) where
   stray-turned (p ∷ ps) xs = let r = stray-turned ps (p ∷ xs) in omega arith
 
   -- All of one type.
-  any-good : (ps : List ℕ) → AllGood form s ero n ps → 0 < length ps → anyIs (kindAt s ero) ps (form .kind) ≡ true
-  any-good [] a h = absurd (omega arith)
-  any-good (p ∷ ps) a h = rw (eq-eqb (kindAt s ero p) (form .kind) (a .0 .kind))
-
-  other-good : (ps : List ℕ) → AllGood form s ero n ps → otherThan (kindAt s ero) ps (form .kind) ≡ 0
-  other-good [] a = refl
-  other-good (p ∷ ps) a = rw (eq-eqb (kindAt s ero p) (form .kind) (a .0 .kind)) (other-good ps (a .1))
-
-  mixed-good : (ps : List ℕ) → AllGood form s ero n ps → mixedAt (kindAt s ero) ps ≡ 0
-  mixed-good [] a = refl
-  mixed-good (p ∷ ps) a = rw (a .0 .kind) (other-good ps (a .1))
+  kind-good : (ps : List ℕ) → AllGood form s ero n ps → AllKind (kindAt s ero) (form .kind) ps
+  kind-good [] a = none
+  kind-good (p ∷ ps) a = next (a .0 .kind) (kind-good ps (a .1))
 
   none-good : (ps : List ℕ) → AllGood form s ero n ps → None (subobjectChecks form s ero n ps)
   none-good [] a = tt
@@ -121,9 +115,10 @@ module _ (form : Form) (s : List ℕ) (ero n : Bool) where
   -- A whole frame of such subobjects.
   frame-good : AllGood form s ero n (placesOf s) → 0 < length (placesOf s) → headed s ero ≡ true → apartOf s .whole ≡ true
       → frameOf s ero (form .kind) ≡ acceptedWith (length (placesOf s))
-  unfolding frameOf rule4 rule5 rule6 rule6Place rule14
+  unfolding frameOf rule4 rule5
   frame-good a h d e =
-      rw (e, d, ne-eqb (length (placesOf s)) 0 (omega arith), any-good (placesOf s) a h, mixed-good (placesOf s) a)
+      let k = kind-good (placesOf s) a in
+      rw (e, d, ne-eqb (length (placesOf s)) 0 (omega arith), kinds-unmixed s ero k, kinds-present s ero k h)
 
   walk-good : (count : ℕ) → AllGood form s ero n (placesOf s) → walkOf form s ero n count ≡ carryingBoth count (strayIn form s ero (placesOf s))
   unfolding walkOf

@@ -20,6 +20,7 @@ use Rattle.subobject.specs.Layout.{sidPlace, headOf, headAt, expectedLength, ex
 use Rattle.subobject.specs.Rules.{rule7, rule8, rule9, rule11, rule29, rule30, bitsAt, labelAt, timeAt}
 use Rattle.subobject.specs.Segments.{segmentBy, segmentAt, noSegment}
 use Rattle.subobject.proofs.Laws.{sound-length}
+use Rattle.subobject.proofs.Unbroken.{UnbrokenAt}
 use Rattle.frame.specs.Frames.{fitsIn}
 use Rattle.frame.proofs.Laws.{fits-true}
 use Rattle.route_step_tests.specs.Places.{outside}
@@ -35,12 +36,7 @@ pub record Sound (form : Form) (s : List ℕ) (ero : Bool) (at : ℕ) : Type 0 w
   pub short : at < length s
   pub fits : fitsIn (octetOf s (at + 1)) (length s - at) ≡ true
   pub kind : headAt form s ero at .kind ≡ form .kind
-  pub r8 : rule8 form (headAt form s ero at) ≡ false
-  pub r9 : rule9 (headAt form s ero at) ≡ false
-  pub r7 : rule7 form (headAt form s ero at) ≡ false
-  pub r11 : rule11 (headAt form s ero at) (bitsAt form (headAt form s ero at) s at) ≡ false
-  pub r29 : rule29 (headAt form s ero at) (labelAt s (sidPlace form at)) ≡ false
-  pub r30 : rule30 (headAt form s ero at) (timeAt s (sidPlace form at)) ≡ false
+  pub rules : UnbrokenAt form s ero at
 
 pub accepted-sound : (form : Form) (s : List ℕ) (ero : Bool) (at : ℕ) → stepVerdict form s ero at .number ≡ 0 → Sound form s ero at
 unfolding stepVerdict
@@ -77,12 +73,7 @@ accepted-sound form s ero at z =
           short = i .2;
           fits = ef;
           kind = eqb-true (headAt form s ero at .kind) (form .kind) ek;
-          r8 = ea;
-          r9 = eb;
-          r7 = ec;
-          r11 = ed;
-          r29 = el;
-          r30 = et;
+          rules = record { r8 = ea; r9 = eb; r7 = ec; r11 = ed; r29 = el; r30 = et };
         }
 
 pub sound-accepted : (form : Form) (s : List ℕ) (ero : Bool) (at : ℕ) → Sound form s ero at → stepVerdict form s ero at ≡ acceptedWith 0
@@ -94,12 +85,12 @@ sound-accepted form s ero at w =
       lt-leb (length s) at (w .short),
       w .fits,
       eq-eqb (headAt form s ero at .kind) (form .kind) (w .kind),
-      w .r8,
-      w .r9,
-      w .r7,
-      w .r11,
-      w .r29,
-      w .r30,
+      w .rules .r8,
+      w .rules .r9,
+      w .rules .r7,
+      w .rules .r11,
+      w .rules .r29,
+      w .rules .r30,
     )
 
 -- ---- the step
@@ -120,7 +111,7 @@ module _ (form : Form) (s : List ℕ) (ero : Bool) (at : ℕ) (v : Verdict) (e :
 
   pub step-lies : v .number ≡ 0 → at + expectedAt form s ero at ≤ length s
   unfolding expectedAt headAt headOf
-  step-lies z = let l = sound-length form (headAt form s ero at) (step-sound z .r7) in omega (arith, step-room z, l)
+  step-lies z = let l = sound-length form (headAt form s ero at) (step-sound z .rules .r7) in omega (arith, step-room z, l)
 
   pub step-accepted : {g : Segment} {size : ℕ} → v .number ≡ 0 → g ≡ segmentAt form s ero at → size ≡ octetOf s (at + 1)
       → _≡_ {A = Stepped} (record { verdict = v; segment = g; next = at + size }) (stepAs form s ero at)
@@ -138,7 +129,7 @@ module _ (form : Form) (s : List ℕ) (ero : Bool) (at : ℕ) (v : Verdict) (e :
 
     pub head-known : v .number ≡ 0 → knows form (h .nt) ≡ true
     unfolding rule8
-    head-known z = rw q (not-false _ (step-sound z .r8))
+    head-known z = rw q (not-false _ (step-sound z .rules .r8))
 
     pub head-behind : v .number ≡ 0 → at + h .size ≤ length s
     unfolding headAt headOf

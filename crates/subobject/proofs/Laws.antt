@@ -7,13 +7,13 @@ use lib.Dec.{eqb}
 use Rattle.octets.specs.Octets.{octetOf}
 use native.Mathlib.Omega.{arith}
 use borrow.Author.Tests.{eq-eqb, ne-eqb, eqb-true, eqb-false, not-true, not-false}
-use Rattle.octets.proofs.Said.{both-true, either-false}
+use Rattle.octets.proofs.Said.{both-true, either-false, and-no}
 use Rattle.forms.specs.declared.Form.{Form}
 use Rattle.forms.specs.Sized.{Shortest}
 use Rattle.forms.specs.Forms.{noNai, flagIn, naiLength, knows}
 use Rattle.subobject.specs.declared.head.Head.{Head}
 use Rattle.subobject.specs.Layout.{structureThere, expectedLength, worthL, worthNT, kindOf, headOf, headAt}
-use Rattle.subobject.specs.Rules.{rule7, rule8, rule9, flagF}
+use Rattle.subobject.specs.Rules.{rule7, rule8, rule9, flagF, hasLabel}
 
 -- lengths ------------------------------------------------------------------------------------------------------
 
@@ -72,6 +72,11 @@ sound-least form h l short e8 e9 e7 b = go (eqb (h .s) 0) refl (eqb (h .nt) noNa
         let f : h .f ≡ 1 = rw ey at (sound-flag form h e7) in
         absurd (let w : _≡_ {A = Bool} true false = sym (rw (one, f)) ∙ e9 in let v : _≡_ {A = ℕ} 0 1 = cc in omega arith)
     go false ez false ey = rw (sound-length form h e7, ez) (omega (arith, short .nai (h .nt) (nai-least form h e8 ey)))
+
+-- Where M isn't 1 there is no label.
+pub no-label : (h : Head) → (h .m ≡ 1 → ⊥) → hasLabel h ≡ false
+unfolding hasLabel
+no-label h n = and-no (eqb (h .s) 0) (eqb (h .m) 1) (ne-eqb (h .m) 1 n)
 
 -- the head -----------------------------------------------------------------------------------------------------
 

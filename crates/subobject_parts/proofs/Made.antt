@@ -18,11 +18,6 @@ use Rattle.subobject.specs.Rules.{hasStructure}
 use Rattle.subobject.specs.Segments.{segmentBy, segmentAt}
 use Rattle.subobject.proofs.Laws.{there-sid}
 
--- A structure stands only behind a SID.
-sid-there : (h : Head) → hasStructure h ≡ true → eqb (h .s) 0 ≡ true
-unfolding hasStructure
-sid-there h e = there-sid (h .s) (h .t) e
-
 -- The parts of a subobject lie inside the octets given.
 pub parts-by : (form : Form) (s : List ℕ) (at : ℕ) (h : Head) → at + expectedLength form (h .nt) (h .s) (h .t) ≤ length s
     → at + form .fixed + sidLength form (h .s) + naiLength form (h .nt) + cond (hasStructure h) structureSize 0 ≤ length s
@@ -54,13 +49,13 @@ bits-room false = omega arith
 pub structure-part : (form : Form) (s : List ℕ) (at : ℕ) (h : Head)
     → partOf s (at + form .fixed + sidLength form (h .s) + naiLength form (h .nt)) (cond (hasStructure h) bitLengths 0) bitLengths
     ≡ partOf s (structurePlace form (h .nt) at) (cond (hasStructure h) bitLengths 0) bitLengths
-unfolding partOf part
+unfolding partOf part hasStructure
 structure-part form s at h = go (hasStructure h) refl
   where
     go : (b : Bool) → hasStructure h ≡ b
         → partOf s (at + form .fixed + sidLength form (h .s) + naiLength form (h .nt)) (cond b bitLengths 0) bitLengths
         ≡ partOf s (structurePlace form (h .nt) at) (cond b bitLengths 0) bitLengths
-    go true e = rw (sid-there h e)
+    go true e = rw (there-sid (h .s) (h .t) e)
     go false e = refl
 
 -- The segment made of what was read part by part.

@@ -35,6 +35,3 @@ part-there s x at n m b e p = rw e p
 
 pub part-absent : (s : List ℕ) (at n m : ℕ) (b : Bool) → b ≡ false → replicate m 0 ≡ partOf s at (cond b n 0) m
 part-absent s at n m b e = rw e (no-run s at m)
-
-pub there-room : (n l at : ℕ) (b : Bool) → b ≡ true → at + cond b n 0 ≤ l → at + n ≤ l
-there-room n l at b e h = rw e at h

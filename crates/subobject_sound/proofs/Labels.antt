@@ -15,14 +15,10 @@ use Rattle.subobject.specs.Layout.{expectedLength}
 use Rattle.subobject.specs.Rules.{rule7, rule29, rule30, flagF, malformed, hasLabel, labelAt, timeAt, firstFree, goodLabel}
 use Rattle.subobject_sound.proofs.Laws.{label-room}
 
-pub no-label : (h : Head) → (h .m ≡ 1 → ⊥) → hasLabel h ≡ false
-unfolding hasLabel
-no-label h n = and-no (eqb (h .s) 0) (eqb (h .m) 1) (ne-eqb (h .m) 1 n)
-
 -- Where M is 1 there is a SID, and so are its four octets.
-pub sid-there : (h : Head) → rule7 mplsForm h ≡ false → h .m ≡ 1 → h .s ≤ 1 → h .s ≡ 0
+pub labelled-sid : (h : Head) → rule7 mplsForm h ≡ false → h .m ≡ 1 → h .s ≤ 1 → h .s ≡ 0
 unfolding rule7 malformed
-sid-there h r e l =
+labelled-sid h r e l =
     let long = not (eqb (h .size) (expectedLength mplsForm (h .nt) (h .s) (h .t))) in
     let with = eqb (h .s) 1 && (eqb (h .m) 1 || eqb (h .c) 1) in
     let bare = eqb (h .c) 1 && not (eqb (h .m) 1) in
@@ -39,7 +35,7 @@ sid-there h r e l =
 
 pub entry-room : (h : Head) → rule7 mplsForm h ≡ false → h .m ≡ 1 → h .s ≤ 1 → h .size ≡ expectedLength mplsForm (h .nt) (h .s) (h .t) → 8 ≤ h .size
 unfolding hasLabel
-entry-room h r e l q = label-room mplsForm h (eqb (h .s) 0 && eqb (h .m) 1) refl (rw (eq-eqb (h .s) 0 (sid-there h r e l), eq-eqb (h .m) 1 e)) q
+entry-room h r e l q = label-room mplsForm h (eqb (h .s) 0 && eqb (h .m) 1) refl (rw (eq-eqb (h .s) 0 (labelled-sid h r e l), eq-eqb (h .m) 1 e)) q
 
 -- 29 and 30.
 pub good-29 : (h : Head) (label : ℕ) → (ltb label firstFree && not (eqb label goodLabel)) ≡ false → rule29 h label ≡ false

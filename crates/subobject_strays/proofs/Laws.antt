@@ -10,7 +10,7 @@ use native.Mathlib.Nat.{zero-add, le-refl, le-div-iff-mul-le}
 use native.Mathlib.Omega.{arith}
 use borrow.Author.Tests.{eq-eqb, ne-eqb, eqb-true, eqb-false}
 use Rattle.octets.specs.Octets.{octetOf, be16}
-use Rattle.octets.proofs.Said.{or-none}
+use Rattle.octets.proofs.Said.{or-assoc, or-none}
 use Rattle.forms.specs.declared.Form.{Form}
 use Rattle.forms.specs.Forms.{naiLength}
 use Rattle.subobject.specs.declared.head.Head.{Head}
@@ -67,10 +67,6 @@ set-worth a n f g = go (eqb a 0) refl
     go true e = rw (e, eq-eqb n 0 (g (eqb-true a 0 e)))
     go false e = rw (e, ne-eqb n 0 (λ z. eqb-false a 0 e (f z)))
 
-or-join : (a b c : Bool) → ((a || b) || c) ≡ (a || (b || c))
-or-join true b c = refl
-or-join false b c = refl
-
 pub set-two : (s : List ℕ) (at : ℕ) → not (eqb (be16 s at) 0) ≡ anySet (octetOf s at ∷ octetOf s (at + 1) ∷ [])
 unfolding be16 octetOf
 set-two s at =
@@ -78,11 +74,11 @@ set-two s at =
     ∙ rw (set-worth (octetOf s at) (octetOf s at * 256) (λ e. omega arith) (λ e. omega arith), or-none (not (eqb (octetOf s (at + 1)) 0)))
 
 set-three : (a b c : ℕ) → not (eqb (a + b + c) 0) ≡ anySet (a ∷ b ∷ c ∷ [])
-set-three a b c = set-sum (a + b) c ∙ rw (set-sum a b, or-join (not (eqb a 0)) (not (eqb b 0)) (not (eqb c 0)), or-none (not (eqb c 0)))
+set-three a b c = set-sum (a + b) c ∙ rw (set-sum a b, or-assoc (not (eqb a 0)) (not (eqb b 0)) (not (eqb c 0)), or-none (not (eqb c 0)))
 
 set-append : (x y : List ℕ) → anySet (x ++ y) ≡ (anySet x || anySet y)
 set-append [] y = refl
-set-append (a ∷ x) y = rw (set-append x y) (sym (or-join (not (eqb a 0)) (anySet x) (anySet y)))
+set-append (a ∷ x) y = rw (set-append x y) (sym (or-assoc (not (eqb a 0)) (anySet x) (anySet y)))
 
 -- The two reserved octets as one number, 0 where the form has none.
 abbrev pub fixedTwo : Form → List ℕ → ℕ → ℕ

@@ -85,7 +85,7 @@ module _ {form : Form} {g : Segment} {h : Head} {front n size : ℕ} (k : Looked
         let t = placed-in in (
           k .typed,
           k .head,
-          ap (rule8 form) (k .head) ∙ t .segment .r8,
+          ap (rule8 form) (k .head) ∙ t .segment .sound .r8,
           simp (rest-lent, length-drop) (omega (arith, t .place .inside, t .end .inside)),
           k .sized,
           k .readable,

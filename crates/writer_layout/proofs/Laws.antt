@@ -157,7 +157,6 @@ unfolding headOfSegment expectedLength rule8
 small-head {form} z r g h e q =
     let k : g .nt ≤ 6 = nt-known form (g .nt) (not-false _ (sym (ap (λ (x : Head). not (knows form (x .nt))) e) ∙ q)) in
     rw e (record {
-      l = bit-most (g .loose);
       kind = r .kind;
       size = omega (
         arith,
@@ -168,12 +167,15 @@ small-head {form} z r g h e q =
         cond-most (structureThere (bit (not (g .hassid))) (bit (g .structured))) 8,
       );
       nt = omega arith;
-      v = bit-most (g .verify);
-      t = bit-most (g .structured);
-      f = cond-most (eqb (g .nt) 0) 1;
-      s = bit-most (not (g .hassid));
-      c = bit-most (g .complete);
-      m = bit-most (g .labelled);
+      bits = record {
+        l = bit-most (g .loose);
+        v = bit-most (g .verify);
+        t = bit-most (g .structured);
+        f = cond-most (eqb (g .nt) 0) 1;
+        s = bit-most (not (g .hassid));
+        c = bit-most (g .complete);
+        m = bit-most (g .labelled);
+      };
       flags = flags-small r (headOfSegment form g) (bit-most (g .verify)) (bit-most (g .structured)) (cond-most (eqb (g .nt) 0) 1) (bit-most (not (g .hassid)))
           (bit-most (g .complete)) (bit-most (g .labelled));
     })

@@ -9,6 +9,7 @@ use lib.Seq.{length-take-le, take-all}
 use native.Mathlib.Omega.{arith}
 use Rattle.octets.specs.Octets.{part, over, placed, partOf}
 use Rattle.octets.proofs.Laws.{length-over}
+use Rattle.octets.proofs.Said.{there-room}
 use Rattle.forms.specs.declared.Form.{Form}
 use Rattle.writer_spare.specs.NaiSizes.{NaiOctets}
 
@@ -37,8 +38,7 @@ pub laid-absent : (there : Bool) (b l : List ℕ) (at n : ℕ) → there ≡ fal
 laid-absent there b l at n t = sym (rw t (placed-none b at))
 
 pub room-there : (there : Bool) (l : List ℕ) (at n room : ℕ) → length l ≡ n → there ≡ true → at + cond there n 0 ≤ room → at + length l ≤ room
-room-there true l at n room e t h = rw e h
-room-there false l at n room e t h = absurd (let z : _≡_ {A = ℕ} 0 1 = cc in omega arith)
+room-there there l at n room e t h = rw e (there-room n room at there t h)
 
 -- The first n octets of a part laid, through an array of its own or not.
 pub laid-first : (l a b x : List ℕ) (at n m k : ℕ) → length l ≡ k → a ≡ partOf l 0 k k → n ≡ m → x ≡ placed b at (take m a) → x ≡ placed b at (take n l)

@@ -19,8 +19,10 @@ use Rattle.subobject.specs.declared.head.Head.{Head}
 use Rattle.subobject.specs.declared.segment.Outline.{Outline}
 use Rattle.subobject.specs.declared.segment.Segment.{Segment}
 use Rattle.subobject.specs.Layout.{bitLengths, structureSize, sidLength, structureThere, expectedLength}
-use Rattle.subobject.specs.Rules.{rule8, flagF, rule9, malformed, hasStructure, mostBits, sumAt, rule11, labelAt, timeAt, hasLabel, rule29, rule30}
+use Rattle.subobject.specs.Rules.{rule7, rule8, flagF, rule9, malformed, hasStructure, mostBits, sumAt, rule11, labelAt, timeAt, hasLabel, rule29, rule30}
 use Rattle.subobject.specs.Segments.{outlineOf, headOfOutline, headOfSegment, subobjectOf, bitsOf, bit}
+use Rattle.subobject.proofs.Laws.{no-label as unlabelled}
+use Rattle.subobject.proofs.Unbroken.{UnbrokenOf}
 use Rattle.writer_spare.specs.Typed.{Typed}
 use Rattle.writer_spare.specs.Spare.{zeros, tidyOf}
 use Rattle.writer_spare.proofs.Laws.{tidy-parts}
@@ -66,14 +68,19 @@ proper at room e =
 
 -- add ----------------------------------------------------------------------------------------------------------
 
+-- A segment that is fit keeps 7.
+unfit-seven : (form : Form) (ero : Bool) (g : Segment) → unfit form g ero ≡ false → rule7 form (headOfSegment form g) ≡ false
+unfolding unfit
+unfit-seven form ero g u =
+    let p = either-false (g .structured && not (g .hassid)) _ u in
+    let q = either-false (not ero && (g .loose || g .verify)) _ (p .1) in
+    let r = either-false (not (tidyOf form g)) _ (q .1) in
+    either-false (foreign form (outlineOf g)) _ (r .1) .1
+
 -- What an acceptance says of the segment,
 pub record Fit (form : Form) (ero : Bool) (g : Segment) : Type 0 where
-  pub r8 : rule8 form (headOfSegment form g) ≡ false
-  pub r9 : rule9 (headOfSegment form g) ≡ false
+  pub sound : UnbrokenOf form g
   pub fit : unfit form g ero ≡ false
-  pub r11 : rule11 (headOfSegment form g) (bitsOf g) ≡ false
-  pub r29 : rule29 (headOfSegment form g) (labelAt (g .sid) 0) ≡ false
-  pub r30 : rule30 (headOfSegment form g) (timeAt (g .sid) 0) ≡ false
 
 -- and of the place.
 pub record Taken (form : Form) (room : ℕ) (ero : Bool) (at : ℕ) (g : Segment) : Type 0 where
@@ -93,8 +100,9 @@ taken form room ero at g e =
     let e30 = no-refusal (rule30 h (timeAt (g .sid) 0)) 29 _ (e29 .1) in
     let e16 = no-refusal (badPlace at room || passes (at + length (subobjectOf form g)) room) 15 0 (e30 .1) in
     let p = either-false (badPlace at room) (passes (at + length (subobjectOf form g)) room) (e16 .0) in
+    let r7 = unfit-seven form ero g (e7 .0) in
     record {
-      segment = record { r8 = e8 .0; r9 = e9 .0; fit = e7 .0; r11 = e11 .0; r29 = e29 .0; r30 = e30 .0 };
+      segment = record { sound = record { r8 = e8 .0; r9 = e9 .0; r7 = r7; r11 = e11 .0; r29 = e29 .0; r30 = e30 .0 }; fit = e7 .0 };
       place = proper at room (p .0);
       end = within _ room (p .1);
     }
@@ -291,12 +299,8 @@ unfolding rule11
 no-structure-11 form g e = ap (λ (x : Bool). x && ltb mostBits (bitsOf g)) (no-structure form g e)
 
 no-label : (form : Form) (g : Segment) → g .labelled ≡ false → hasLabel (headOfSegment form g) ≡ false
-unfolding hasLabel headOfSegment
-no-label form g e = rw e (go (g .hassid))
-  where
-    go : (a : Bool) → (eqb (bit (not a)) 0 && eqb (bit false) 1) ≡ false
-    go true = refl
-    go false = refl
+unfolding headOfSegment
+no-label form g e = unlabelled (headOfSegment form g) (λ z. let q : bit (g .labelled) ≡ 0 = rw e in omega arith)
 
 pub no-label-29 : (form : Form) (g : Segment) (label : ℕ) → g .labelled ≡ false → rule29 (headOfSegment form g) label ≡ false
 unfolding rule29

@@ -10,10 +10,10 @@ use Rattle.answers.specs.Numbers.{routeEmpty, lengthWrong, sidNeeded, bufferFul
 use Rattle.objects.specs.Objects.{header}
 use Rattle.forms.specs.declared.Form.{Form}
 use Rattle.subobject.specs.declared.segment.Segment.{Segment}
-use Rattle.subobject.specs.Rules.{rule7, labelAt, timeAt, Subject, Row, ruleRow, rules}
+use Rattle.subobject.specs.Rules.{rule7, labelAt, timeAt, Subject, RuleRow, ruleRow, rules}
 use Rattle.subobject.specs.Segments.{outlineOf, headOfSegment, subobjectOf, bitsOf}
 use Rattle.frame.specs.Checks.{Check, check}
-use Rattle.frame.specs.Rows.{checksBy, without}
+use Rattle.frame.specs.RuleChecks.{checksBy, without}
 use Rattle.writer_spare.specs.Spare.{tidyOf}
 unfoldable pub use Rattle.writer_front.specs.Foreign.{foreign}
 unfoldable pub use Rattle.writer_tests.specs.Places.{passes, badPlace}
@@ -57,7 +57,7 @@ unfoldable pub noRoom : Form → Segment → ℕ → ℕ → Bool
 noRoom form g at room = badPlace at room || passes (at + length (subobjectOf form g)) room
 
 -- A table in which the rule of a number is broken by something else.
-abbrev pub insteadOf : List Row → ℕ → (Subject → Bool) → List Row
+abbrev pub insteadOf : List RuleRow → ℕ → (Subject → Bool) → List RuleRow
 insteadOf [] number broken = []
 insteadOf (r ∷ rs) number broken = cond (eqb number (r .number)) (ruleRow number (r .placed) broken) r ∷ insteadOf rs number broken
 

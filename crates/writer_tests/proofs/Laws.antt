@@ -5,17 +5,17 @@ use mathlib.Core.Bool.{Bool, true, false, not, _&&_, _||_}
 use lib.Dec.{eqb, ltb}
 use borrow.Author.Tests.{eq-eqb, ne-eqb, lt-ltb, ltb-true}
 use native.Mathlib.Omega.{arith}
-use Rattle.octets.proofs.Said.{either-false, and-false, or-true}
+use Rattle.octets.proofs.Said.{either-false, or-true}
 use Rattle.objects.specs.Objects.{header, unit}
 use Rattle.subobject.specs.declared.head.Head.{Head}
 use Rattle.subobject.specs.Rules.{hasLabel}
 use Rattle.subobject.specs.Segments.{bit}
+use Rattle.subobject.proofs.Laws.{no-label as unlabelled}
 use Rattle.writer_tests.specs.Places.{mostOctets, passes, badPlace}
 
 -- 29 and 30 only where there is a label.
 pub no-label : (h : Head) (labelled : Bool) → h .m ≡ bit labelled → labelled ≡ false → hasLabel h ≡ false
-unfolding hasLabel
-no-label h labelled e t = let q : h .m ≡ 0 = e ∙ rw t in rw q (and-false (eqb (h .s) 0))
+no-label h labelled e t = unlabelled h (λ z. let q : h .m ≡ 0 = e ∙ rw t in omega arith)
 
 -- 16: a place that is past the end is one from which the segment passes it.
 module _ (at size room : ℕ) where

@@ -1,7 +1,8 @@
 use mathlib.Core.Path.{_≡_, _∙_, ap}
 use native.Mathlib.Omega.{arith}
 use Rattle.forms.specs.declared.Form.{Form}
-use Rattle.subobject_parts.proofs.Pieces.{there-room, part-there, part-absent}
+use Rattle.octets.proofs.Said.{there-room}
+use Rattle.subobject_parts.proofs.Pieces.{part-there, part-absent}
 use borrow.Author.Needs.{needs}
 use Rattle.subobject_parts.proofs.mpls.sid_mpls.Statement.{statement}
 use Rattle.subobject_parts.proofs.mpls.sid_mpls.Tie as tie

@@ -1,5 +1,6 @@
 use native.Mathlib.Omega.{arith}
-use Rattle.subobject_parts.proofs.Pieces.{there-room, part-there, part-absent}
+use Rattle.octets.proofs.Said.{there-room}
+use Rattle.subobject_parts.proofs.Pieces.{part-there, part-absent}
 use Rattle.subobject_parts.proofs.part.structure_at.Statement.{statement}
 use Rattle.subobject_parts.proofs.part.structure_at.Tie as tie
 

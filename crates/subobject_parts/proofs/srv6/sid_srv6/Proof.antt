@@ -1,4 +1,5 @@
-use Rattle.subobject_parts.proofs.Pieces.{there-room, part-there, part-absent}
+use Rattle.octets.proofs.Said.{there-room}
+use Rattle.subobject_parts.proofs.Pieces.{part-there, part-absent}
 use Rattle.subobject_parts.proofs.srv6.sid_srv6.Statement.{statement}
 use Rattle.subobject_parts.proofs.srv6.sid_srv6.Tie as tie
 

@@ -1,7 +1,8 @@
 use native.Mathlib.Omega.{arith}
 use mathlib.Core.Bool.{false≢true}
 use borrow.Author.Tests.{not-false}
-use Rattle.subobject_sound.proofs.Labels.{no-label, entry-room, good-29, plain-30, timed-30}
+use Rattle.subobject.proofs.Laws.{no-label}
+use Rattle.subobject_sound.proofs.Labels.{entry-room, good-29, plain-30, timed-30}
 use Rattle.subobject_sound.proofs.Laws.{label-none}
 use mathlib.Core.Path.{sym, refl}
 use borrow.Author.Needs.{needs}
