@@ -2,6 +2,7 @@
 // Octets kept for a part that is absent or shorter are 0 in an answer.
 ghost use mathlib.Core.Path.{_≡_};
 ghost use Prim.Native.Nat.{_<_};
+ghost use Rattle.octets.specs.Octets.{end16};
 ghost use Rattle.border_segment.specs.Segments.{outlineIn, segmentOut};
 use subobject::Outline;
 use subobject::Segment;
@@ -35,7 +36,7 @@ pub struct OutlineRecord {
 
 pub fn outline_in(o: OutlineRecord) -> Outline
     ensures outline { λ r. ⌜ r ≡ outlineIn o ⌝ }
-    ensures small { λ r. ⌜ r .behaviour < 65536 ⌝ }
+    ensures small { λ r. ⌜ r .behaviour < end16 ⌝ }
 {
     Outline {
         loose: border_records::yes(o.loose),

@@ -8,16 +8,16 @@ use Rattle.words.specs.Words.{space, wordOf}
 use Rattle.decimal.specs.Decimal.{isNone, structureOf}
 use Rattle.command.specs.declared.Command.{Command}
 use Rattle.command.specs.Commands.{numberAt}
-use Rattle.console_add.specs.Added.{sidIn, naiIn, segmentSaid}
+use Rattle.console_add.specs.Added.{sidWord, structureWord, labelledWord, completeWord, sidIn, naiIn, segmentSaid}
 
 pub segment-made : (c : Command) (line : List ℕ) {sid nai structure : List ℕ} {bare plain : Bool} {m k : ℕ}
     → sid ≡ sidIn line
     → nai ≡ naiIn line
-    → bare ≡ isNone (wordOf line space 5)
-    → plain ≡ isNone (wordOf line space 7)
-    → structure ≡ structureOf (wordOf line space 7)
-    → m ≡ numberAt line 8
-    → k ≡ numberAt line 9
+    → bare ≡ isNone (wordOf line space sidWord)
+    → plain ≡ isNone (wordOf line space structureWord)
+    → structure ≡ structureOf (wordOf line space structureWord)
+    → m ≡ numberAt line labelledWord
+    → k ≡ numberAt line completeWord
     → record {
       loose = eqb (c .one) 1;
       verify = eqb (c .two) 1;

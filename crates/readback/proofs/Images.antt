@@ -17,7 +17,7 @@ use Rattle.subobject.specs.Segments.{subobjectOf}
 use Rattle.writer_layout.proofs.Forms.{readable-by}
 use Rattle.writer_state.specs.declared.Writer.{Writer}
 use Rattle.writer_state.specs.declared.Written.{Written}
-use Rattle.writer_rules.specs.Refusals.{addNumber, finishNumber}
+use Rattle.writer_rules.specs.Refusals.{mostOctets, addNumber, finishNumber}
 use Rattle.writer_rules.proofs.Laws.{Fit, Proper, Taken, taken, Done, done}
 use Rattle.writer_state.specs.Answers.{answered, refusedAs, acceptedAs}
 use Rattle.writer_begin_finish.specs.Ends.{headerOf, beginNumber, beginAnswer, beginBuffer, finishAnswer, finishBuffer}
@@ -50,7 +50,7 @@ pub record Under (form : Form) (ero : Bool) (body : List ℕ) (gs : List Segment
   pub rest : List ℕ
   pub buffer : r .buffer ≡ headerOf ero (4 + length (body ++ writtenBody form gs)) ++ ((body ++ writtenBody form gs) ++ rest)
   pub fits : AllFit form ero gs
-  pub most : 4 + length (body ++ writtenBody form gs) ≤ 65532
+  pub most : 4 + length (body ++ writtenBody form gs) ≤ mostOctets
   pub fours : (4 + length (body ++ writtenBody form gs)) % 4 ≡ 0
   pub filled : length (body ++ writtenBody form gs) ≡ 0 → ⊥
 
@@ -139,7 +139,7 @@ pub record Image (form : Form) (ero : Bool) (gs : List Segment) (r : Run) : Type
   pub at : r .written .writer .at ≡ length (objectOf form gs ero)
   pub object : objectIn r ≡ objectOf form gs ero
   pub fits : AllFit form ero gs
-  pub most : 4 + length (writtenBody form gs) ≤ 65532
+  pub most : 4 + length (writtenBody form gs) ≤ mostOctets
   pub fours : (4 + length (writtenBody form gs)) % 4 ≡ 0
   pub filled : length (writtenBody form gs) ≡ 0 → ⊥
 

@@ -47,7 +47,7 @@ use Rattle.writer_layout.proofs.Laws.{length-subobject}
 use Rattle.forms.proofs.Laws.{sized-by}
 use Rattle.writer_layout.proofs.Forms.{readable-by}
 use Rattle.writer_state.specs.declared.Writer.{Writer}
-use Rattle.writer_rules.specs.Refusals.{unfit}
+use Rattle.writer_rules.specs.Refusals.{mostOctets, unfit}
 use Rattle.writer_rules.proofs.Laws.{Fit, size-subobject}
 use Rattle.writer_begin_finish.specs.Ends.{headerOf}
 use Rattle.readback.specs.Runs.{Run, writeRun, Accepted, objectIn, writtenBody, objectOf, AllTyped, openSession}
@@ -354,7 +354,7 @@ module _ (form : Form) (s : List ℕ) (ero : Bool) (ps : List ℕ) (gs : List Se
 
 module _ (form : Form) (ero : Bool) (gs : List Segment) where
   -- The object's octets, as a header in front of a body.
-  object-headed : 4 + length (writtenBody form gs) ≤ 65532 → (4 + length (writtenBody form gs)) % 4 ≡ 0 → headed (objectOf form gs ero) ero ≡ true
+  object-headed : 4 + length (writtenBody form gs) ≤ mostOctets → (4 + length (writtenBody form gs)) % 4 ≡ 0 → headed (objectOf form gs ero) ero ≡ true
   unfolding objectOf headerOf be16
   object-headed m f =
       let l = length-object form ero gs in

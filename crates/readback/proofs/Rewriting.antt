@@ -127,16 +127,16 @@ module _ {form : Form} (z : Sized form) (r : Readable form) {ero : Bool} {s : Li
 
 -- a run that is accepted ---------------------------------------------------------------------------------------
 
-within : (end room : ℕ) → end ≤ room → end ≤ 65532 → passes end room ≡ false
+within : (end room : ℕ) → end ≤ room → end ≤ mostOctets → passes end room ≡ false
 unfolding passes
-within end room h k = rw (le-ltb room end h, le-ltb 65532 end k)
+within end room h k = rw (le-ltb room end h, le-ltb mostOctets end k)
 
-proper : (at room : ℕ) → 4 ≤ at → at % 4 ≡ 0 → at ≤ room → at ≤ 65532 → badPlace at room ≡ false
+proper : (at room : ℕ) → 4 ≤ at → at % 4 ≡ 0 → at ≤ room → at ≤ mostOctets → badPlace at room ≡ false
 unfolding badPlace
 proper at room l f h k = rw (le-ltb at 4 l, eq-eqb (at % 4) 0 f, within at room h k)
 
 add-taken : (form : Form) (ero : Bool) (room at : ℕ) (g : Segment) → Fit form ero g → 4 ≤ at → at % 4 ≡ 0
-    → at + length (subobjectOf form g) ≤ room → at + length (subobjectOf form g) ≤ 65532 → addNumber form g ero at room ≡ 0
+    → at + length (subobjectOf form g) ≤ room → at + length (subobjectOf form g) ≤ mostOctets → addNumber form g ero at room ≡ 0
 unfolding addNumber noRoom
 add-taken form ero room at g t l f h k =
     rw (
@@ -150,13 +150,13 @@ add-taken form ero room at g t l f h k =
       within (at + length (subobjectOf form g)) room h k,
     )
 
-finish-taken : (room : ℕ) (w : Writer) → 4 < w .at → w .at % 4 ≡ 0 → w .at ≤ room → w .at ≤ 65532 → finishNumber (w .at) room ≡ 0
+finish-taken : (room : ℕ) (w : Writer) → 4 < w .at → w .at % 4 ≡ 0 → w .at ≤ room → w .at ≤ mostOctets → finishNumber (w .at) room ≡ 0
 unfolding finishNumber
 finish-taken room w l f h k = rw (proper (w .at) room (omega arith) f h k, ne-eqb (w .at) 4 (λ z. omega arith))
 
 adds-taken : (gs : List Segment) (b : List ℕ) (w : Writer) → AllTyped gs → AllFit (formOf (w .form)) (w .ero) gs → 4 ≤ w .at → w .at % 4 ≡ 0
     → 4 < w .at + length (writtenBody (formOf (w .form)) gs) → w .at + length (writtenBody (formOf (w .form)) gs) ≤ length b
-    → w .at + length (writtenBody (formOf (w .form)) gs) ≤ 65532 → Accepted (addsRun b w gs)
+    → w .at + length (writtenBody (formOf (w .form)) gs) ≤ mostOctets → Accepted (addsRun b w gs)
 unfolding addsRun
 adds-taken [] b w h t l f m r k = finish-number b w ∙ finish-taken (length b) w (omega arith) f (omega arith) (omega arith)
 adds-taken (g ∷ gs) b w (more hg h) (also tg t) l f m r k =
@@ -180,12 +180,12 @@ header-long ero n = refl
 
 -- The same of a state that names a form.
 adds-in : (form : Form) (gs : List Segment) (b : List ℕ) (w : Writer) → formOf (w .form) ≡ form → AllTyped gs → AllFit form (w .ero) gs → 4 ≤ w .at
-    → w .at % 4 ≡ 0 → 4 < w .at + length (writtenBody form gs) → w .at + length (writtenBody form gs) ≤ length b → w .at + length (writtenBody form gs) ≤ 65532
+    → w .at % 4 ≡ 0 → 4 < w .at + length (writtenBody form gs) → w .at + length (writtenBody form gs) ≤ length b → w .at + length (writtenBody form gs) ≤ mostOctets
     → Accepted (addsRun b w gs)
 adds-in form gs b w e h t l f m r k = adds-taken gs b w h (rw (← e) at t) l f (rw (← e) at m) (rw (← e) at r) (rw (← e) at k)
 
 write-taken : (ero : Bool) (pst : ℕ) (gs : List Segment) (b : List ℕ) (w : Writer) → AllTyped gs → AllFit (formOf pst) ero gs → 0 < length (writtenBody (formOf pst) gs)
-    → 4 + length (writtenBody (formOf pst) gs) ≤ length b → 4 + length (writtenBody (formOf pst) gs) ≤ 65532 → Accepted (writeRun b w gs ero pst)
+    → 4 + length (writtenBody (formOf pst) gs) ≤ length b → 4 + length (writtenBody (formOf pst) gs) ≤ mostOctets → Accepted (writeRun b w gs ero pst)
 unfolding writeRun
 write-taken ero pst gs b w h t m r k =
     let y = header-long ero 4 in
@@ -310,7 +310,7 @@ module _ (s : List ℕ) (ero : Bool) (session : Session) (pst : ℕ) (octets : E
   length-same : 4 + length (writtenBody (formOf pst) segments) ≡ length s
   length-same = body-length (sized-by pst) (readable-by pst) filled sound
 
-  short : length s ≤ 65532
+  short : length s ≤ mostOctets
   unfolding be16 octetOf
   short =
       let a = octet-small s octets 2 in

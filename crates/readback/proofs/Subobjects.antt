@@ -10,7 +10,7 @@ use lib.Seq.{length-take-le, take-all}
 use native.Mathlib.Omega.{arith}
 use native.Mathlib.Nat.{add-zero, add-assoc, add-mul, suc-mul}
 use borrow.Author.Tests.{eqb-true, eq-eqb, ne-eqb, not-false}
-use Rattle.octets.specs.Octets.{octetOf, be16, part, over, partOf, hi, lo}
+use Rattle.octets.specs.Octets.{octetOf, be16, end16, part, over, partOf, hi, lo}
 use Rattle.octets.proofs.Laws.{length-part, getD-part, part-none}
 use Rattle.forms.specs.declared.Form.{Form}
 use Rattle.forms.specs.Forms.{flagIn, naiLength}
@@ -235,7 +235,7 @@ module _ {form : Form} (z : Sized form) (r : Readable form) {ero : Bool} {s : Li
   unfolding headAt headOf
   nt-small = let o = octet-small s (d .octets) (at + 2) in omega arith
 
-  behaviour-small : be16 s (at + 6) < 65536
+  behaviour-small : be16 s (at + 6) < end16
   unfolding be16 octetOf
   behaviour-small = let a = octet-small s (d .octets) (at + 6) in let b = octet-small s (d .octets) (at + 6 + 1) in omega arith
 
