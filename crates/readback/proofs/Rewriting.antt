@@ -70,20 +70,20 @@ parts-all {s} {at} (link l d c) =
 -- types --------------------------------------------------------------------------------------------------------
 
 -- Every place is behind the header.
-data Behind : List ℕ → Type 0 where
-  none : Behind []
-  next : {p : ℕ} {ps : List ℕ} → 0 < p → Behind ps → Behind (p ∷ ps)
+data BehindHeader : List ℕ → Type 0 where
+  none : BehindHeader []
+  next : {p : ℕ} {ps : List ℕ} → 0 < p → BehindHeader ps → BehindHeader (p ∷ ps)
 
-behind : {s : List ℕ} {at : ℕ} {ps : List ℕ} → 0 < at → Chain s at ps → Behind ps
-behind h (stop e) = none
-behind h (link n d c) = next h (behind (omega arith) c)
+behind-header : {s : List ℕ} {at : ℕ} {ps : List ℕ} → 0 < at → Chain s at ps → BehindHeader ps
+behind-header h (stop e) = none
+behind-header h (link n d c) = next h (behind-header (omega arith) c)
 
 data AllKind (kinds : ℕ → ℕ) (kind : ℕ) : List ℕ → Type 0 where
   none : AllKind kinds kind []
   next : {p : ℕ} {ps : List ℕ} → kinds p ≡ kind → AllKind kinds kind ps → AllKind kinds kind (p ∷ ps)
 
 -- No place of another type: all are of this one.
-no-other : (kinds : ℕ → ℕ) (kind : ℕ) {ps : List ℕ} → Behind ps → otherThan kinds kind ps ≡ 0 → AllKind kinds kind ps
+no-other : (kinds : ℕ → ℕ) (kind : ℕ) {ps : List ℕ} → BehindHeader ps → otherThan kinds kind ps ≡ 0 → AllKind kinds kind ps
 no-other kinds kind none e = none
 no-other kinds kind (next {p} {ps} h b) e = go (eqb (kinds p) kind) refl e (λ r. no-other kinds kind b r)
   where
@@ -100,7 +100,7 @@ some-is kinds kind want (next {p} {ps} q a) e = go (eqb (kinds p) want) refl e (
     go true ex r rest = sym q ∙ eqb-true (kinds p) want ex
     go false ex r rest = rest r
 
-all-kind : (kinds : ℕ → ℕ) (want : ℕ) {ps : List ℕ} → Behind ps → anyIs kinds want ps ≡ true → mixedAt kinds ps ≡ 0 → AllKind kinds want ps
+all-kind : (kinds : ℕ → ℕ) (want : ℕ) {ps : List ℕ} → BehindHeader ps → anyIs kinds want ps ≡ true → mixedAt kinds ps ≡ 0 → AllKind kinds want ps
 all-kind kinds want none e m = none
 all-kind kinds want (next {p} {ps} h b) e m =
     let a : AllKind kinds (kinds p) (p ∷ ps) = next refl (no-other kinds (kinds p) b m) in
@@ -355,7 +355,7 @@ module _ (s : List ℕ) (ero : Bool) (session : Session) (pst : ℕ) (octets : E
 
   sound : AllSound (formOf pst) ero s (placesOf s)
   sound =
-      all-sound (formOf pst) ero (session .n) s octets filled (all-kind (kindAt s ero) (formOf pst .kind) (behind (omega arith) filled) present unmixed)
+      all-sound (formOf pst) ero (session .n) s octets filled (all-kind (kindAt s ero) (formOf pst .kind) (behind-header (omega arith) filled) present unmixed)
       (none-split (subobjectChecks (formOf pst) s ero (session .n) (placesOf s)) (lastChecks (placesOf s) ero (session .limit) (countOf s))
       (no-check .1 .1 .1 .1 .1) .0)
 
