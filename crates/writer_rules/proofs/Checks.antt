@@ -9,6 +9,7 @@ use mathlib.Core.List.{List, [], _∷_}
 use borrow.Author.Tests.{eq-eqb}
 use Rattle.answers.specs.declared.verdict.Verdict.{Verdict}
 use Rattle.answers.specs.Verdicts.{refusedBy, acceptedWith, kept}
+use Rattle.answers.proofs.First.{EachOf}
 use Rattle.answers.proofs.Kept.{kept-old}
 use Rattle.forms.specs.declared.Form.{Form}
 use Rattle.subobject.specs.declared.segment.Segment.{Segment}
@@ -23,8 +24,7 @@ use Rattle.writer_rules.specs.Checks.{firstNumber, beginChecks, unfit, n
 
 -- Every check of the list names place 0.
 abbrev pub AtZero : List Check → Type 0
-AtZero [] = Unit {0}
-AtZero (c ∷ cs) = (c .place ≡ 0) × AtZero cs
+AtZero cs = EachOf (λ c. c .place ≡ 0) cs
 
 -- The verdict of a number: a refusal at place 0, or an acceptance.
 abbrev pub verdictOf : ℕ → Verdict

@@ -7,6 +7,7 @@ use mathlib.Core.List.{List, [], _∷_, _++_}
 use lib.Dec.{eqb, ltb}
 use lib.ListN.{length}
 use Rattle.answers.specs.Numbers.{routeEmpty, lengthWrong, sidNeeded, bufferFull}
+use Rattle.answers.specs.First.{firstOf}
 use Rattle.objects.specs.Objects.{header}
 use Rattle.forms.specs.declared.Form.{Form}
 use Rattle.subobject.specs.declared.segment.Segment.{Segment}
@@ -21,8 +22,7 @@ pub use Rattle.writer_tests.specs.Places.{mostOctets}
 
 -- The number of the first broken check of a list, 0 if none is broken.
 abbrev pub firstNumber : List Check → ℕ
-firstNumber [] = 0
-firstNumber (c ∷ cs) = cond (c .broken) (c .number) (firstNumber cs)
+firstNumber cs = firstOf (λ c. c .broken) (λ c. c .number) cs 0
 
 -- begin --------------------------------------------------------------------------------------------------------
 
@@ -64,7 +64,7 @@ insteadOf (r ∷ rs) number broken = cond (eqb number (r .number)) (ruleRow numb
 -- "Adding checks 8, 9, 7 (..), 11, then 16"; "29 and 30 after 11": the rules of a subobject in the order of their table, but for 10, and 7 as adding has it; then 16.
 abbrev pub addChecks : Form → Segment → Bool → ℕ → ℕ → List Check
 addChecks form g ero at room =
-    checksBy (insteadOf (without sidNeeded rules) lengthWrong (λ _. unfit form g ero)) (subjectOf form g ero) 0
+    checksBy (insteadOf (without rules sidNeeded) lengthWrong (λ _. unfit form g ero)) (subjectOf form g ero) 0
     ++ (check bufferFull 0 (noRoom form g at room) ∷ [])
 
 -- finish -------------------------------------------------------------------------------------------------------
