@@ -7,7 +7,7 @@ use mathlib.Core.List.{List, []}
 use mathlib.Core.Logic.{_⊎_, inl, inr, ⊎-elim}
 use lib.ListN.{length}
 use lib.Dec.{eqb, ltb, leb}
-use borrow.Author.Tests.{eq-eqb, ne-eqb, lt-ltb, le-ltb, le-leb}
+use borrow.Author.Tests.{eq-eqb, ne-eqb, lt-ltb, le-ltb}
 use Rattle.answers.specs.declared.verdict.Verdict.{Verdict}
 use Rattle.answers.specs.Verdicts.{acceptedWith}
 use Rattle.board_record.specs.Sizes.{places, keyLeast, keyMost}
@@ -23,7 +23,7 @@ use Rattle.board_rules.specs.Report.{bodyIn, reported}
 use Rattle.board_rules.specs.Remove.{removed}
 use Rattle.board_rules.specs.Body.{bodyRules, bodyNumber, octetsAt, bodyOf, bodyForm}
 use Rattle.board_rules.specs.Next.{nextVerdict, changeAt, handedAt, nextAnswer}
-use Rattle.board_rules.proofs.Verdicts.{IsBoard, whole-board, path-has}
+use Rattle.board_rules.proofs.Verdicts.{IsBoard, range-is, whole-board, path-has}
 
 -- ---- report: "A key on the table, path or removal, keeps its place"; "A new key takes the lowest empty place; with none, that of the oldest removal"
 no-place-full : (b : Table) (k i : ℕ) → Full b k → ReportPlace b k i → ⊥
@@ -54,16 +54,12 @@ module _ (b : Table) (store : List ℕ) (k i : ℕ) (w : IsBoard b (length store
   found : placeOf b k ≡ i
   found = key-place-found b (w .proper) k i (λ z. omega arith) x
 
-  range : inRange k ≡ true
-  unfolding inRange
-  range = rw (le-leb 1 k low, le-leb k 1048574 high)
-
   has : hasPath b k ≡ true
   has = path-has b (w .proper) k i (λ z. omega arith) x y
 
   pub body-accepted : bodyNumber b store k ≡ acceptedWith 0
   unfolding bodyNumber bodyRules
-  body-accepted = rw (whole-board b (length store) w, range, has)
+  body-accepted = rw (whole-board b (length store) w, range-is k low high, has)
 
   pub body-handed : bodyOf b store k ≡ octetsAt b store i
   unfolding bodyOf

@@ -6,10 +6,6 @@ use lib.ListN.{getD}
 use lib.Dec.{ltb}
 use Rattle.board_record.specs.Sizes.{places}
 
--- the length at a place; 0 for no place
-unfoldable pub lengthIn : List ℕ → ℕ → ℕ
-lengthIn lengths at = cond (ltb at places) (getD lengths at 0) 0
-
--- the form at a place; 0 for no place
-unfoldable pub formIn : List ℕ → ℕ → ℕ
-formIn forms at = cond (ltb at places) (getD forms at 0) 0
+-- the number of a column at a place, a length or a form; 0 for no place
+unfoldable pub inColumn : List ℕ → ℕ → ℕ
+inColumn column at = cond (ltb at places) (getD column at 0) 0

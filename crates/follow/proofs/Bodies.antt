@@ -7,7 +7,7 @@ use mathlib.Core.List.{List}
 use mathlib.Core.Option.{none, some}
 use mathlib.Core.Logic.{_⊎_, ⊎-elim}
 use lib.Dec.{eqb, ltb}
-use borrow.Author.Tests.{eq-eqb, ne-eqb, lt-ltb, le-ltb, le-leb}
+use borrow.Author.Tests.{eq-eqb, ne-eqb, lt-ltb, le-ltb}
 use Rattle.answers.specs.Numbers.{keyOutOfRange, noPath}
 use Rattle.answers.specs.Verdicts.{refusedBy, acceptedWith}
 use Rattle.board_record.specs.Sizes.{places, keyLeast, keyMost}
@@ -17,7 +17,7 @@ use Rattle.board_record.proofs.Logic.{from?}
 use Rattle.board_record.proofs.Proper.{proper-sound}
 use Rattle.board_record.proofs.Search.{key-place-is, key-place-found}
 use Rattle.board_rules.specs.Rules.{inRange, hasPath}
-use Rattle.board_rules.proofs.Verdicts.{range-passed}
+use Rattle.board_rules.proofs.Verdicts.{range-passed, range-is}
 use Rattle.board_rules.specs.Body.{bodyRules, bodyNumber, bodyOf, bodyForm}
 use Rattle.follow.specs.Story.{HeldPath, pathAt, Story, held, last}
 use Rattle.follow.specs.Run.{World, start, run}
@@ -67,10 +67,6 @@ no-path b store h k r low e = ⊎-elim (λ l. rw (le-ltb (placeOf b k) places l)
         let g = r .here (placeOf b k) l (λ z. omega (arith, y .key)) in
         let n : lengthAt b (placeOf b k) ≡ 0 = path-none b store (placeOf b k) (sym (g .1) ∙ ap (held h) (y .key) ∙ e) in
         rw (lt-ltb (placeOf b k) places l, eq-eqb (lengthAt b (placeOf b k)) 0 n)
-
-range-is : (k : ℕ) → keyLeast ≤ k → k ≤ keyMost → inRange k ≡ true
-unfolding inRange
-range-is k l m = rw (le-leb keyLeast k l, le-leb k keyMost m)
 
 range-not : (k : ℕ) → (keyLeast ≤ k → k ≤ keyMost → ⊥) → inRange k ≡ false
 range-not k o = not-true-is-false (inRange k) (λ e. let p = range-passed k (ap not e) in o (p .0) (p .1))
