@@ -21,11 +21,11 @@ use Rattle.board_record.specs.Search.{placeOf}
 use Rattle.octets.proofs.Said.{both-true}
 use Rattle.board_record.proofs.Proper.{properB-sound}
 use Rattle.board_rules.specs.Rules.{isBoard, inRange, hasPath}
-use Rattle.board_rules.specs.Parts.{columnIn}
+use Rattle.board_rules.specs.Parts.{inColumn}
 use Rattle.board_rules.specs.Body.{bodyRules, bodyNumber, octetsAt, bodyOf, bodyForm}
 use Rattle.board_rules.specs.OnRecord.{bodyNumberOn, bodyOn, bodyFormOn}
 use Rattle.board_rules.proofs.OnRecord.{number-order}
-use Rattle.board_rules.proofs.Shared.{path-test, length-here, form-here}
+use Rattle.board_rules.proofs.Shared.{path-test, column-here}
 use Rattle.board_rules.proofs.Verdicts.{rule-passed}
 use Rattle.board_rules.proofs.Told.{board-not, board-is, board-room, board-proper}
 
@@ -35,7 +35,7 @@ module _ (b : Table) (store : List ℕ) (k : ℕ) where
   unfolding bodyNumber bodyRules
   number-not-board r v e t q = rw (board-not b (length store) r e t) q
 
-  pub number-is : (r : Bool) (at n : ℕ) (v : Verdict) → r ≡ isBoard b (length store) → not r ≡ false → at ≡ placeOf b k → n ≡ columnIn (b .lengths) at
+  pub number-is : (r : Bool) (at n : ℕ) (v : Verdict) → r ≡ isBoard b (length store) → not r ≡ false → at ≡ placeOf b k → n ≡ inColumn (b .lengths) at
       → v ≡ bodyRules true k (ltb at places && not (eqb n 0))
       → v ≡ bodyNumber b store k
   unfolding bodyNumber
@@ -58,7 +58,7 @@ module _ (b : Table) (store : List ℕ) (k : ℕ) where
       let f = rule-passed (not (ltb (placeOf b k) places && not (eqb (lengthAt b (placeOf b k)) 0))) 21 0 _ (g .1) in
       ltb-true (placeOf b k) places (both-true (ltb (placeOf b k) places) _ (not-false (ltb (placeOf b k) places && not (eqb (lengthAt b (placeOf b k)) 0)) (f .0)) .0)
 
-  pub body-room : (v : Verdict) (at n : ℕ) → v ≡ bodyNumber b store k → v .number ≡ 0 → at ≡ placeOf b k → n ≡ columnIn (b .lengths) at
+  pub body-room : (v : Verdict) (at n : ℕ) → v ≡ bodyNumber b store k → v .number ≡ 0 → at ≡ placeOf b k → n ≡ inColumn (b .lengths) at
       → (at < places) × (room * at + n ≤ length store) × (room * at + n ≤ storeSize)
   body-room v at n e z p f =
       let l = body-here v e z in
@@ -66,23 +66,23 @@ module _ (b : Table) (store : List ℕ) (k : ℕ) where
       let m : at < 128 = omega arith in
       let g = board-room b (length store) w in
       let h = properB-sound b (board-proper b (length store) w) at m .size .most in
-      let q = length-here b at n m f in
+      let q = column-here (b .lengths) at n m f in
       (m, omega arith, omega arith)
 
-  pub body-is : (v : Verdict) (at n from : ℕ) → v ≡ bodyNumber b store k → v .number ≡ 0 → at ≡ placeOf b k → n ≡ columnIn (b .lengths) at → from ≡ room * at
+  pub body-is : (v : Verdict) (at n from : ℕ) → v ≡ bodyNumber b store k → v .number ≡ 0 → at ≡ placeOf b k → n ≡ inColumn (b .lengths) at → from ≡ room * at
       → take (from + n - from) (drop from store) ≡ bodyOf b store k
   unfolding bodyOf octetsAt part
   body-is v at n from e z p f g =
       let l = body-here v e z in
-      let q = length-here b at n (omega arith) f in
+      let q = column-here (b .lengths) at n (omega arith) f in
       let d : from + n - from ≡ n = omega arith in
       rw (d, ← e, kept-new (v .number) [] (octetsAt b store (placeOf b k)) z, octetsAt, ← p, g, q)
 
-  pub form-is : (v : Verdict) (at f : ℕ) → v ≡ bodyNumber b store k → v .number ≡ 0 → at ≡ placeOf b k → f ≡ columnIn (b .forms) at → f ≡ bodyForm b store k
+  pub form-is : (v : Verdict) (at f : ℕ) → v ≡ bodyNumber b store k → v .number ≡ 0 → at ≡ placeOf b k → f ≡ inColumn (b .forms) at → f ≡ bodyForm b store k
   unfolding bodyForm
   form-is v at f e z p g =
       let l : at < 128 = omega (arith, body-here v e z, p) in
-      rw (← e, kept-new (v .number) 0 (formAt b (placeOf b k)) z, ← p) (form-here b at f l g)
+      rw (← e, kept-new (v .number) 0 (formAt b (placeOf b k)) z, ← p) (column-here (b .forms) at f l g)
 
   pub form-none : (v : Verdict) → v ≡ bodyNumber b store k → (v .number ≡ 0 → ⊥) → 0 ≡ bodyForm b store k
   unfolding bodyForm

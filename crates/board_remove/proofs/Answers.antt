@@ -19,7 +19,7 @@ use Rattle.board_record.specs.Order.{orderOf}
 use Rattle.octets.proofs.Said.{both-true}
 use Rattle.board_record.proofs.Search.{key-place-is}
 use Rattle.board_rules.specs.Rules.{isBoard, inRange, outcomeOf}
-use Rattle.board_rules.specs.Parts.{columnIn}
+use Rattle.board_rules.specs.Parts.{inColumn}
 use Rattle.board_rules.specs.Remove.{removeRules, removeVerdict, removed, removeAnswer}
 use Rattle.board_rules.proofs.Shared.{path-test}
 use Rattle.board_rules.proofs.Told.{board-not, board-is}
@@ -31,7 +31,7 @@ module _ (b : Table) (store : List ℕ) (k : ℕ) where
   unfolding removeAnswer removeVerdict removeRules
   remove-not-board r v e t q = rw (q, board-not b (length store) r e t)
 
-  pub remove-verdict : (r : Bool) (at n : ℕ) (v : Verdict) → r ≡ isBoard b (length store) → not r ≡ false → at ≡ placeOf b k → n ≡ columnIn (b .lengths) at
+  pub remove-verdict : (r : Bool) (at n : ℕ) (v : Verdict) → r ≡ isBoard b (length store) → not r ≡ false → at ≡ placeOf b k → n ≡ inColumn (b .lengths) at
       → v ≡ removeRules true k (ltb at places && not (eqb n 0)) (b .version)
       → v ≡ removeVerdict b store k
   unfolding removeVerdict

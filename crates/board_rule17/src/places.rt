@@ -4,7 +4,7 @@ ghost use mathlib.Core.Path.{_≡_};
 ghost use Prim.Native.Nat.{_*_, _<_};
 ghost use Rattle.board_record.specs.Sizes.{places, room};
 ghost use Rattle.board_record.specs.Record.{boardOf};
-ghost use Rattle.board_rules.specs.Parts.{columnIn};
+ghost use Rattle.board_rules.specs.Parts.{inColumn};
 ghost use Rattle.board_rules.specs.OnRecord.{isRecord};
 use board_record::PLACES;
 use board_record::ROOM;
@@ -44,14 +44,14 @@ pub fn start_of(i: usize) -> usize
 
 // The length at a place; 0 for no place.
 pub fn length_in(lengths: &[u16; 128], at: usize) -> usize
-    ensures length { λ r. ⌜ r ≡ columnIn (now (lengths .entry)) at ⌝ }
+    ensures length { λ r. ⌜ r ≡ inColumn (now (lengths .entry)) at ⌝ }
 {
     if at < PLACES { wide16(lengths[at]) } else { 0 }
 }
 
 // The form at a place; 0 for no place.
 pub fn form_in(forms: &[u8; 128], at: usize) -> usize
-    ensures form { λ r. ⌜ r ≡ columnIn (now (forms .entry)) at ⌝ }
+    ensures form { λ r. ⌜ r ≡ inColumn (now (forms .entry)) at ⌝ }
 {
     if at < PLACES { wide(forms[at]) } else { 0 }
 }

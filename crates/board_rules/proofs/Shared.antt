@@ -8,14 +8,14 @@ use lib.Dec.{eqb, ltb}
 use borrow.Author.Tests.{lt-ltb, le-ltb, le-leb}
 use native.Mathlib.Omega.{arith}
 use Rattle.board_record.specs.Sizes.{places, storeSize}
-use Rattle.board_record.specs.Table.{Table, lengthAt, formAt}
+use Rattle.board_record.specs.Table.{Table}
 use Rattle.board_record.specs.Search.{placeOf}
 use Rattle.board_record.specs.Proper.{properB}
 use Rattle.board_record.specs.Order.{inOrder}
 use Rattle.board_record.specs.Tops.{inTops}
 use Rattle.board_record.specs.Record.{withRows}
 use Rattle.board_rules.specs.Rules.{isBoard, hasPath}
-use Rattle.board_rules.specs.Parts.{columnIn}
+use Rattle.board_rules.specs.Parts.{inColumn}
 use Rattle.board_rules.specs.OnRecord.{isRecord}
 
 pub board-long : (b : Table) (order tops : List ℕ) (n : ℕ) (r : Bool) → storeSize ≤ n → r ≡ (properB b && inOrder b order && inTops (b .versions) tops)
@@ -27,18 +27,14 @@ board-long b order tops n r l e = rw (le-leb storeSize n l) (e ∙ apart (proper
     apart true q t = refl
     apart false q t = refl
 
--- at a place, the length and the form that the code reads are the table's
-pub length-here : (b : Table) (at n : ℕ) → at < places → n ≡ columnIn (b .lengths) at → n ≡ lengthAt b at
-unfolding columnIn
-length-here b at n l f = f ∙ rw (lt-ltb at 128 l)
-
-pub form-here : (b : Table) (at n : ℕ) → at < places → n ≡ columnIn (b .forms) at → n ≡ formAt b at
-unfolding columnIn
-form-here b at n l f = f ∙ rw (lt-ltb at 128 l)
+-- at a place, what the code reads of a column is what stands there
+pub column-here : (column : List ℕ) (at n : ℕ) → at < places → n ≡ inColumn column at → n ≡ getD column at 0
+unfolding inColumn
+column-here column at n l f = f ∙ rw (lt-ltb at 128 l)
 
 -- the test for a path, on the numbers that the code has
-pub path-test : (b : Table) (k at n : ℕ) → at ≡ placeOf b k → n ≡ columnIn (b .lengths) at → (ltb at places && not (eqb n 0)) ≡ hasPath b k
-unfolding hasPath columnIn
+pub path-test : (b : Table) (k at n : ℕ) → at ≡ placeOf b k → n ≡ inColumn (b .lengths) at → (ltb at places && not (eqb n 0)) ≡ hasPath b k
+unfolding hasPath inColumn
 path-test b k at n e f = rw (f, ← e) (go (ltb at places))
   where
     go : (x : Bool) → x && not (eqb (cond x (getD (b .lengths) at 0) 0) 0) ≡ x && not (eqb (getD (b .lengths) at 0) 0)

@@ -23,7 +23,7 @@ use Rattle.board_rules.specs.Report.{bodyIn, reported}
 use Rattle.board_rules.specs.Remove.{removed}
 use Rattle.board_rules.specs.Body.{bodyRules, bodyNumber, octetsAt, bodyOf, bodyForm}
 use Rattle.board_rules.specs.Next.{nextVerdict, changeAt, handedAt, nextAnswer}
-use Rattle.board_rules.proofs.Verdicts.{IsBoard, whole-board, path-has, range-is}
+use Rattle.board_rules.proofs.Verdicts.{IsBoard, range-is, whole-board, path-has}
 
 -- ---- report: "A key on the table, path or removal, keeps its place"; "A new key takes the lowest empty place; with none, that of the oldest removal"
 no-place-full : (b : Table) (k i : ℕ) → Full b k → ReportPlace b k i → ⊥

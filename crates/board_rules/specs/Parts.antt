@@ -6,6 +6,6 @@ use lib.ListN.{getD}
 use lib.Dec.{ltb}
 use Rattle.board_record.specs.Sizes.{places}
 
--- what a column has at a place, its length or its form; 0 for no place
-unfoldable pub columnIn : List ℕ → ℕ → ℕ
-columnIn column at = cond (ltb at places) (getD column at 0) 0
+-- the number of a column at a place, a length or a form; 0 for no place
+unfoldable pub inColumn : List ℕ → ℕ → ℕ
+inColumn column at = cond (ltb at places) (getD column at 0) 0

@@ -45,7 +45,7 @@ module _ (b : Table) (c i : ℕ) (l : i < places) where
 
 -- ---- the table
 
-module _ (b : Table) (st : List ℕ) (h : Story) (c : ℕ) (r : Stands b st h) (top : c ≤ b .version) where
+module _ (b : Table) (st : List ℕ) (h : Story) (c : ℕ) (r : Stands b st h) (reached : c ≤ b .version) where
   here-compacted : (i : ℕ) → i < places → Used (compacted b c) i → (last h (keyAt (compacted b c) i) ≡ versionAt (compacted b c) i) × (held h (keyAt (compacted b c) i) ≡ pathIn (compacted b c) st i)
   unfolding octetsAt
   here-compacted i l u =
@@ -67,7 +67,7 @@ module _ (b : Table) (st : List ℕ) (h : Story) (c : ℕ) (r : Stands b st h) (
   unfolding compacted held last
   stands-compact =
       record {
-        proper = compacted-proper b c (r .proper) top;
+        proper = compacted-proper b c (r .proper) reached;
         sized = record {
           keys = length-row (λ i. cond (dropped b c i) 0 (keyAt b i)) places;
           versions = length-row (λ i. cond (dropped b c i) 0 (versionAt b i)) places;

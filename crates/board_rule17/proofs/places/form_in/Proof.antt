@@ -1,6 +1,6 @@
 use Rattle.octets.proofs.Tests.{tests}
 use mathlib.Core.Path.{_∙_}
-use Rattle.board_rules.specs.Parts.{columnIn}
+use Rattle.board_rules.specs.Parts.{inColumn}
 use borrow.Author.Needs.{needs}
 use Rattle.board_rule17.proofs.places.form_in.Statement.{statement}
 use Rattle.board_rule17.proofs.places.form_in.Tie as tie
@@ -12,11 +12,11 @@ wide-requires : tie.Need-wide-requires
 wide-requires c κs = search needs
 
 returns : tie.Need-returns
-unfolding columnIn
+unfolding inColumn
 returns c = c .wide .ensures .0 ∙ search tests
 
 returns-2 : tie.Need-returns-2
-unfolding columnIn
+unfolding inColumn
 returns-2 c = search tests
 
 pub form-in-spec : {M : Type 1} → statement M
