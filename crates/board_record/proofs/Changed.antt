@@ -8,11 +8,11 @@ use mathlib.Core.Logic.{_⊎_, inl, inr, ⊎-elim}
 use lib.ListN.{getD, set, length, length-set}
 use lib.Seq.{getD-set-same, getD-set-other}
 use Rattle.objects.specs.Objects.{unit}
-use Rattle.board_record.specs.Sizes.{places, room, keyLeast, keyMost, versionMost}
+use Rattle.board_record.specs.Sizes.{places, room, keyLeast, keyMost, versionMost, bodyLeast}
 use Rattle.board_record.specs.Table.{Table, ListsWhole, keyAt, versionAt, lengthAt, formAt, entryAt, Entry, Used, RemovalAt, changed}
-use Rattle.board_record.specs.Proper.{Proper}
+use Rattle.board_record.specs.Proper.{Proper, IsForm}
 use Rattle.board_record.proofs.Logic.{same?}
-use Rattle.board_record.proofs.Proper.{Body, Sound, proper-sound, sound-proper}
+use Rattle.board_record.proofs.Proper.{Sound, proper-sound, sound-proper}
 
 pub changed-sized : (b : Table) (i : ℕ) (e : Entry) (f : ℕ) → ListsWhole b → ListsWhole (changed b i e f)
 changed-sized b i e f s =
@@ -25,14 +25,11 @@ changed-sized b i e f s =
 
 -- what a change may store: a body's length and form, or 0 and 0 for a removal
 pub record Storable (n f : ℕ) : Type 0 where
-  pub body : (n ≡ 0 → ⊥) → Body n f
+  pub most : n ≤ room
+  pub four : n % unit ≡ 0
+  pub least : (n ≡ 0 → ⊥) → bodyLeast f ≤ n
+  pub form : (n ≡ 0 → ⊥) → IsForm f
   pub bare : n ≡ 0 → f ≡ 0
-
-stored-most : (n f : ℕ) → Storable n f → n ≤ room
-stored-most n f s = ⊎-elim (λ e. omega arith) (λ d. s .body d .most) (same? n 0)
-
-stored-four : (n f : ℕ) → Storable n f → n % unit ≡ 0
-stored-four n f s = ⊎-elim (λ e. omega arith) (λ d. s .body d .four) (same? n 0)
 
 -- when a change of place i to the entry e, with the floor f after it, keeps a table proper
 pub record Fitting (b : Table) (i : ℕ) (e : Entry) (f : ℕ) : Type 0 where
@@ -87,10 +84,10 @@ module _ (b : Table) (i : ℕ) (e : Entry) (f : ℕ) (s : ListsWhole b) where
             low = λ y. omega (arith, g .newer);
             high = omega arith;
             mark = λ y z. omega (arith, g .floor, g .newer);
-            least = λ d. g .size .body d .least;
-            most = stored-most (e .length) (e .form) (g .size);
-            four = stored-four (e .length) (e .form) (g .size);
-            form = λ d. g .size .body d .form;
+            least = g .size .least;
+            most = g .size .most;
+            four = g .size .four;
+            form = g .size .form;
             bare = g .size .bare;
           }
 

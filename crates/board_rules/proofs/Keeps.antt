@@ -120,10 +120,7 @@ reported-proper b store k ero route pst s y z =
     let g = report-passed b store k ero route z in
     let p = g .whole .proper in
     let size : Storable (length (bodyIn ero)) pst =
-    record {
-      body = λ d. record { four = y .four; form = y .form; least = y .least; most = g .size };
-      bare = λ e. absurd (omega (arith, least-some pst, y .least));
-    } in
+    record { most = g .size; four = y .four; least = λ d. y .least; form = λ d. y .form; bare = λ e. absurd (omega (arith, least-some pst, y .least)) } in
     changed-proper b (targetOf b k) (bearing b k (length (bodyIn ero)) pst) (floorAfter b k (targetOf b k)) s p
     (report-fits b p k (length (bodyIn ero)) pst (targetOf b k) (g .key-least) (g .key-most) size (g .versions-left) (g .place) (report-place-is b k (g .place)))
 
@@ -155,7 +152,7 @@ removed-proper b store k s z =
       here = g .place .here;
       low = g .key-least;
       high = g .key-most;
-      size = record { body = λ d. absurd (d refl); bare = λ e. refl };
+      size = record { most = omega arith; four = refl; least = λ d. absurd (d refl); form = λ d. absurd (d refl); bare = λ e. refl };
       newer = omega arith;
       top = omega (arith, p .version-in, g .versions-left);
       floor = p .floor-in;

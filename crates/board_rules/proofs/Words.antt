@@ -18,12 +18,12 @@ use Rattle.board_record.proofs.Logic.{from?}
 use Rattle.board_record.proofs.Search.{key-place-found, report-place-is, report-place-one, Full, full-is, next-is, next-none, next-one}
 use Rattle.board_rules.specs.declared.answer.Handed.{Handed}
 use Rattle.board_rules.specs.declared.answer.Handed.the-variants.{Level}
-use Rattle.board_rules.specs.Rules.{isBoard, hasPath}
+use Rattle.board_rules.specs.Rules.{isBoard, inRange, hasPath}
 use Rattle.board_rules.specs.Report.{bodyIn, reported}
 use Rattle.board_rules.specs.Remove.{removed}
 use Rattle.board_rules.specs.Body.{bodyRules, bodyNumber, octetsAt, bodyOf, bodyForm}
 use Rattle.board_rules.specs.Next.{nextVerdict, changeAt, handedAt, nextAnswer}
-use Rattle.board_rules.proofs.Verdicts.{IsBoard, whole-board, range-is}
+use Rattle.board_rules.proofs.Verdicts.{IsBoard, range-is, whole-board}
 
 -- ---- report: "A key on the table, path or removal, keeps its place"; "A new key takes the lowest empty place; with none, that of the oldest removal"
 no-place-full : (b : Table) (k i : ℕ) → Full b k → ReportPlace b k i → ⊥

@@ -2,7 +2,7 @@
 use Prim.Native.Nat.{ℕ, _≤_, _<_}
 use native.Mathlib.Omega.{arith}
 use mathlib.Core.Path.{_≡_, sym, ap, _∙_}
-use mathlib.Core.Bool.{false, not, _&&_}
+use mathlib.Core.Bool.{true, false, not, _&&_}
 use mathlib.Core.List.{List}
 use mathlib.Core.Option.{none, some}
 use mathlib.Core.Logic.{_⊎_, ⊎-elim}
@@ -17,7 +17,7 @@ use Rattle.board_record.proofs.Logic.{from?}
 use Rattle.board_record.proofs.Proper.{proper-sound}
 use Rattle.board_record.proofs.Search.{key-place-is, key-place-found}
 use Rattle.board_rules.specs.Rules.{inRange, hasPath}
-use Rattle.board_rules.proofs.Verdicts.{range-is, range-passed}
+use Rattle.board_rules.proofs.Verdicts.{range-passed, range-is}
 use Rattle.board_rules.specs.Body.{bodyRules, bodyNumber, bodyOf, bodyForm}
 use Rattle.follow.specs.Story.{HeldPath, pathAt, Story, held, last}
 use Rattle.follow.specs.Run.{World, start, run}
