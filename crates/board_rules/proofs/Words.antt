@@ -18,7 +18,7 @@ use Rattle.board_record.proofs.Logic.{from?}
 use Rattle.board_record.proofs.Search.{key-place-found, report-place-is, report-place-one, Full, full-is, next-is, next-none, next-one}
 use Rattle.board_rules.specs.declared.answer.Handed.{Handed}
 use Rattle.board_rules.specs.declared.answer.Handed.the-variants.{Level}
-use Rattle.board_rules.specs.Rules.{isBoard, hasPath}
+use Rattle.board_rules.specs.Rules.{isBoard, inRange, hasPath}
 use Rattle.board_rules.specs.Report.{bodyIn, reported}
 use Rattle.board_rules.specs.Remove.{removed}
 use Rattle.board_rules.specs.Body.{bodyRules, bodyNumber, octetsAt, bodyOf, bodyForm}

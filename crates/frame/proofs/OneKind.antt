@@ -22,26 +22,26 @@ kind-there (next e a) zero h = e
 kind-there (next e a) (suc j) h = kind-there a j (omega arith)
 
 -- A type that is present is that one.
-pub kind-present : {kinds : ℕ → ℕ} {kind : ℕ} {ps : List ℕ} → AllKind kinds kind ps → (want : ℕ) → anyIs kinds want ps ≡ true → kind ≡ want
+pub kind-present : {kinds : ℕ → ℕ} {kind : ℕ} {ps : List ℕ} → AllKind kinds kind ps → (want : ℕ) → anyIs kinds ps want ≡ true → kind ≡ want
 kind-present none want e = absurd (false≢true e)
 kind-present {kinds} {kind} (next {p} {ps} q a) want e = go (eqb (kinds p) want) refl e (λ r. kind-present a want r)
   where
-    go : (x : Bool) → eqb (kinds p) want ≡ x → (x || anyIs kinds want ps) ≡ true → (anyIs kinds want ps ≡ true → kind ≡ want) → kind ≡ want
+    go : (x : Bool) → eqb (kinds p) want ≡ x → (x || anyIs kinds ps want) ≡ true → (anyIs kinds ps want ≡ true → kind ≡ want) → kind ≡ want
     go true ex r rest = sym q ∙ eqb-true (kinds p) want ex
     go false ex r rest = rest r
 
 -- present and not mixed: all are of the type -------------------------------------------------------------------
 
 -- No place of a chain behind octet 0 is of another type: all are of this one.
-no-other : (kinds : ℕ → ℕ) (kind : ℕ) {s : List ℕ} {at : ℕ} {ps : List ℕ} → FillsFrom s at ps → 0 < at → otherThan kinds kind ps ≡ 0 → AllKind kinds kind ps
+no-other : (kinds : ℕ → ℕ) (kind : ℕ) {s : List ℕ} {at : ℕ} {ps : List ℕ} → FillsFrom s at ps → 0 < at → otherThan kinds ps kind ≡ 0 → AllKind kinds kind ps
 no-other kinds kind (stop e) h o = none
 no-other kinds kind {at = at} (link {ps = ps} n d c) h o = go (eqb (kinds at) kind) refl o (λ r. no-other kinds kind c (omega arith) r)
   where
-    go : (x : Bool) → eqb (kinds at) kind ≡ x → cond x (otherThan kinds kind ps) at ≡ 0 → (otherThan kinds kind ps ≡ 0 → AllKind kinds kind ps) → AllKind kinds kind (at ∷ ps)
+    go : (x : Bool) → eqb (kinds at) kind ≡ x → cond x (otherThan kinds ps kind) at ≡ 0 → (otherThan kinds ps kind ≡ 0 → AllKind kinds kind ps) → AllKind kinds kind (at ∷ ps)
     go true ex r rest = next (eqb-true (kinds at) kind ex) (rest r)
     go false ex r rest = absurd (omega arith)
 
-pub all-kind : (kinds : ℕ → ℕ) (kind : ℕ) {s : List ℕ} {at : ℕ} {ps : List ℕ} → FillsFrom s at ps → 0 < at → anyIs kinds kind ps ≡ true → mixedAt kinds ps ≡ 0
+pub all-kind : (kinds : ℕ → ℕ) (kind : ℕ) {s : List ℕ} {at : ℕ} {ps : List ℕ} → FillsFrom s at ps → 0 < at → anyIs kinds ps kind ≡ true → mixedAt kinds ps ≡ 0
     → AllKind kinds kind ps
 all-kind kinds kind (stop e) h y m = none
 all-kind kinds kind {at = at} (link {ps = ps} n d c) h y m =
@@ -53,16 +53,16 @@ pub frame-kinds : (s : List ℕ) (ero : Bool) (kind : ℕ) → apartOf s .whole 
     → AllKind (kindAt s ero) kind (placesOf s)
 unfolding rule6 rule6Place rule14
 frame-kinds s ero kind w r6 r14 =
-    let y : anyIs (kindAt s ero) kind (placesOf s) ≡ true = not-false _ r14 in
+    let y : anyIs (kindAt s ero) (placesOf s) kind ≡ true = not-false _ r14 in
     all-kind (kindAt s ero) kind (whole-fills s w) (omega arith) y (eqb-true _ 0 (not-false _ (rw y at r6)))
 
 -- all are of the type: it is present and they are not mixed ----------------------------------------------------
 
-any-there : {kinds : ℕ → ℕ} {kind : ℕ} {ps : List ℕ} → AllKind kinds kind ps → 0 < length ps → anyIs kinds kind ps ≡ true
+any-there : {kinds : ℕ → ℕ} {kind : ℕ} {ps : List ℕ} → AllKind kinds kind ps → 0 < length ps → anyIs kinds ps kind ≡ true
 any-there none h = absurd (omega arith)
 any-there {kinds} {kind} (next {p} e a) h = rw (eq-eqb (kinds p) kind e)
 
-others-none : {kinds : ℕ → ℕ} {kind : ℕ} {ps : List ℕ} → AllKind kinds kind ps → otherThan kinds kind ps ≡ 0
+others-none : {kinds : ℕ → ℕ} {kind : ℕ} {ps : List ℕ} → AllKind kinds kind ps → otherThan kinds ps kind ≡ 0
 others-none none = refl
 others-none {kinds} {kind} (next {p} e a) = rw (eq-eqb (kinds p) kind e) (others-none a)
 
@@ -74,7 +74,7 @@ mixed-none (next e a) = rw e (others-none a)
 module _ (s : List ℕ) (ero : Bool) {kind : ℕ} (a : AllKind (kindAt s ero) kind (placesOf s)) where
   pub kinds-unmixed : rule6 s ero kind ≡ false
   unfolding rule6 rule6Place
-  kinds-unmixed = rw (mixed-none a) (go (anyIs (kindAt s ero) kind (placesOf s)))
+  kinds-unmixed = rw (mixed-none a) (go (anyIs (kindAt s ero) (placesOf s) kind))
     where
       go : (b : Bool) → (b && false) ≡ false
       go true = refl
