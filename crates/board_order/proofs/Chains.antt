@@ -26,10 +26,10 @@ use Rattle.board_record.proofs.All.{all-at, all-of}
 use Rattle.board_record.proofs.Search.{IsFirst, nobody, this, first-is, first-hit, used-is, is-used}
 
 -- ---- of two used places the versions tell which is which
-abbrev pub Apart : Table → Type 0
-Apart b = (p q : ℕ) → p < places → q < places → Used b p → Used b q → versionAt b p ≡ versionAt b q → p ≡ q
+abbrev pub VersionsApart : Table → Type 0
+VersionsApart b = (p q : ℕ) → p < places → q < places → Used b p → Used b q → versionAt b p ≡ versionAt b q → p ≡ q
 
-pub proper-apart : (b : Table) → Proper b → Apart b
+pub proper-apart : (b : Table) → Proper b → VersionsApart b
 proper-apart b p i j l m u v e = p .versions-distinct i j l m u e
 
 -- ---- a chain has each place once
@@ -43,7 +43,7 @@ module _ (b : Table) (r : List ℕ) (x : Chained b r) where
       less : (a c : ℕ) → a < c → c < places → placeOn r c < places → placeOn r a ≡ placeOn r c → ⊥
       less a c k n g q = omega (arith, x .rises a c k n g .1, ap (versionAt b) q)
 
-  pub chain-apart : Apart b
+  pub chain-apart : VersionsApart b
   chain-apart p q l m u v e = ⊎-elim (λ k. ⊎-elim here (λ d. absurd (less p q (x .all p l u) (x .all q m v) (omega (arith, d)) m e)) (same? (x .all p l u .at) (x .all q m v .at)))
       (λ k. absurd (less q p (x .all q m v) (x .all p l u) k l (sym e))) (from? (x .all p l u .at) (x .all q m v .at))
     where
@@ -152,7 +152,7 @@ module _ (b : Table) where
       go n (nobody z f) = absurd (true≢false (sym (rw (is-used b p u, eq-eqb (olderOf b p) i e)) ∙ f p l))
       go n (this v z f) = v
 
-  module _ (apart : Apart b) where
+  module _ (apart : VersionsApart b) where
     older-one : (p q : ℕ) → p < places → q < places → Used b p → Used b q → olderOf b p ≡ olderOf b q → p ≡ q
     older-one p q l m u v e =
         ⊎-elim
@@ -246,13 +246,13 @@ chained-in b order x =
     (same-number (getD order i 0) (getD (orderOf b) i 0) (same-order b order (orderOf b) x y 128 (omega arith) i l) (x .rest i l) (y .rest i l) ∙ order-at b i l))
 
 -- and the order of a table whose versions are distinct is a chain
-pub in-chained : (b : Table) (order : List ℕ) → Apart b → inOrder b order ≡ true → Chained b order
+pub in-chained : (b : Table) (order : List ℕ) → VersionsApart b → inOrder b order ≡ true → Chained b order
 unfolding inOrder
 in-chained b order apart e =
     chained-as b (orderOf b) order (λ i l. eqb-true (getD order i 0) (orderNumber (placeAt b i)) (all-at (λ j. eqb (getD order j 0) (orderNumber (placeAt b j))) 128 e i l) ∙ sym (order-at b i l))
     (order-chained b apart)
 
-pub in-order : (b : Table) → Apart b → inOrder b (orderOf b) ≡ true
+pub in-order : (b : Table) → VersionsApart b → inOrder b (orderOf b) ≡ true
 in-order b apart = chained-in b (orderOf b) (order-chained b apart)
 
 pub in-order-is : (b : Table) (order : List ℕ) → length order ≡ places → inOrder b order ≡ true → order ≡ orderOf b

@@ -109,11 +109,11 @@ pub record Filling (b : Table) (x : List ℕ) (m k : ℕ) : Type 0 where
   pub rest : (j : ℕ) → m ≤ j → j < k → getD x j 0 ≡ 0
 
 -- how many were kept
-pub record Filled (b : Table) (x : List ℕ) (k : ℕ) : Type 0 where
+pub record Sifted (b : Table) (x : List ℕ) (k : ℕ) : Type 0 where
   pub from : ℕ
   pub so : Filling b x from k
 
-pub filling-none : (b : Table) (r x : List ℕ) (kept i : ℕ) → Loose b r → Sifting b r x kept i → places ≤ i → Filled b x kept
+pub filling-none : (b : Table) (r x : List ℕ) (kept i : ℕ) → Loose b r → Sifting b r x kept i → places ≤ i → Sifted b x kept
 filling-none b r x kept i g s h =
     record {
       from = kept;
@@ -132,7 +132,7 @@ filling-none b r x kept i g s h =
       };
     }
 
-pub filling-more : (b : Table) (x : List ℕ) (k : ℕ) → Filled b x k → k < places → Filled b (set x k 0) (k + 1)
+pub filling-more : (b : Table) (x : List ℕ) (k : ℕ) → Sifted b x k → k < places → Sifted b (set x k 0) (k + 1)
 filling-more b x k f l =
     let s = f .so in
     let other : (j : ℕ) → (j ≡ k → ⊥) → getD (set x k 0) j 0 ≡ getD x j 0 = λ j d. getD-set-other x k j 0 0 d in
@@ -152,7 +152,7 @@ filling-more b x k f l =
       };
     }
 
-pub filled-order : (b : Table) (x : List ℕ) (k : ℕ) → Filled b x k → places ≤ k → x ≡ orderOf b
+pub filled-order : (b : Table) (x : List ℕ) (k : ℕ) → Sifted b x k → places ≤ k → x ≡ orderOf b
 filled-order b x k f h = order-is b x (f .so .long) chained
   where
     s : Filling b x (f .from) k

@@ -23,7 +23,7 @@ changed-sized b i e f s =
     }
 
 -- when a change of place i to the entry e, with the floor f after it, keeps a table proper
-pub record Fitting (b : Table) (i : ℕ) (e : Entry) (f : ℕ) : Type 0 where
+pub record FittingEntry (b : Table) (i : ℕ) (e : Entry) (f : ℕ) : Type 0 where
   pub here : i < places
   pub low : keyLeast ≤ e .key
   pub high : e .key ≤ keyMost
@@ -63,7 +63,7 @@ module _ (b : Table) (i : ℕ) (e : Entry) (f : ℕ) (s : ListsWhole b) where
   pub form-other : (j : ℕ) → (j ≡ i → ⊥) → formAt (changed b i e f) j ≡ formAt b j
   form-other j d = getD-set-other (b .forms) i j (e .form) 0 d
 
-  pub changed-proper : Proper b → Fitting b i e f → Proper (changed b i e f)
+  pub changed-proper : Proper b → FittingEntry b i e f → Proper (changed b i e f)
   changed-proper p g = sound-proper b′ (omega (arith, g .floor, g .newer)) (g .version-in) at keys versions
     where
       -- the place that changes

@@ -1,5 +1,5 @@
 // Report with the record by value (document 01, "The board"): it is handed back, changed or after a refusal as it was. The record's arrays
-// are lent to the call of report_call.
+// are lent to the call of board_report_call.
 ghost use mathlib.Core.Path.{_≡_};
 ghost use Rattle.board_report_by_value.specs.ByValue.{reportByValue, reportStoreByValue};
 use board_by_value::Answer;
@@ -12,12 +12,12 @@ pub fn report(
     store: &mut [u8],
     key: u64,
     octets: &[u8],
-    both: Sessions,
+    sessions: Sessions,
     pst: u64,
     addresses: &[u8],
 ) -> Answer
-    ensures answer { λ r. ⌜ r ≡ reportByValue b (now (store .entry)) key (now (octets .entry)) both pst (now (addresses .entry)) ⌝ }
-    ensures stored { λ r. ⌜ now (store .exit) ≡ reportStoreByValue b (now (store .entry)) key (now (octets .entry)) both pst (now (addresses .entry)) ⌝ }
+    ensures answer { λ r. ⌜ r ≡ reportByValue b (now (store .entry)) key (now (octets .entry)) sessions pst (now (addresses .entry)) ⌝ }
+    ensures stored { λ r. ⌜ now (store .exit) ≡ reportStoreByValue b (now (store .entry)) key (now (octets .entry)) sessions pst (now (addresses .entry)) ⌝ }
 {
     let mut keys = b.keys;
     let mut versions = b.versions;
@@ -27,7 +27,7 @@ pub fn report(
     let mut order = b.order;
     let mut tops = b.tops;
     let mut forms = b.forms;
-    let verdict = report_call::report(
+    let verdict = board_report_call::report(
         &mut keys,
         &mut versions,
         &mut lengths,
@@ -39,7 +39,7 @@ pub fn report(
         store,
         key,
         octets,
-        both,
+        sessions,
         pst,
         addresses,
     );

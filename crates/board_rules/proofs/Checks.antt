@@ -17,7 +17,7 @@ use Rattle.octets.proofs.Said.{both-true}
 use Rattle.session.specs.declared.Session.{Session}
 use Rattle.forms.specs.Forms.{formOf}
 use Rattle.frame.specs.Checks.{Check, check, firstBroken}
-use Rattle.frame.proofs.Checks.{first-append, None, Numbered, none-first, numbered-append, first-none, first-some, ByFirst, by-first}
+use Rattle.frame.proofs.Checks.{first-append, None, AllNumbered, none-first, numbered-append, first-none, first-some, ByFirst, by-first}
 use Rattle.route.specs.Routes.{checksOf, acceptanceOf, judgeAs, judgeOf}
 use Rattle.route.proofs.Answer.{numbered-all}
 use Rattle.board_record.specs.Sizes.{places, room, keyLeast, versionMost}
@@ -155,7 +155,7 @@ module _ (b : Table) (k : ℕ) (octets : List ℕ) (session : Session) (pst : �
       (followed (checksOf (formOf pst) octets true session pst) last (acceptanceOf (formOf pst) octets true) refl
       (first-none (checksOf (formOf pst) octets true session pst) (acceptanceOf (formOf pst) octets true) (numbered-all (formOf pst) octets true session pst))))
 
-  pub report-numbered : (whole : Bool) → Numbered (reportChecks whole b k octets session pst)
+  pub report-numbered : (whole : Bool) → AllNumbered (reportChecks whole b k octets session pst)
   report-numbered whole = (
     omega arith,
     (
@@ -189,7 +189,7 @@ remove-chain : (whole : Bool) (b : Table) (k : ℕ) → (whole ≡ true → Prop
 unfolding removeRules
 remove-chain whole b k = no-path-behind whole b k (cond (eqb (b .version) versionMost) (refusedBy versionsUsedUp 0) (acceptedWith 0))
 
-remove-numbered : (whole : Bool) (b : Table) (k : ℕ) → Numbered (removeChecks whole b k)
+remove-numbered : (whole : Bool) (b : Table) (k : ℕ) → AllNumbered (removeChecks whole b k)
 remove-numbered whole b k = (omega arith, (omega arith, (omega arith, (omega arith, tt))))
 
 pub remove-by-first : (b : Table) (store : List ℕ) (k : ℕ) → ByFirst (removeAnswer b store k .verdict) (removeChecks (isBoard b (length store)) b k) (acceptedWith 0)
@@ -210,7 +210,7 @@ compact-chain : (whole : Bool) (b : Table) (c : ℕ) → compactRules whole c (b
 unfolding compactRules
 compact-chain whole b c = refl
 
-compact-numbered : (whole : Bool) (b : Table) (c : ℕ) → Numbered (compactChecks whole b c)
+compact-numbered : (whole : Bool) (b : Table) (c : ℕ) → AllNumbered (compactChecks whole b c)
 compact-numbered whole b c = (omega arith, (omega arith, tt))
 
 pub compact-by-first : (b : Table) (store : List ℕ) (c : ℕ) → ByFirst (compactAnswer b store c .verdict) (compactChecks (isBoard b (length store)) b c) (acceptedWith 0)
@@ -229,7 +229,7 @@ body-chain : (whole : Bool) (b : Table) (k : ℕ) → (whole ≡ true → Proper
 unfolding bodyRules
 body-chain whole b k = no-path-behind whole b k (acceptedWith 0)
 
-body-numbered : (whole : Bool) (b : Table) (k : ℕ) → Numbered (bodyChecks whole b k)
+body-numbered : (whole : Bool) (b : Table) (k : ℕ) → AllNumbered (bodyChecks whole b k)
 body-numbered whole b k = (omega arith, (omega arith, (omega arith, tt)))
 
 pub body-by-first : (b : Table) (store : List ℕ) (k : ℕ) → ByFirst (bodyNumber b store k) (bodyChecks (isBoard b (length store)) b k) (acceptedWith 0)
@@ -256,7 +256,7 @@ next-chain whole b s w =
     ap (λ (v : Verdict). cond (not whole) (refusedBy notABoard 0) v)
     (either (ltb (b .version) s) (ltb (b .version) w) (refusedBy markAhead 0) (cond (ltb (max s w) (b .floor)) (refusedBy markTooOld 0) (acceptedWith 0)))
 
-next-numbered : (whole : Bool) (b : Table) (s w : ℕ) → Numbered (nextChecks whole b s w)
+next-numbered : (whole : Bool) (b : Table) (s w : ℕ) → AllNumbered (nextChecks whole b s w)
 next-numbered whole b s w = (omega arith, (omega arith, (omega arith, tt)))
 
 next-first : (b : Table) (store : List ℕ) (s w : ℕ) → ByFirst (nextVerdict b store s w) (nextChecks (isBoard b (length store)) b s w) (acceptedWith 0)
@@ -331,7 +331,7 @@ module _ (b : Table) (from to v : ℕ) where
       go true false true = refl
       go true false false = refl
 
-  moved-numbered : (whole : Bool) → Numbered (movedChecks whole b v)
+  moved-numbered : (whole : Bool) → AllNumbered (movedChecks whole b v)
   moved-numbered whole = (omega arith, (omega arith, (omega arith, tt)))
 
 pub moved-by-first : (b : Table) (store : List ℕ) (from to v : ℕ)

@@ -13,7 +13,7 @@ use Rattle.answers.specs.Numbers.{notABoard}
 use Rattle.answers.specs.Verdicts.{refusedBy, acceptedWith}
 use Rattle.session.specs.declared.Session.{Session}
 use Rattle.route.specs.Routes.{judgeOf}
-use Rattle.route.proofs.Numbers.{Apart}
+use Rattle.route.proofs.Numbers.{OtherNumber}
 use Rattle.route.proofs.Setups.{judge-low}
 use Rattle.board_record.specs.Sizes.{places, room, versionMost}
 use Rattle.board_record.specs.Table.{Table}
@@ -54,7 +54,7 @@ module _ (b : Table) (store : List ℕ) (k : ℕ) (octets : List ℕ) (session :
   unfolding reportAnswer reportWith reportVerdict reportRules
   report-17-only e w = rest (judgeOf octets true session pst) (judge-low octets true session pst) (rw (whole-board b (length store) w) at e)
     where
-      rest : (route : Verdict) → Apart (route .number)
+      rest : (route : Verdict) → OtherNumber (route .number)
           → cond (not (inRange k)) (refusedBy 18 0)
           (cond (not (eqb (route .number) 0)) route
           (cond (ltb room (length (bodyIn octets))) (refusedBy 19 0)
@@ -65,7 +65,7 @@ module _ (b : Table) (store : List ℕ) (k : ℕ) (octets : List ℕ) (session :
           other (not (inRange k)) 18 _ (λ z. omega arith)
           (λ z. check (not (eqb (route .number) 0)) z)
         where
-          not-17 : Apart (route .number) → route .number ≡ notABoard → ⊥
+          not-17 : OtherNumber (route .number) → route .number ≡ notABoard → ⊥
           not-17 (inl y) z = omega arith
           not-17 (inr y) z = omega arith
 

@@ -1,5 +1,5 @@
 -- Every call leaves a proper table if it got one; version and floor never fall, and the version rises by exactly 1 with each accepted report or
--- removal and with nothing else. A report and a removal are a change at one place, which fits (`Fitting`) by the rules that were passed; a compaction
+-- removal and with nothing else. A report and a removal are a change at one place, which fits (`FittingEntry`) by the rules that were passed; a compaction
 -- leaves each place as it was or empty (`Left`). Assumes nothing.
 use Prim.Native.Nat.{ℕ, zero, suc, _+_, _*_, _<_, _≤_, _%_, max}
 use native.Mathlib.Omega.{arith}
@@ -27,7 +27,7 @@ use Rattle.board_record.proofs.Logic.{true≢false, same?}
 use Rattle.board_record.proofs.Lists.{row-at}
 use Rattle.board_record.proofs.Search.{removal-is, is-removal, report-place-is, floor-keeps, floor-takes, floor-drops}
 use Rattle.board_record.proofs.Proper.{Storable, Sound, sound-none, proper-sound, sound-proper}
-use Rattle.board_record.proofs.Changed.{Fitting, changed-sized, changed-proper}
+use Rattle.board_record.proofs.Changed.{FittingEntry, changed-sized, changed-proper}
 use Rattle.board_rules.specs.Report.{bodyIn, reportVerdict, reported, reportWith, reportAnswer}
 use Rattle.board_rules.specs.Remove.{removeVerdict, removed, removeAnswer}
 use Rattle.board_rules.specs.Compact.{compactVerdict, dropped, compacted, compactAnswer}
@@ -67,7 +67,7 @@ report-fits : (b : Table)
     → (b .version ≡ versionMost → ⊥)
     → i < places
     → ReportPlace b k i
-    → Fitting b i (bearing b k n pst) (floorAfter b k i)
+    → FittingEntry b i (bearing b k n pst) (floorAfter b k i)
 report-fits b p k n pst i low high size left here (keeps x) =
     let e = floor-keeps b k i (x .key) in
     record {

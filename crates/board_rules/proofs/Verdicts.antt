@@ -99,24 +99,25 @@ report-passed b store k octets route z =
     }
 
 -- a report that every rule before 21 lets pass
-pub record Reached (b : Table) (store : List ℕ) (k : ℕ) (octets : List ℕ) (route : Verdict) : Type 0 where
+pub record OnlyFullLeft (b : Table) (store : List ℕ) (k : ℕ) (octets : List ℕ) (route : Verdict) : Type 0 where
   pub board : isBoard b (length store) ≡ true
   pub key : inRange k ≡ true
   pub route-taken : route .number ≡ 0
   pub size : length (bodyIn octets) ≤ room
   pub versions-left : b .version ≡ versionMost → ⊥
 
-reached-rest : (b : Table) (store : List ℕ) (k : ℕ) (octets : List ℕ) (route : Verdict) → Reached b store k octets route
+reached-rest : (b : Table) (store : List ℕ) (k : ℕ) (octets : List ℕ) (route : Verdict) → OnlyFullLeft b store k octets route
     → reportVerdict b store k octets route ≡ cond (leb places (targetOf b k)) (refusedBy allPaths 0) route
 unfolding reportVerdict reportRules
 reached-rest b store k octets route r =
     rw (r .board, r .key, eq-eqb (route .number) 0 (r .route-taken), le-ltb room (length (bodyIn octets)) (r .size), ne-eqb (b .version) versionMost (r .versions-left))
 
 -- "21 exactly if the key is new and all 128 hold paths"
-pub all-paths-then : (b : Table) (store : List ℕ) (k : ℕ) (octets : List ℕ) (route : Verdict) → Reached b store k octets route → Full b k → reportVerdict b store k octets route ≡ refusedBy allPaths 0
+pub all-paths-then : (b : Table) (store : List ℕ) (k : ℕ) (octets : List ℕ) (route : Verdict) → OnlyFullLeft b store k octets route → Full b k
+    → reportVerdict b store k octets route ≡ refusedBy allPaths 0
 all-paths-then b store k octets route r f = reached-rest b store k octets route r ∙ rw (le-leb places (targetOf b k) (is-full b k f))
 
-pub all-paths-only : (b : Table) (store : List ℕ) (k : ℕ) (octets : List ℕ) (route : Verdict) → Reached b store k octets route → reportVerdict b store k octets route .number ≡ allPaths → Full b k
+pub all-paths-only : (b : Table) (store : List ℕ) (k : ℕ) (octets : List ℕ) (route : Verdict) → OnlyFullLeft b store k octets route → reportVerdict b store k octets route .number ≡ allPaths → Full b k
 all-paths-only b store k octets route r e = ⊎-elim (λ l. full-is b k l) (λ l. absurd (omega (arith, free l, r .route-taken))) (from? 128 (targetOf b k))
   where
     free : targetOf b k < 128 → route .number ≡ allPaths
@@ -125,7 +126,7 @@ all-paths-only b store k octets route r e = ⊎-elim (λ l. full-is b k l) (λ l
         sym (ap (λ (y : Verdict). y .number) q) ∙ e
 
 -- and every other report that got that far is accepted, with the number of segments
-pub reported-otherwise : (b : Table) (store : List ℕ) (k : ℕ) (octets : List ℕ) (route : Verdict) → Reached b store k octets route → (Full b k → ⊥) → reportVerdict b store k octets route ≡ route
+pub reported-otherwise : (b : Table) (store : List ℕ) (k : ℕ) (octets : List ℕ) (route : Verdict) → OnlyFullLeft b store k octets route → (Full b k → ⊥) → reportVerdict b store k octets route ≡ route
 reported-otherwise b store k octets route r n =
     ⊎-elim (λ l. absurd (n (full-is b k l))) (λ l. reached-rest b store k octets route r ∙ rw (lt-leb 128 (targetOf b k) l)) (from? 128 (targetOf b k))
 

@@ -4,7 +4,7 @@ mod taking;
 
 ghost use mathlib.Core.Path.{_≡_};
 ghost use Rattle.board_record.specs.Record.{boardOf, emptyBoard};
-ghost use Rattle.report_call.specs.Reported.{reportForOn, reportStoreForOn};
+ghost use Rattle.board_report_call.specs.Reported.{reportForOn, reportStoreForOn};
 ghost use Rattle.border_records.specs.Records.{verdictOut};
 ghost use Rattle.border_session.specs.Agreed.{sessionsIn};
 use board_record::GROUPS;
@@ -70,8 +70,8 @@ pub fn report(
         boardOf (now (keys .entry)) (now (versions .entry)) (now (lengths .entry)) (now (version .entry)) (now (floor .entry)) (now (order .entry)) (now (tops .entry)) (now (forms .entry)) in
         ⌜ now (store .exit) ≡ reportStoreForOn before (now (store .entry)) key (now (octets .entry)) (sessionsIn session) pst (now (addresses .entry)) ⌝ }
 {
-    let both = border_session::sessions_in(session);
-    let v = report_call::report(
+    let sessions = border_session::sessions_in(session);
+    let v = board_report_call::report(
         keys,
         versions,
         lengths,
@@ -83,7 +83,7 @@ pub fn report(
         store,
         key,
         octets,
-        both,
+        sessions,
         pst,
         addresses,
     );

@@ -2,17 +2,17 @@
 ghost use mathlib.Core.Path.{_≡_};
 ghost use Rattle.session.specs.Sessions.{sessionsOf};
 ghost use Rattle.open.specs.Open.{openOf};
-ghost use Rattle.border_opened.specs.Opens.{openedIn, openedOut, setupIn};
+ghost use Rattle.border_opened.specs.Opens.{openedIn, openedOut, positionsIn};
 ghost use Rattle.border_session.specs.Agreed.{sessionsOut};
 use border_opened::OpenedRecord;
-use border_opened::SetupRecord;
+use border_opened::PositionsRecord;
 use border_session::SessionRecord;
 
 // What an OPEN object says, or 28, 1, 2 or 3.
-pub fn read_open(setup: SetupRecord, octets: &[u8]) -> OpenedRecord
-    ensures opened { λ r. ⌜ r ≡ openedOut (openOf (setupIn setup) (now (octets .entry))) ⌝ }
+pub fn read_open(positions: PositionsRecord, octets: &[u8]) -> OpenedRecord
+    ensures opened { λ r. ⌜ r ≡ openedOut (openOf (positionsIn positions) (now (octets .entry))) ⌝ }
 {
-    let at = border_opened::setup_in(setup);
+    let at = border_opened::positions_in(positions);
     border_opened::opened_out(open::read_open(at, octets))
 }
 

@@ -2,16 +2,16 @@
 use Prim.Native.Nat.{ℕ}
 use mathlib.Core.Bool.{cond}
 use lib.Dec.{ltb}
-use Rattle.flag_positions.specs.declared.Setup.{Setup}
+use Rattle.flag_positions.specs.declared.Positions.{Positions}
 use Rattle.session.specs.Sessions.{mostOf}
 use Rattle.session.specs.declared.Opened.{Opened}
 use Rattle.border_records.specs.Records.{isYes, bit, limitIn, limitedFlag, depthFrom, thereOf, valueOf}
 use Rattle.border_opened.specs.declared.opened.OpenedRecord.{OpenedRecord}
-use Rattle.border_opened.specs.declared.setup.SetupRecord.{SetupRecord}
+use Rattle.border_opened.specs.declared.positions.PositionsRecord.{PositionsRecord}
 
 -- Where A and R stand.
-abbrev pub setupIn : SetupRecord → Setup
-setupIn p = record { a = p .a; r = p .r }
+abbrev pub positionsIn : PositionsRecord → Positions
+positionsIn p = record { a = p .a; r = p .r }
 
 -- The form at fault crosses as an octet; one that is none is handed out as 0, no form's.
 abbrev pub formOut : ℕ → ℕ

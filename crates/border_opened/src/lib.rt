@@ -1,9 +1,9 @@
 // The answer to an OPEN as it crosses the border to C and Rust, and where A and R stand (include/strundevi.h).
 mod opened;
-mod setup;
+mod positions;
 
 pub use opened::OpenedRecord;
 pub use opened::opened_in;
 pub use opened::opened_out;
-pub use setup::SetupRecord;
-pub use setup::setup_in;
+pub use positions::PositionsRecord;
+pub use positions::positions_in;

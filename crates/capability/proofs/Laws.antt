@@ -7,7 +7,7 @@ use mathlib.Core.Bool.{Bool, true, false, cond, _&&_, false≢true}
 use lib.Dec.{eqb, leb}
 use borrow.Author.Tests.{leb-true}
 use Rattle.answers.proofs.Determined.{determined}
-use Rattle.flag_positions.specs.declared.Setup.{Setup}
+use Rattle.flag_positions.specs.declared.Positions.{Positions}
 use Rattle.session.specs.declared.Limit.{Limit}
 use Rattle.session.specs.declared.Limit.the-variants.{Free}
 use Rattle.session.specs.declared.Opened.{Opened}
@@ -50,7 +50,7 @@ module _ (w : List ℕ) where
 
 -- what sub-TLV 27 announces --------------------------------------------------------------------------------------
 
-module _ (p : Setup) (w : List ℕ) where
+module _ (p : Positions) (w : List ℕ) where
   -- X and N as the code reads them.
   x-told : (flags : ℕ) (x : Bool) → flags ≡ octetOf w flagsAt → eqb (flags / 1 % 2) 1 ≡ x → xOf w ≡ x
   unfolding xOf
@@ -74,5 +74,5 @@ module _ (p : Setup) (w : List ℕ) where
 
 -- Any two answers that fit the contract of a call are equal ----------------------------------------------------
 
-pub announced-determined : (p : Setup) (w : List ℕ) {x y : Opened} → x ≡ announcedOf p w → y ≡ announcedOf p w → x ≡ y
+pub announced-determined : (p : Positions) (w : List ℕ) {x y : Opened} → x ≡ announcedOf p w → y ≡ announcedOf p w → x ≡ y
 announced-determined p w = determined

@@ -8,7 +8,7 @@ use lib.Dec.{eqb, leb}
 use Rattle.octets.specs.Octets.{octetOf, be16}
 use Rattle.objects.specs.Objects.{srv6Setup}
 use Rattle.answers.specs.Numbers.{openMalformed, wrongMsd}
-use Rattle.flag_positions.specs.declared.Setup.{Setup}
+use Rattle.flag_positions.specs.declared.Positions.{Positions}
 use Rattle.flag_positions.specs.Positions.{flagAt}
 use Rattle.session.specs.declared.Limit.{Limit}
 use Rattle.session.specs.declared.Opened.{Opened}
@@ -51,10 +51,10 @@ unfoldable pub xOf : List ℕ → Bool
 xOf w = flagSet w worthX
 
 -- A and R, at their positions among the 16 flags (document 02, C-15).
-unfoldable pub aOf : Setup → List ℕ → Bool
+unfoldable pub aOf : Positions → List ℕ → Bool
 aOf p w = flagAt (be16 w bothFlagsAt) (p .a)
 
-unfoldable pub rOf : Setup → List ℕ → Bool
+unfoldable pub rOf : Positions → List ℕ → Bool
 rOf p w = flagAt (be16 w bothFlagsAt) (p .r)
 
 abbrev pub pairsOf : List ℕ → List Pair
@@ -79,11 +79,11 @@ unfoldable pub limitOf : List ℕ → Limit
 limitOf w = limitBy (hEncapsOf w) (segmentsLeftOf w)
 
 -- What the value of sub-TLV 27 carries where none of its rules is broken.
-abbrev pub carriesBy : Setup → List ℕ → Opened
+abbrev pub carriesBy : Positions → List ℕ → Opened
 carriesBy p w = openCarries true (nOf w) (limitOf w) (aOf p w) (rOf p w) (depthNumber (hEncapsOf w)) (depthNumber (segmentsLeftOf w))
 
 -- What a side that lists type 3 announces by the value of sub-TLV 27, in the order 1, 3.
-unfoldable pub announcedOf : Setup → List ℕ → Opened
+unfoldable pub announcedOf : Positions → List ℕ → Opened
 announcedOf p w =
     cond (not (sizedOf w)) (openRefused openMalformed srv6Setup)
     (cond (wrongOf w) (openRefused wrongMsd srv6Setup) (carriesBy p w))

@@ -7,7 +7,7 @@ ghost use mathlib.Core.Path.{_≡_};
 ghost use Rattle.capability.specs.Srv6.{announcedOf};
 use answers::OPEN_MALFORMED;
 use answers::WRONG_MSD;
-use flag_positions::Setup;
+use flag_positions::Positions;
 use msd::ABSENT;
 use objects::SRV6_SETUP;
 use session::Limit;
@@ -32,7 +32,7 @@ const WORTH_X: usize = 1;
 const PAIRS_AT: usize = 4;
 
 // What a side that lists setup type 3 announces by the value of its sub-TLV 27.
-pub fn announced(p: Setup, w: &[u8]) -> Opened
+pub fn announced(p: Positions, w: &[u8]) -> Opened
     ensures announced { λ r. ⌜ r ≡ announcedOf p (now (w .entry)) ⌝ }
 {
     if !octets::both(w.len() % 2 == 0, PAIRS_AT <= w.len()) {

@@ -38,5 +38,5 @@ module _ (w : List ℕ) where
 
 -- Any two answers that fit the contract of a call are equal ----------------------------------------------------
 
-pub announced_mpls-determined : (w : List ℕ) {x y : Opened} → x ≡ mplsAnnouncedOf w → y ≡ mplsAnnouncedOf w → x ≡ y
-announced_mpls-determined w = determined
+pub announced-mpls-determined : (w : List ℕ) {x y : Opened} → x ≡ mplsAnnouncedOf w → y ≡ mplsAnnouncedOf w → x ≡ y
+announced-mpls-determined w = determined

@@ -8,7 +8,7 @@ use Rattle.objects.specs.Objects.{srv6Setup}
 use Rattle.answers.proofs.Determined.{determined}
 use Rattle.answers.specs.declared.verdict.Verdict.{Verdict}
 use Rattle.answers.specs.Verdicts.{refusedBy}
-use Rattle.flag_positions.specs.declared.Setup.{Setup}
+use Rattle.flag_positions.specs.declared.Positions.{Positions}
 use Rattle.flag_positions.specs.Positions.{firstTwo}
 use Rattle.open.specs.Open.{openOf}
 use Rattle.session.specs.declared.Opened.{Opened}
@@ -18,7 +18,7 @@ use Rattle.route_call.specs.Called.{judgedFor}
 use Rattle.checker_verdict.specs.Checking.{pccOf, pceOf, eroOf, checkedOf}
 
 -- An OPEN read at the positions 0 and 1, of octets that were cut off.
-pub opened-told : {p : Setup} {x y : List ℕ} {o : Opened} → p ≡ firstTwo → x ≡ y → o ≡ openOf p x → o ≡ openOf firstTwo y
+pub opened-told : {p : Positions} {x y : List ℕ} {o : Opened} → p ≡ firstTwo → x ≡ y → o ≡ openOf p x → o ≡ openOf firstTwo y
 opened-told e f g = g ∙ (λ i. openOf (e i) (f i))
 
 module _ (s : List ℕ) where

@@ -198,7 +198,7 @@ length-letters (k ∷ ks) = ap suc (length-letters ks)
 -- ## The form of a line
 
 -- The walk has passed the first i letters: what is left of it gives the whole answer.
-pub record Fitting (form line : List ℕ) (i : ℕ) : Type 0 where
+pub record LettersLeft (form line : List ℕ) (i : ℕ) : Type 0 where
   pub within : i ≤ length form
   pub many : wordsIn line space ≡ length form + 1
   pub same : fitLetters (drop i form) line (i + 1) ≡ fitLetters form line 1
@@ -217,20 +217,20 @@ module _ (place : ℕ) (form line : List ℕ) (e : form ≡ map letter (kindsOf 
       let f = ne-eqb (wordsIn line space) (suc (length form)) (λ n. h (omega arith)) in
       let g : byLetters form line ≡ false = rw f in sym g ∙ by-kinds place form line e
 
-  pub fitting-start : wordsIn line space ≡ length form + 1 → Fitting form line 0
+  pub fitting-start : wordsIn line space ≡ length form + 1 → LettersLeft form line 0
   fitting-start h = record { within = omega arith; many = h; same = refl }
 
-  whole : (i : ℕ) → Fitting form line i → fitLetters (drop i form) line (i + 1) ≡ formed (kindsOf (verbAt place)) line
+  whole : (i : ℕ) → LettersLeft form line i → fitLetters (drop i form) line (i + 1) ≡ formed (kindsOf (verbAt place)) line
   whole i f =
       let g = eq-eqb (wordsIn line space) (suc (length form)) (omega arith) in
       let k : byLetters form line ≡ fitLetters form line 1 = rw g in f .same ∙ sym k ∙ by-kinds place form line e
 
-  module _ (i : ℕ) (f : Fitting form line i) where
+  module _ (i : ℕ) (f : LettersLeft form line i) where
     pub fitting-miss : i < length form → fitsLetter (wordOf line space (i + 1)) (getD form i 0) ≡ false → false ≡ formed (kindsOf (verbAt place)) line
     unfolding fitLetters
     fitting-miss h t = rw (drop-cons form i 0 h, t) at (whole i f)
 
-    pub fitting-hit : i < length form → fitsLetter (wordOf line space (i + 1)) (getD form i 0) ≡ true → Fitting form line (i + 1)
+    pub fitting-hit : i < length form → fitsLetter (wordOf line space (i + 1)) (getD form i 0) ≡ true → LettersLeft form line (i + 1)
     unfolding fitLetters
     fitting-hit h t = record {
       within = omega arith;

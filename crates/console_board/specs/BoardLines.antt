@@ -24,10 +24,10 @@ pub record Boarding : Type 0 where
 
 -- `report KEY PST OCTETS`: "reports a path to the board"; `0 0 COUNT STRAY`. The head end's addresses are those set by `addresses`.
 abbrev pub reportTurn : Board → List ℕ → Command → List ℕ → Sessions → List ℕ → Boarding
-reportTurn b store c line both addresses = record {
-  board = reportByValue b store (c .one) (octetsIn line 3) both (c .two) addresses .board;
-  store = reportStoreByValue b store (c .one) (octetsIn line 3) both (c .two) addresses;
-  answer = countLine (reportByValue b store (c .one) (octetsIn line 3) both (c .two) addresses .verdict);
+reportTurn b store c line sessions addresses = record {
+  board = reportByValue b store (c .one) (octetsIn line 3) sessions (c .two) addresses .board;
+  store = reportStoreByValue b store (c .one) (octetsIn line 3) sessions (c .two) addresses;
+  answer = countLine (reportByValue b store (c .one) (octetsIn line 3) sessions (c .two) addresses .verdict);
 }
 
 -- `remove KEY`; `0 0`

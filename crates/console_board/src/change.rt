@@ -23,7 +23,7 @@ pub fn reported(
     b: Board,
     c: Command,
     line: &[u8],
-    both: Sessions,
+    sessions: Sessions,
     store: &mut [u8],
     memory: &[u8],
     given: usize,
@@ -31,13 +31,13 @@ pub fn reported(
     out: &mut [u8],
 ) -> Boarded
     requires { ⌜ (length (now line) ≤ 2 * length (now room)) × (short ≤ length (now out)) ⌝ }
-    ensures board { λ r. ⌜ r .board ≡ reportTurn b (now (store .entry)) c (now (line .entry)) both (listIn (now (memory .entry)) given) .board ⌝ }
-    ensures store { λ r. ⌜ now (store .exit) ≡ reportTurn b (now (store .entry)) c (now (line .entry)) both (listIn (now (memory .entry)) given) .store ⌝ }
-    ensures told { λ r. ⌜ Behind (now (out .entry)) (now (out .exit)) 0 (r .end) (reportTurn b (now (store .entry)) c (now (line .entry)) both (listIn (now (memory .entry)) given) .answer) ⌝ }
+    ensures board { λ r. ⌜ r .board ≡ reportTurn b (now (store .entry)) c (now (line .entry)) sessions (listIn (now (memory .entry)) given) .board ⌝ }
+    ensures store { λ r. ⌜ now (store .exit) ≡ reportTurn b (now (store .entry)) c (now (line .entry)) sessions (listIn (now (memory .entry)) given) .store ⌝ }
+    ensures told { λ r. ⌜ Behind (now (out .entry)) (now (out .exit)) 0 (r .end) (reportTurn b (now (store .entry)) c (now (line .entry)) sessions (listIn (now (memory .entry)) given) .answer) ⌝ }
 {
     let n = octets_at(line, 3, room);
     let list = listed(memory, given);
-    let a = board_report_by_value::report(b, store, c.one, &room[..n], both, c.two, list);
+    let a = board_report_by_value::report(b, store, c.one, &room[..n], sessions, c.two, list);
     let v = a.verdict;
     let after = a.board;
     Boarded {

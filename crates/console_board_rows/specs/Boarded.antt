@@ -11,9 +11,9 @@ use Rattle.command_rows.specs.declared.Looking.the-variants as l
 use Rattle.console_board.specs.BoardLines.{Boarding, reportTurn, removeTurn, compactTurn, bodyLine, nextLine, movedLine, markLine, boardLine, chainLine}
 
 abbrev pub changedTurn : Changing → Board → List ℕ → Command → List ℕ → Sessions → List ℕ → Boarding
-changedTurn g.Report b store c line both addresses = reportTurn b store c line both addresses
-changedTurn g.Remove b store c line both addresses = removeTurn b store c
-changedTurn g.Compact b store c line both addresses = compactTurn b store c
+changedTurn g.Report b store c line sessions addresses = reportTurn b store c line sessions addresses
+changedTurn g.Remove b store c line sessions addresses = removeTurn b store c
+changedTurn g.Compact b store c line sessions addresses = compactTurn b store c
 
 abbrev pub lookedLine : Looking → Board → List ℕ → Command → List ℕ
 lookedLine l.Body b store c = bodyLine b store c

@@ -29,7 +29,7 @@ pub fn changed(
     b: Board,
     c: Command,
     line: &[u8],
-    both: Sessions,
+    sessions: Sessions,
     store: &mut [u8],
     memory: &[u8],
     given: usize,
@@ -37,12 +37,14 @@ pub fn changed(
     out: &mut [u8],
 ) -> Boarded
     requires { ⌜ (length (now line) ≤ 2 * length (now room)) × (short ≤ length (now out)) ⌝ }
-    ensures board { λ r. ⌜ r .board ≡ changedTurn row b (now (store .entry)) c (now (line .entry)) both (listIn (now (memory .entry)) given) .board ⌝ }
-    ensures store { λ r. ⌜ now (store .exit) ≡ changedTurn row b (now (store .entry)) c (now (line .entry)) both (listIn (now (memory .entry)) given) .store ⌝ }
-    ensures told { λ r. ⌜ Behind (now (out .entry)) (now (out .exit)) 0 (r .end) (changedTurn row b (now (store .entry)) c (now (line .entry)) both (listIn (now (memory .entry)) given) .answer) ⌝ }
+    ensures board { λ r. ⌜ r .board ≡ changedTurn row b (now (store .entry)) c (now (line .entry)) sessions (listIn (now (memory .entry)) given) .board ⌝ }
+    ensures store { λ r. ⌜ now (store .exit) ≡ changedTurn row b (now (store .entry)) c (now (line .entry)) sessions (listIn (now (memory .entry)) given) .store ⌝ }
+    ensures told { λ r.
+        let turn = changedTurn row b (now (store .entry)) c (now (line .entry)) sessions (listIn (now (memory .entry)) given) in
+        ⌜ Behind (now (out .entry)) (now (out .exit)) 0 (r .end) (turn .answer) ⌝ }
 {
     match row {
-        Changing::Report => reported(b, c, line, both, store, memory, given, room, out),
+        Changing::Report => reported(b, c, line, sessions, store, memory, given, room, out),
         Changing::Remove => removed(b, c, store, out),
         Changing::Compact => compacted(b, c, store, out),
     }

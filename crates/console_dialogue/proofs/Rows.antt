@@ -62,12 +62,12 @@ looks-row l.Chain k c line n = refl
 
 -- ## Their turns
 
-pub asks-does : (x : Asking) (s : State) (c : Command) (store memory line : List ℕ) (n : ℕ) {both : Sessions} {r : State} {before after : List ℕ} {e end : ℕ}
+pub asks-does : (x : Asking) (s : State) (c : Command) (store memory line : List ℕ) (n : ℕ) {sessions : Sessions} {r : State} {before after : List ℕ} {e end : ℕ}
     → c ≡ commandOf line
     → c .verb ≡ asked x
     → (r ≡ s) × (e ≡ end)
-    → both ≡ agreedIn (consoleOf s store memory)
-    → Behind before after 0 end (askedLine x c line both (listIn memory (s .given)))
+    → sessions ≡ agreedIn (consoleOf s store memory)
+    → Behind before after 0 end (askedLine x c line sessions (listIn memory (s .given)))
     → Does s store memory line n r store memory before after e
 asks-does x s c store memory line n p q h g b =
     let row = asks-row x (consoleOf s store memory) c line n in
@@ -75,14 +75,14 @@ asks-does x s c store memory line n p q h g b =
     (ap (λ (y : Sessions). askedLine x c line y (listIn memory (s .given))) g ∙ sym (ap (λ (t : Turned). t .answer) row))
     (sym (ap (λ (t : Turned). t .console) row))
 
-pub changes-does : (x : Changing) (s : State) (c : Command) (store memory line : List ℕ) (n : ℕ) {both : Sessions} {r : State} {b : Board} {store′ before after : List ℕ} {e end : ℕ}
+pub changes-does : (x : Changing) (s : State) (c : Command) (store memory line : List ℕ) (n : ℕ) {sessions : Sessions} {r : State} {b : Board} {store′ before after : List ℕ} {e end : ℕ}
     → c ≡ commandOf line
     → c .verb ≡ changes x
     → (r ≡ withBoard s b) × (e ≡ end)
-    → both ≡ agreedIn (consoleOf s store memory)
-    → b ≡ changedTurn x (s .board) store c line both (listIn memory (s .given)) .board
-    → store′ ≡ changedTurn x (s .board) store c line both (listIn memory (s .given)) .store
-    → Behind before after 0 end (changedTurn x (s .board) store c line both (listIn memory (s .given)) .answer)
+    → sessions ≡ agreedIn (consoleOf s store memory)
+    → b ≡ changedTurn x (s .board) store c line sessions (listIn memory (s .given)) .board
+    → store′ ≡ changedTurn x (s .board) store c line sessions (listIn memory (s .given)) .store
+    → Behind before after 0 end (changedTurn x (s .board) store c line sessions (listIn memory (s .given)) .answer)
     → Does s store memory line n r store′ memory before after e
 changes-does x s c store memory line n p q h g u v b =
     let row = changes-row x (consoleOf s store memory) c line n in

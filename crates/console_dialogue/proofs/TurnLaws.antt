@@ -4,7 +4,7 @@ use mathlib.Core.Path.{_≡_, refl, sym, _∙_, ap, subst}
 use mathlib.Core.List.{List, _++_}
 use lib.ListN.{length, take, drop}
 use lib.Seq.{take-at, drop-at}
-use Rattle.flag_positions.specs.declared.Setup.{Setup}
+use Rattle.flag_positions.specs.declared.Positions.{Positions}
 use Rattle.command_forms.specs.Forms.{mostSize}
 use Rattle.session.specs.declared.Opened.{Opened}
 use Rattle.board_record.specs.declared.record.Board.{Board}
@@ -43,7 +43,7 @@ does w {s} {c = c} {store} {memory} {line} {store′} {memory′} {before} {afte
 -- ## What `refl` does not compute
 
 -- The console part by part, after a command that changes it.
-pub parts : {board b : Board} {store s : List ℕ} {pcc o pce p : Opened} {writer w : Writer} {lent l : List ℕ} {at : Setup} {addresses list : List ℕ}
+pub parts : {board b : Board} {store s : List ℕ} {pcc o pce p : Opened} {writer w : Writer} {lent l : List ℕ} {at : Positions} {addresses list : List ℕ}
     → board ≡ b
     → store ≡ s
     → pcc ≡ o

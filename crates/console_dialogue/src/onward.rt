@@ -7,7 +7,7 @@ ghost use Rattle.console_dialogue.specs.Input.{ReadyToHear, heardOf, hea
 use crate::heard::Hearing;
 use crate::heard::answer;
 use crate::line::keep;
-use console_line_parts::part as part_of;
+use console_input_parts::part as part_of;
 
 // What has been heard, the end of the answer in `out`, and where to go on in what was read.
 pub struct Onward {

@@ -9,7 +9,7 @@ use Rattle.command_rows.specs.declared.Asking.the-variants as a
 use Rattle.console_routes.specs.RouteLines.{routeLine, segmentAnswer}
 
 abbrev pub askedLine : Asking → Command → List ℕ → Sessions → List ℕ → List ℕ
-askedLine a.Ero c line both addresses = routeLine c line true both addresses
-askedLine a.Rro c line both addresses = routeLine c line false both addresses
-askedLine a.EroSegment c line both addresses = segmentAnswer c line true both addresses
-askedLine a.RroSegment c line both addresses = segmentAnswer c line false both addresses
+askedLine a.Ero c line sessions addresses = routeLine c line true sessions addresses
+askedLine a.Rro c line sessions addresses = routeLine c line false sessions addresses
+askedLine a.EroSegment c line sessions addresses = segmentAnswer c line true sessions addresses
+askedLine a.RroSegment c line sessions addresses = segmentAnswer c line false sessions addresses

@@ -17,19 +17,19 @@ pub fn asked(
     row: Asking,
     c: Command,
     line: &[u8],
-    both: Sessions,
+    sessions: Sessions,
     memory: &[u8],
     given: usize,
     room: &mut [u8],
     out: &mut [u8],
 ) -> usize
     requires { ⌜ Spells (now line) (now room) × (long ≤ length (now out)) ⌝ }
-    ensures told { λ r. ⌜ Behind (now (out .entry)) (now (out .exit)) 0 r (askedLine row c (now (line .entry)) both (listIn (now (memory .entry)) given)) ⌝ }
+    ensures told { λ r. ⌜ Behind (now (out .entry)) (now (out .exit)) 0 r (askedLine row c (now (line .entry)) sessions (listIn (now (memory .entry)) given)) ⌝ }
 {
     match row {
-        Asking::Ero => judged(c, line, true, both, memory, given, room, out),
-        Asking::Rro => judged(c, line, false, both, memory, given, room, out),
-        Asking::EroSegment => picked(c, line, true, both, memory, given, room, out),
-        Asking::RroSegment => picked(c, line, false, both, memory, given, room, out),
+        Asking::Ero => judged(c, line, true, sessions, memory, given, room, out),
+        Asking::Rro => judged(c, line, false, sessions, memory, given, room, out),
+        Asking::EroSegment => picked(c, line, true, sessions, memory, given, room, out),
+        Asking::RroSegment => picked(c, line, false, sessions, memory, given, room, out),
     }
 }

@@ -16,13 +16,13 @@ use Rattle.command_forms.specs.Forms.{mostSize}
 use Rattle.console_state.specs.State.{listIn}
 use Rattle.console_state.proofs.Laws.{spelled}
 
-pub judged-told : (ero : Bool) (both : Sessions) (pst : ℕ) {x y l m : List ℕ} {v : Verdict} → x ≡ y → l ≡ m → v ≡ judgedFor x ero both pst l
-    → v ≡ judgedFor y ero both pst m
-judged-told ero both pst e f g = g ∙ (λ i. judgedFor (e i) ero both pst (f i))
+pub judged-told : (ero : Bool) (sessions : Sessions) (pst : ℕ) {x y l m : List ℕ} {v : Verdict} → x ≡ y → l ≡ m → v ≡ judgedFor x ero sessions pst l
+    → v ≡ judgedFor y ero sessions pst m
+judged-told ero sessions pst e f g = g ∙ (λ i. judgedFor (e i) ero sessions pst (f i))
 
-pub picked-told : (ero : Bool) (both : Sessions) (pst k : ℕ) {x y l m : List ℕ} {p : Picked} → x ≡ y → l ≡ m → p ≡ segmentFor x ero both pst l k
-    → p ≡ segmentFor y ero both pst m k
-picked-told ero both pst k e f g = g ∙ (λ i. segmentFor (e i) ero both pst (f i) k)
+pub picked-told : (ero : Bool) (sessions : Sessions) (pst k : ℕ) {x y l m : List ℕ} {p : Picked} → x ≡ y → l ≡ m → p ≡ segmentFor x ero sessions pst l k
+    → p ≡ segmentFor y ero sessions pst m k
+picked-told ero sessions pst k e f g = g ∙ (λ i. segmentFor (e i) ero sessions pst (f i) k)
 
 pub list-laid : (m y w z : List ℕ) {n : ℕ} → mostSize ≤ length m → (n ≡ length w) × (y ≡ over w z)
     → (listIn (putMid mostSize (length m - mostSize) m y) n ≡ w) × (take mostSize (putMid mostSize (length m - mostSize) m y) ≡ take mostSize m)

@@ -16,14 +16,14 @@ use command::Command;
 use command::octets_at;
 use command_forms::MOST_SIZE;
 use console_state::listed;
-use flag_positions::Setup;
+use flag_positions::Positions;
 use session::Opened;
 use session::Sessions;
 use subobject::Segment;
 use subobject_strays::Strays;
 
 // `pcc OCTETS`, `pce OCTETS`: the answer to the OPEN of the line.
-pub fn heard(p: Setup, line: &[u8], room: &mut [u8]) -> Opened
+pub fn heard(p: Positions, line: &[u8], room: &mut [u8]) -> Opened
     requires { ⌜ Spells (now line) (now room) ⌝ }
     ensures read { λ r. ⌜ r ≡ openIn p (now (line .entry)) ⌝ }
 {
@@ -36,18 +36,18 @@ pub fn judged(
     c: Command,
     line: &[u8],
     ero: bool,
-    both: Sessions,
+    sessions: Sessions,
     memory: &[u8],
     given: usize,
     room: &mut [u8],
     out: &mut [u8],
 ) -> usize
     requires { ⌜ Spells (now line) (now room) × (short ≤ length (now out)) ⌝ }
-    ensures told { λ r. ⌜ Behind (now (out .entry)) (now (out .exit)) 0 r (routeLine c (now (line .entry)) ero both (listIn (now (memory .entry)) given)) ⌝ }
+    ensures told { λ r. ⌜ Behind (now (out .entry)) (now (out .exit)) 0 r (routeLine c (now (line .entry)) ero sessions (listIn (now (memory .entry)) given)) ⌝ }
 {
     let n = octets_at(line, 2, room);
     let list = listed(memory, given);
-    let v = route_call::judge(&room[..n], ero, both, c.one, list);
+    let v = route_call::judge(&room[..n], ero, sessions, c.one, list);
     console_state::counted(out, v)
 }
 
@@ -67,18 +67,18 @@ pub fn picked(
     c: Command,
     line: &[u8],
     ero: bool,
-    both: Sessions,
+    sessions: Sessions,
     memory: &[u8],
     given: usize,
     room: &mut [u8],
     out: &mut [u8],
 ) -> usize
     requires { ⌜ Spells (now line) (now room) × (long ≤ length (now out)) ⌝ }
-    ensures told { λ r. ⌜ Behind (now (out .entry)) (now (out .exit)) 0 r (segmentAnswer c (now (line .entry)) ero both (listIn (now (memory .entry)) given)) ⌝ }
+    ensures told { λ r. ⌜ Behind (now (out .entry)) (now (out .exit)) 0 r (segmentAnswer c (now (line .entry)) ero sessions (listIn (now (memory .entry)) given)) ⌝ }
 {
     let n = octets_at(line, 3, room);
     let list = listed(memory, given);
-    let p = route_call::segment(&room[..n], ero, both, c.one, list, c.two);
+    let p = route_call::segment(&room[..n], ero, sessions, c.one, list, c.two);
     let v = p.verdict;
     if v.number != 0 {
         return console_lines::refusal(out, v.number, v.place);

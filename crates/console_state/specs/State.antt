@@ -5,7 +5,7 @@ use mathlib.Core.List.{List, []}
 use lib.ListN.{take, drop, replicate}
 use Rattle.answers.specs.Numbers.{openMalformed}
 use Rattle.objects.specs.Objects.{srv6Setup}
-use Rattle.flag_positions.specs.declared.Setup.{Setup}
+use Rattle.flag_positions.specs.declared.Positions.{Positions}
 use Rattle.flag_positions.specs.Positions.{firstTwo}
 use Rattle.command_forms.specs.Forms.{mostSize}
 use Rattle.session.specs.declared.Opened.{Opened}
@@ -24,7 +24,7 @@ pub record Console : Type 0 where
   pub pce : Opened
   pub writer : Writer
   pub lent : List ℕ
-  pub positions : Setup
+  pub positions : Positions
   pub addresses : List ℕ
 
 -- "the writer stands at place 0 of an ERO", of SRv6

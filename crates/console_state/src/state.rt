@@ -2,7 +2,7 @@
 ghost use mathlib.Core.Path.{_≡_};
 ghost use Rattle.console_state.specs.State.{stateAtStart, withBoard, withPcc, withPce, withWriter, withPositions, withGiven};
 use board_record::Board;
-use flag_positions::Setup;
+use flag_positions::Positions;
 use session::Opened;
 use writer_state::Writer;
 
@@ -12,7 +12,7 @@ pub struct State {
     pub pce: Opened,
     pub writer: Writer,
     pub size: usize,
-    pub positions: Setup,
+    pub positions: Positions,
     pub given: usize,
 }
 
@@ -122,7 +122,7 @@ pub fn with_positions(state: State, a: u64, r: u64) -> State
         pce: pce,
         writer: writer,
         size: state.size,
-        positions: Setup { a: a, r: r },
+        positions: Positions { a: a, r: r },
         given: state.given,
     }
 }

@@ -5,17 +5,17 @@ use mathlib.Core.Bool.{Bool, true, false, _&&_}
 use borrow.Author.Tests.{eq-eqb}
 use lib.Dec.{leb}
 use Rattle.answers.proofs.Determined.{determined}
-use Rattle.flag_positions.specs.declared.Setup.{Setup}
-use Rattle.flag_positions.specs.Positions.{usableSetup, firstTwo, flagAt}
+use Rattle.flag_positions.specs.declared.Positions.{Positions}
+use Rattle.flag_positions.specs.Positions.{usablePositions, firstTwo, flagAt}
 
 -- The positions of the checking program.
-pub usable-0-1 : usableSetup firstTwo ≡ true
-unfolding usableSetup
+pub usable-0-1 : usablePositions firstTwo ≡ true
+unfolding usablePositions
 usable-0-1 = refl
 
 -- Equal positions are of no use.
-pub equal-unusable : (p : ℕ) → usableSetup (record { a = p; r = p }) ≡ false
-unfolding usableSetup
+pub equal-unusable : (p : ℕ) → usablePositions (record { a = p; r = p }) ≡ false
+unfolding usablePositions
 equal-unusable p = rw (eq-eqb p p refl) (go (leb p 13))
   where
     go : (b : Bool) → (b && (b && false)) ≡ false
@@ -28,10 +28,10 @@ unfolding flagAt
 highest = (refl, refl, refl)
 
 -- Any two answers that fit the contract of a call are equal.
-pub first_two-determined : {x y : Setup} → x ≡ firstTwo → y ≡ firstTwo → x ≡ y
-first_two-determined = determined
+pub first-two-determined : {x y : Positions} → x ≡ firstTwo → y ≡ firstTwo → x ≡ y
+first-two-determined = determined
 
-pub usable-determined : (p : Setup) {x y : Bool} → x ≡ usableSetup p → y ≡ usableSetup p → x ≡ y
+pub usable-determined : (p : Positions) {x y : Bool} → x ≡ usablePositions p → y ≡ usablePositions p → x ≡ y
 usable-determined p = determined
 
 pub flag-determined : (flags p : ℕ) {x y : Bool} → x ≡ flagAt flags p → y ≡ flagAt flags p → x ≡ y

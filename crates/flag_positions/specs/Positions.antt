@@ -2,7 +2,7 @@
 use Prim.Native.Nat.{ℕ, _-_, _/_, _%_, _^_}
 use mathlib.Core.Bool.{Bool, not, _&&_}
 use lib.Dec.{eqb, leb}
-use Rattle.flag_positions.specs.declared.Setup.{Setup}
+use Rattle.flag_positions.specs.declared.Positions.{Positions}
 
 -- The last position that A and R can have: behind it stand N, at 14, and X, at 15.
 abbrev pub lastPosition : ℕ
@@ -13,11 +13,11 @@ abbrev pub lowestPosition : ℕ
 lowestPosition = 15
 
 -- "two different numbers from 0 to 13"
-unfoldable pub usableSetup : Setup → Bool
-usableSetup p = leb (p .a) lastPosition && (leb (p .r) lastPosition && not (eqb (p .a) (p .r)))
+unfoldable pub usablePositions : Positions → Bool
+usablePositions p = leb (p .a) lastPosition && (leb (p .r) lastPosition && not (eqb (p .a) (p .r)))
 
 -- "checking program: 0 and 1"
-abbrev pub firstTwo : Setup
+abbrev pub firstTwo : Positions
 firstTwo = record { a = 0; r = 1 }
 
 -- Position p of the 16 flags, counted from the high end, is worth 2^(15-p).

@@ -3,7 +3,7 @@
 // Positions count from the high end of the 16 flags: position p is worth 2^(15-p), so N stands at 14 and X at 15.
 // Usable are two different ones of 0 to 13: else 28.
 ghost use mathlib.Core.Path.{_≡_};
-ghost use Rattle.flag_positions.specs.Positions.{usableSetup, firstTwo, flagAt};
+ghost use Rattle.flag_positions.specs.Positions.{usablePositions, firstTwo, flagAt};
 
 // The last position that A and R can have.
 const LAST_POSITION: u64 = 13;
@@ -12,21 +12,21 @@ const LAST_POSITION: u64 = 13;
 const LOWEST_POSITION: u64 = 15;
 
 // Where A and R stand.
-pub struct Setup {
+pub struct Positions {
     pub a: u64,
     pub r: u64,
 }
 
 // Positions 0 and 1: those of the checking program.
-pub fn first_two() -> Setup
+pub fn first_two() -> Positions
     ensures first { λ x. ⌜ x ≡ firstTwo ⌝ }
 {
-    Setup { a: 0, r: 1 }
+    Positions { a: 0, r: 1 }
 }
 
 // Whether the two positions can be used.
-pub fn usable(p: Setup) -> bool
-    ensures usable { λ x. ⌜ x ≡ usableSetup p ⌝ }
+pub fn usable(p: Positions) -> bool
+    ensures usable { λ x. ⌜ x ≡ usablePositions p ⌝ }
 {
     if LAST_POSITION < p.a {
         return false;

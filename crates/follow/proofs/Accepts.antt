@@ -32,18 +32,18 @@ use Rattle.board_rules.proofs.Verdicts.{range-passed}
 use Rattle.board_rules.specs.Report.{bodyIn, reportRules, reportVerdict, reportWith, reportAnswer}
 use Rattle.board_rules.specs.Remove.{removeRules, removeVerdict, removeAnswer}
 use Rattle.board_rules.specs.Compact.{compactRules, compactVerdict, compactAnswer}
-use Rattle.report_call.specs.Reported.{reportFor}
+use Rattle.board_report_call.specs.Reported.{reportFor}
 use Rattle.follow.specs.Story.{HeldPath, Story, version, held}
 use Rattle.follow.specs.Floor.{isSome, keyEnd}
 use Rattle.follow.specs.Run.{World, start, run}
 use Rattle.follow.specs.Accepts.{heldCount, allTaken, reportSaid, removeSaid, compactSaid, VerdictsOf, VerdictsAreTheStorys}
 use Rattle.follow.proofs.Cases.{none-of, some≢none}
 use Rattle.follow.proofs.Begun.{pathIn, path-mark, path-there}
-use Rattle.follow.proofs.Table.{Stands}
+use Rattle.follow.proofs.Table.{StandsFor}
 use Rattle.follow.proofs.Theorem.{Good, is-board, good-run, good-start}
 use Rattle.follow.proofs.Bodies.{kept-at, no-path}
 
-module _ (b : Table) (store : List ℕ) (h : Story) (r : Stands b store h) where
+module _ (b : Table) (store : List ℕ) (h : Story) (r : StandsFor b store h) where
   -- a place has a path
   abbrev full? : ℕ → Bool
   full? i = not (eqb (lengthAt b i) 0)
@@ -129,13 +129,13 @@ ranged-same k out a c f = go (inRange k) refl
     go false e = refl
 
 module _ (x : World) (g : Good x) where
-  report-told : (k : ℕ) (octets : List ℕ) (both : Sessions) (pst : ℕ) (addresses : List ℕ)
-      → reportFor (x .table) (x .store) k octets both pst addresses .verdict ≡ reportSaid (x .story) k octets both pst addresses
+  report-told : (k : ℕ) (octets : List ℕ) (sessions : Sessions) (pst : ℕ) (addresses : List ℕ)
+      → reportFor (x .table) (x .store) k octets sessions pst addresses .verdict ≡ reportSaid (x .story) k octets sessions pst addresses
   unfolding reportFor reportAnswer reportWith reportVerdict reportRules
-  report-told k octets both pst addresses = go (rule28 addresses)
+  report-told k octets sessions pst addresses = go (rule28 addresses)
     where
       go : (t : Bool)
-          → (let under = sessionFor octets true (sessionUnder both pst) addresses in
+          → (let under = sessionFor octets true (sessionUnder sessions pst) addresses in
           let route = judgeOf octets true under pst in
           cond t (outcomeOf (refusedBy notUsable 0) (x .table)) (reportAnswer (x .table) (x .store) k octets under pst) .verdict
           ≡ cond t (refusedBy notUsable 0)

@@ -22,9 +22,9 @@ untouched x n f = record { table = refl; store = refl; story = refl; others = λ
 itself : (x : World) (n : ℕ) (f : Follower) → following x n f .followers n ≡ f
 itself x n f = cond-yes (eqb n n) f (x .followers n) (eq-eqb n n refl)
 
-pub ask-untouched : (x : World) (n : ℕ) (both : Bool) → Untouched x (step x (ask n both)) n
+pub ask-untouched : (x : World) (n : ℕ) (updates : Bool) → Untouched x (step x (ask n updates)) n
 unfolding step
-ask-untouched x n both = untouched x n (does (x .followers n) both (answerTo x n))
+ask-untouched x n updates = untouched x n (does (x .followers n) updates (answerTo x n))
 
 pub cut-untouched : (x : World) (n : ℕ) → Untouched x (step x (askCut n)) n
 unfolding step
@@ -40,9 +40,9 @@ unfolding step
 begin-fresh x n = itself x n (fresh (x .table))
 
 -- a refused ask changes nothing
-pub refused-ask-changes-nothing : (x : World) (n : ℕ) (both : Bool) (number : ℕ) → answerTo x n ≡ refusal number → step x (ask n both) .followers n ≡ x .followers n
+pub refused-ask-changes-nothing : (x : World) (n : ℕ) (updates : Bool) (number : ℕ) → answerTo x n ≡ refusal number → step x (ask n updates) .followers n ≡ x .followers n
 unfolding step
-refused-ask-changes-nothing x n both number e = itself x n (does (x .followers n) both (answerTo x n)) ∙ ap (does (x .followers n) both) e
+refused-ask-changes-nothing x n updates number e = itself x n (does (x .followers n) updates (answerTo x n)) ∙ ap (does (x .followers n) updates) e
 
 -- a follower that is cut off keeps its mark
 pub cut-keeps-the-mark : (x : World) (n : ℕ) → (step x (askCut n) .followers n .s ≡ x .followers n .s) × (step x (askCut n) .followers n .w ≡ x .followers n .w)

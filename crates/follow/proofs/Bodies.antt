@@ -25,7 +25,7 @@ use Rattle.follow.specs.Promise.{BodyGiven, BodiesAreThoseHeld}
 use Rattle.follow.proofs.Cases.{some≢none, some-one, not-true-is-false}
 use Rattle.follow.proofs.Begun.{pathIn, path-mark, path-there}
 use Rattle.follow.proofs.Keeps.{none-yet}
-use Rattle.follow.proofs.Table.{Stands, path-none}
+use Rattle.follow.proofs.Table.{StandsFor, path-none}
 use Rattle.follow.proofs.Theorem.{Good, is-board, good-run, good-start}
 
 -- a key that is held has a place of its own, with that path
@@ -36,7 +36,7 @@ pub record Kept (b : Table) (store : List ℕ) (k : ℕ) (path : HeldPath) : Typ
   pub long : lengthAt b (placeOf b k) ≡ 0 → ⊥
   pub path-is : pathAt b store (placeOf b k) ≡ path
 
-pub kept-at : (b : Table) (store : List ℕ) (h : Story) (k : ℕ) (path : HeldPath) → Stands b store h → held h k ≡ some path → Kept b store k path
+pub kept-at : (b : Table) (store : List ℕ) (h : Story) (k : ℕ) (path : HeldPath) → StandsFor b store h → held h k ≡ some path → Kept b store k path
 kept-at b store h k path r e = ⊎-elim there (λ y. absurd (some≢none path (sym e ∙ y .0))) (r .there k changed)
   where
     changed : 0 < last h k
@@ -57,7 +57,7 @@ kept-at b store h k path r e = ⊎-elim there (λ y. absurd (some≢none path (s
         }
 
 -- a key that is not held has no place, or that of a removal
-pub no-path : (b : Table) (store : List ℕ) (h : Story) (k : ℕ) → Stands b store h → keyLeast ≤ k → held h k ≡ none → hasPath b k ≡ false
+pub no-path : (b : Table) (store : List ℕ) (h : Story) (k : ℕ) → StandsFor b store h → keyLeast ≤ k → held h k ≡ none → hasPath b k ≡ false
 unfolding hasPath
 no-path b store h k r low e = ⊎-elim (λ l. rw (le-ltb (placeOf b k) places l)) at-place (from? places (placeOf b k))
   where

@@ -15,7 +15,7 @@ use Rattle.board_record.proofs.Changed.{changed-sized}
 use Rattle.follow.specs.Story.{Deed, Story, did, keyOf, leaves, held, last}
 use Rattle.follow.proofs.Begun.{pathIn, path-mark}
 use Rattle.follow.proofs.Keeps.{last-same, last-other, held-same, held-other}
-use Rattle.follow.proofs.Table.{Stands}
+use Rattle.follow.proofs.Table.{StandsFor}
 
 -- what is asked of a change c at place i to n octets in form m, with floor f after it, and with the store st before and st′ after it
 pub record Fits (b : Table) (st st′ : List ℕ) (c : Deed) (i n m f : ℕ) : Type 0 where
@@ -29,7 +29,7 @@ pub record Fits (b : Table) (st st′ : List ℕ) (c : Deed) (i n m f : ℕ) : T
   pub store : length st′ ≡ length st
   pub others : (j : ℕ) → j < places → (i ≡ j → ⊥) → pathIn (changed b i (bearing b (keyOf c) n m) f) st′ j ≡ pathIn b st j
 
-module _ (b : Table) (st st′ : List ℕ) (h : Story) (c : Deed) (i n m f : ℕ) (r : Stands b st h) (x : Fits b st st′ c i n m f) where
+module _ (b : Table) (st st′ : List ℕ) (h : Story) (c : Deed) (i n m f : ℕ) (r : StandsFor b st h) (x : Fits b st st′ c i n m f) where
   -- the board after it
   abbrev b′ : Table
   b′ = changed b i (bearing b (keyOf c) n m) f
@@ -82,7 +82,7 @@ module _ (b : Table) (st st′ : List ℕ) (h : Story) (c : Deed) (i n m f : ℕ
       (r .there k (omega (arith, last-other c h k d))))
       (same? (keyOf c) k)
 
-  pub stands-changed : Stands (changed b i (bearing b (keyOf c) n m) f) st′ (did c h)
+  pub stands-changed : StandsFor (changed b i (bearing b (keyOf c) n m) f) st′ (did c h)
   stands-changed = record {
     proper = x .proper;
     sized = changed-sized b i (bearing b (keyOf c) n m) f (r .sized);

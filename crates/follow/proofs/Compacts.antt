@@ -14,7 +14,7 @@ use Rattle.board_rules.proofs.Keeps.{compacted-key, compacted-version, dropped-
 use Rattle.board_rules.specs.Compact.{dropped, compacted}
 use Rattle.follow.specs.Story.{Story, compactedTo, held, last}
 use Rattle.follow.proofs.Begun.{pathIn, path-mark}
-use Rattle.follow.proofs.Table.{Stands}
+use Rattle.follow.proofs.Table.{StandsFor}
 
 -- ---- a place that is dropped, and one that is not
 
@@ -45,7 +45,7 @@ module _ (b : Table) (c i : ℕ) (l : i < places) where
 
 -- ---- the table
 
-module _ (b : Table) (st : List ℕ) (h : Story) (c : ℕ) (r : Stands b st h) (reached : c ≤ b .version) where
+module _ (b : Table) (st : List ℕ) (h : Story) (c : ℕ) (r : StandsFor b st h) (reached : c ≤ b .version) where
   here-compacted : (i : ℕ) → i < places → Used (compacted b c) i → (last h (keyAt (compacted b c) i) ≡ versionAt (compacted b c) i) × (held h (keyAt (compacted b c) i) ≡ pathIn (compacted b c) st i)
   unfolding octetsAt
   here-compacted i l u =
@@ -63,7 +63,7 @@ module _ (b : Table) (st : List ℕ) (h : Story) (c : ℕ) (r : Stands b st h) (
       (λ y. inr (y .0, omega (arith, y .1)))
       (r .there k p)
 
-  pub stands-compact : Stands (compacted b c) st (compactedTo c h)
+  pub stands-compact : StandsFor (compacted b c) st (compactedTo c h)
   unfolding compacted held last
   stands-compact =
       record {

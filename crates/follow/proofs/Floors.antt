@@ -23,11 +23,11 @@ use Rattle.follow.specs.Floor.{leastValue, isSome, standing, keyEnd, flo
 use Rattle.follow.proofs.Cases.{none-of, or-cases, not-true-is-false}
 use Rattle.follow.proofs.Begun.{pathIn, path-mark}
 use Rattle.follow.proofs.Keeps.{none-yet}
-use Rattle.follow.proofs.Table.{Stands, path-none}
+use Rattle.follow.proofs.Table.{StandsFor, path-none}
 use Rattle.follow.proofs.Counts.{has, keys-count}
 
 -- ---- a key stands exactly if a place has it
-module _ (b : Table) (store : List ℕ) (h : Story) (r : Stands b store h) where
+module _ (b : Table) (store : List ℕ) (h : Story) (r : StandsFor b store h) where
   place-stands : (i : ℕ) → i < 128 → (keyAt b i ≡ 0 → ⊥) → standing h (b .floor) (keyAt b i) ≡ true
   unfolding standing
   place-stands i l u = let g = r .here i l u in go (eqb (lengthAt b i) 0) refl (rw (g .1, g .0) refl)
@@ -101,7 +101,7 @@ least-value t v pos n k l e f = go (leastValue t v n) (min-is t v pos n)
     go x (no-one z g) = absurd (true≢false (sym e ∙ g k l))
     go x (someone j m p q g) = omega (arith, g k l e, f j m p)
 
-module _ (b : Table) (store : List ℕ) (h : Story) (r : Stands b store h) (k i : ℕ) (l : i < 128) (k-low : 1 ≤ k) where
+module _ (b : Table) (store : List ℕ) (h : Story) (r : StandsFor b store h) (k i : ℕ) (l : i < 128) (k-low : 1 ≤ k) where
   mark? : ℕ → Bool
   mark? j = standing h (b .floor) j && not (isSome (held h j))
 

@@ -25,11 +25,11 @@ use Rattle.follow.specs.Follower.{Follower}
 use Rattle.follow.specs.Run.{World, Act, start, run}
 use Rattle.follow.specs.Promise.{Ready}
 use Rattle.follow.specs.Moved.{Changed, MovedSaid, MovedIsTheStorys}
-use Rattle.follow.proofs.Table.{Stands}
+use Rattle.follow.proofs.Table.{StandsFor}
 use Rattle.follow.proofs.Theorem.{Good, good-run, good-start}
 
 -- ---- the table against the story
-module _ (b : Table) (store : List ℕ) (h : Story) (r : Stands b store h) (from to v : ℕ) where
+module _ (b : Table) (store : List ℕ) (h : Story) (r : StandsFor b store h) (from to v : ℕ) where
   place-changed : (i : ℕ) → MovedAt b from to v i → Changed h from to v
   place-changed i m = record { key = keyAt b i; least = m .least; most = m .most; after = omega (arith, m .after, r .here i (m .here) (m .used) .0) }
 

@@ -22,7 +22,7 @@ use Rattle.board_rules.specs.Body.{octetsAt}
 use Rattle.board_rules.specs.Remove.{removed}
 use Rattle.follow.specs.Story.{sets, clears, Story, did}
 use Rattle.follow.proofs.Begun.{pathIn}
-use Rattle.follow.proofs.Table.{Stands}
+use Rattle.follow.proofs.Table.{StandsFor}
 use Rattle.follow.proofs.Changed.{Fits, stands-changed}
 
 apart : (i j : ℕ) → (i ≡ j → ⊥) → (i < j) ⊎ (j < i)
@@ -30,7 +30,7 @@ apart i j d = ⊎-elim (λ l. inl (omega (arith, d))) (λ l. inr l) (from? i j)
 
 -- ---- a report
 
-module _ (b : Table) (st : List ℕ) (h : Story) (k : ℕ) (src : List ℕ) (pst : ℕ) (r : Stands b st h)
+module _ (b : Table) (st : List ℕ) (h : Story) (k : ℕ) (src : List ℕ) (pst : ℕ) (r : StandsFor b st h)
     (k-low : keyLeast ≤ k) (size-low : 0 < length src) (size-high : length src ≤ room) where
   module _ (i : ℕ) (l : i < places) (f : ℕ) where
     fits-in : room * i + length src ≤ length st
@@ -102,14 +102,14 @@ module _ (b : Table) (st : List ℕ) (h : Story) (k : ℕ) (src : List ℕ) (pst
   abbrev after : Table
   after = changed b (targetOf b k) (bearing b k (length src) pst) (floorAfter b k (targetOf b k))
 
-  pub stands-report : targetOf b k < places → Proper after → Stands after (placed st (room * targetOf b k) src) (did (sets k (record { form = pst; octets = src })) h)
+  pub stands-report : targetOf b k < places → Proper after → StandsFor after (placed st (room * targetOf b k) src) (did (sets k (record { form = pst; octets = src })) h)
   stands-report l p =
       stands-changed b st (placed st (room * targetOf b k) src) h (sets k (record { form = pst; octets = src })) (targetOf b k) (length src) pst (floorAfter b k (targetOf b k)) r
       (report-fits (targetOf b k) l p (report-place-is b k l))
 
 -- ---- a removal
 
-module _ (b : Table) (st : List ℕ) (h : Story) (k : ℕ) (r : Stands b st h) (y : KeyPlace b k (placeOf b k)) (k-low : keyLeast ≤ k) (p : Proper (removed b k)) where
+module _ (b : Table) (st : List ℕ) (h : Story) (k : ℕ) (r : StandsFor b st h) (y : KeyPlace b k (placeOf b k)) (k-low : keyLeast ≤ k) (p : Proper (removed b k)) where
   remove-fits : Fits b st st (clears k) (placeOf b k) 0 0 (b .floor)
   unfolding octetsAt removed
   remove-fits =
@@ -126,6 +126,6 @@ module _ (b : Table) (st : List ℕ) (h : Story) (k : ℕ) (r : Stands b st h) (
             rw (getD-set-other (b .lengths) (placeOf b k) j 0 0 (λ e. d (sym e)), getD-set-other (b .forms) (placeOf b k) j 0 0 (λ e. d (sym e)));
       }
 
-  pub stands-remove : Stands (removed b k) st (did (clears k) h)
+  pub stands-remove : StandsFor (removed b k) st (did (clears k) h)
   unfolding removed
   stands-remove = stands-changed b st st h (clears k) (placeOf b k) 0 0 (b .floor) r remove-fits

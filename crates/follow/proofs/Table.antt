@@ -25,7 +25,7 @@ use Rattle.follow.proofs.Cases.{some≢none}
 use Rattle.follow.proofs.Begun.{pathIn, path-mark, begun-zero, begun-here, begun-there, begun-ordered}
 
 -- A used place holds its key's last change. A key that was changed has a place, or its removal was dropped at or below the floor.
-pub record Stands (b : Table) (store : List ℕ) (h : Story) : Type 0 where
+pub record StandsFor (b : Table) (store : List ℕ) (h : Story) : Type 0 where
   pub proper : Proper b
   pub sized : ListsWhole b
   pub enough : storeSize ≤ length store
@@ -44,7 +44,7 @@ path-none b store i e = go (eqb (lengthAt b i) 0) refl e
 
 -- ---- the next change
 
-module _ (b : Table) (store : List ℕ) (h : Story) (s w : ℕ) (r : Stands b store h) where
+module _ (b : Table) (store : List ℕ) (h : Story) (s w : ℕ) (r : StandsFor b store h) where
   -- a place is wanted exactly if its key's last change is lacked
   wanted-lacks : (i : ℕ) → i < places → Wanted b s w i → Lacks h s w (keyAt b i)
   wanted-lacks i l (path p v) = let g = r .here i l (p .used) in
@@ -97,7 +97,7 @@ module _ (b : Table) (store : List ℕ) (h : Story) (s w : ℕ) (r : Stands b st
 
 -- ---- the start
 
-pub stands-begun : (b : Table) (store : List ℕ) (p : Proper b) → ListsWhole b → storeSize ≤ length store → Stands b store (begun (beginning b store))
+pub stands-begun : (b : Table) (store : List ℕ) (p : Proper b) → ListsWhole b → storeSize ≤ length store → StandsFor b store (begun (beginning b store))
 stands-begun b store p z g = record {
   proper = p;
   sized = z;

@@ -36,7 +36,7 @@ use Rattle.session.specs.Sessions.{sessionUnder}
 use Rattle.route.specs.Routes.{judgeOf}
 use Rattle.route_limit.specs.FirstOff.{sessionFor}
 use Rattle.route_call.specs.Called.{rule28}
-use Rattle.report_call.specs.Reported.{reportFor, reportStoreFor}
+use Rattle.board_report_call.specs.Reported.{reportFor, reportStoreFor}
 use Rattle.follow.specs.Story.{Deed, pathAt, sets, clears, Story, beginning, begun, did, compactedTo, version, keyOf, leaves, held, last}
 use Rattle.follow.specs.Ordered.{Ordered, beginningOf}
 use Rattle.follow.specs.Floor.{floorOf, floorPut}
@@ -47,7 +47,7 @@ use Rattle.follow.specs.Promise.{Answered, Ready, KeptBy, NoFollowerIsFo
 use Rattle.follow.proofs.Begun.{pathIn, begun-le, begun-none, begun-ordered}
 use Rattle.follow.proofs.Keeps.{has, keeps-fresh, keeps-change, keeps-compact, keeps-made, keeps-half, keeps-level}
 use Rattle.follow.proofs.Owed.{Owed, old, next, done, answered-of, answered-determined}
-use Rattle.follow.proofs.Table.{Stands, none-lacked, oldest-lacked, stands-begun}
+use Rattle.follow.proofs.Table.{StandsFor, none-lacked, oldest-lacked, stands-begun}
 use Rattle.follow.proofs.Steps.{stands-report, stands-remove}
 use Rattle.follow.proofs.Compacts.{stands-compact}
 use Rattle.follow.proofs.Floors.{floor-put}
@@ -56,7 +56,7 @@ use Rattle.follow.proofs.Floors.{floor-put}
 
 -- the table is in step with the story, and the board's floor is the story's
 pub record InStep (b : Table) (store : List ℕ) (h : Story) : Type 0 where
-  pub stands : Stands b store h
+  pub stands : StandsFor b store h
   pub floor-is : b .floor ≡ floorOf h
 
 abbrev pub Good : World → Type 0
@@ -182,16 +182,16 @@ good-under x k octets session pst g =
     })
 
 -- 28 leaves all as it was; else it is the report in the session of its form, under the limit for this route
-good-report : (x : World) (k : ℕ) (octets : List ℕ) (both : Sessions) (pst : ℕ) (addresses : List ℕ) → Good x → Good (step x (report k octets both pst addresses))
+good-report : (x : World) (k : ℕ) (octets : List ℕ) (sessions : Sessions) (pst : ℕ) (addresses : List ℕ) → Good x → Good (step x (report k octets sessions pst addresses))
 unfolding step reportFor reportStoreFor
-good-report x k octets both pst addresses g = go (rule28 addresses)
+good-report x k octets sessions pst addresses g = go (rule28 addresses)
   where
     go : (b : Bool)
-        → (let under = sessionFor octets true (sessionUnder both pst) addresses in
+        → (let under = sessionFor octets true (sessionUnder sessions pst) addresses in
         let a = cond b (outcomeOf (refusedBy notUsable 0) (x .table)) (reportAnswer (x .table) (x .store) k octets under pst) in
         InStep (a .table) (cond b (x .store) (reportStore (x .table) (x .store) k octets under pst)) (told (a .verdict) (did (sets k (reportedPath octets pst)) (x .story)) (x .story)))
     go true = g
-    go false = good-under x k octets (sessionFor octets true (sessionUnder both pst) addresses) pst g
+    go false = good-under x k octets (sessionFor octets true (sessionUnder sessions pst) addresses) pst g
 
 good-remove : (x : World) (k : ℕ) → Good x → Good (step x (remove k))
 unfolding step removeAnswer removed floorOf
@@ -219,11 +219,11 @@ good-compact x c g =
 
 good-step : (x : World) (a : Act) → Good x → Good (step x a)
 unfolding step
-good-step x (report k octets both pst addresses) g = good-report x k octets both pst addresses g
+good-step x (report k octets sessions pst addresses) g = good-report x k octets sessions pst addresses g
 good-step x (remove k) g = good-remove x k g
 good-step x (compact c) g = good-compact x c g
 good-step x (begin n) g = g
-good-step x (ask n both) g = g
+good-step x (ask n updates) g = g
 good-step x (askCut n) g = g
 
 pub good-run : (x : World) (acts : List Act) → Good x → Good (run x acts)
@@ -242,10 +242,10 @@ keeps-told : (v : Verdict) (more h : Story) (f : Follower) → (Keeps h f → Ke
 keeps-told v more h f s r = cases (λ (y : Story). Keeps y f) (eqb (v .number) 0) more h (λ t. s r) (λ t. r)
 
 -- a follower that hears what it must, and does what it does
-keeps-does : (h : Story) → Ordered (beginningOf h) → (f : Follower) (both : Bool) (a : Heard) → Keeps h f → Owed h f a → Keeps h (does f both a)
-keeps-does h i f both a r (old l e) = rw e r
-keeps-does h i f both a r (next l c v o q e) = rw (e, ← o .bears) (keeps-made h i f c r (o .lacked) (o .first) q)
-keeps-does h i f both a r (done l o q e) = rw e (cases (Keeps h) both (levels f (version h)) f (λ t. keeps-level h i f r o) (λ t. r))
+keeps-does : (h : Story) → Ordered (beginningOf h) → (f : Follower) (updates : Bool) (a : Heard) → Keeps h f → Owed h f a → Keeps h (does f updates a)
+keeps-does h i f updates a r (old l e) = rw e r
+keeps-does h i f updates a r (next l c v o q e) = rw (e, ← o .bears) (keeps-made h i f c r (o .lacked) (o .first) q)
+keeps-does h i f updates a r (done l o q e) = rw e (cases (Keeps h) updates (levels f (version h)) f (λ t. keeps-level h i f r o) (λ t. r))
 
 -- or is cut off
 keeps-cut : (h : Story) (f : Follower) (a : Heard) → Keeps h f → Owed h f a → Keeps h (cutOff f a)
@@ -258,16 +258,17 @@ keeps-following x n f r k m = cases (Keeps (x .story)) (eqb m n) f (x .followers
 
 keeps-step : (x : World) (a : Act) → Good x → AllKeep x → AllKeep (step x a)
 unfolding step
-keeps-step x (report k octets both pst addresses) g r n =
-    keeps-told (reportFor (x .table) (x .store) k octets both pst addresses .verdict) _ (x .story) (x .followers n) (keeps-change (sets k (reportedPath octets pst)) (x .story) (x .followers n)) (r n)
+keeps-step x (report k octets sessions pst addresses) g r n =
+    keeps-told (reportFor (x .table) (x .store) k octets sessions pst addresses .verdict) _ (x .story) (x .followers n)
+    (keeps-change (sets k (reportedPath octets pst)) (x .story) (x .followers n)) (r n)
 keeps-step x (remove k) g r n =
     keeps-told (removeAnswer (x .table) (x .store) k .verdict) _ (x .story) (x .followers n) (keeps-change (clears k) (x .story) (x .followers n)) (r n)
 keeps-step x (compact c) g r n =
     keeps-told (compactAnswer (x .table) (x .store) c .verdict) _ (x .story) (x .followers n) (keeps-compact c (x .story) (x .followers n)) (r n)
 keeps-step x (begin n) g r m = keeps-following x n (fresh (x .table)) r (keeps-fresh (x .story) (g .stands .ordered) (x .table) (g .stands .version-is)) m
-keeps-step x (ask n both) g r m =
-    keeps-following x n (does (x .followers n) both (answerTo x n)) r
-    (keeps-does (x .story) (g .stands .ordered) (x .followers n) both (answerTo x n) (r n) (owed x g n (r n))) m
+keeps-step x (ask n updates) g r m =
+    keeps-following x n (does (x .followers n) updates (answerTo x n)) r
+    (keeps-does (x .story) (g .stands .ordered) (x .followers n) updates (answerTo x n) (r n) (owed x g n (r n))) m
 keeps-step x (askCut n) g r m =
     keeps-following x n (cutOff (x .followers n) (answerTo x n)) r
     (keeps-cut (x .story) (x .followers n) (answerTo x n) (r n) (owed x g n (r n))) m

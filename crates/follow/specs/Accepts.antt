@@ -21,7 +21,7 @@ use Rattle.board_rules.specs.Rules.{inRange}
 use Rattle.board_rules.specs.Report.{bodyIn}
 use Rattle.board_rules.specs.Remove.{removeAnswer}
 use Rattle.board_rules.specs.Compact.{compactAnswer}
-use Rattle.report_call.specs.Reported.{reportFor}
+use Rattle.board_report_call.specs.Reported.{reportFor}
 use Rattle.follow.specs.Story.{Story, version, held}
 use Rattle.follow.specs.Floor.{isSome, keyEnd}
 use Rattle.follow.specs.Follower.{Follower}
@@ -38,8 +38,8 @@ allTaken h k = not (isSome (held h k)) && leb places (heldCount h)
 
 -- a report: 28, 18, the route checks, 19, 20, 21
 abbrev pub reportSaid : Story → ℕ → List ℕ → Sessions → ℕ → List ℕ → Verdict
-reportSaid h k octets both pst addresses =
-    let route = judgeOf octets true (sessionFor octets true (sessionUnder both pst) addresses) pst in
+reportSaid h k octets sessions pst addresses =
+    let route = judgeOf octets true (sessionFor octets true (sessionUnder sessions pst) addresses) pst in
     cond (rule28 addresses) (refusedBy notUsable 0)
     (cond (not (inRange k)) (refusedBy keyOutOfRange 0)
     (cond (not (eqb (route .number) 0)) route
@@ -62,8 +62,8 @@ compactSaid h c = cond (ltb (version h) c) (refusedBy markAhead 0) (acceptedWith
 
 -- After any acts of anyone; 17 never comes.
 pub record VerdictsOf (h : Story) (b : Table) (store : List ℕ) : Type 0 where
-  pub report : (k : ℕ) (octets : List ℕ) (both : Sessions) (pst : ℕ) (addresses : List ℕ) →
-      reportFor b store k octets both pst addresses .verdict ≡ reportSaid h k octets both pst addresses
+  pub report : (k : ℕ) (octets : List ℕ) (sessions : Sessions) (pst : ℕ) (addresses : List ℕ) →
+      reportFor b store k octets sessions pst addresses .verdict ≡ reportSaid h k octets sessions pst addresses
   pub remove : (k : ℕ) → removeAnswer b store k .verdict ≡ removeSaid h k
   pub compact : (c : ℕ) → compactAnswer b store c .verdict ≡ compactSaid h c
 

@@ -22,11 +22,11 @@ heardIn store (Path c o) = change (sets (c .key) (record { form = o .form; octet
 heardIn store (Removed c) = change (clears (c .key)) (c .version)
 heardIn store (Level v) = level v
 
--- A refused ask changes nothing. A change handed to it is made. Told that it is level, it sets both numbers, or does not (both).
+-- A refused ask changes nothing. A change handed to it is made. Told that it is level, it sets both numbers, or does not (updates).
 abbrev pub does : Follower → Bool → Heard → Follower
-does f both (refusal n) = f
-does f both (change c v) = makes f c v
-does f both (level v) = cond both (levels f v) f
+does f updates (refusal n) = f
+does f updates (change c v) = makes f c v
+does f updates (level v) = cond updates (levels f v) f
 
 -- Cut off after it has made the change and before it has kept its mark, it holds the change under the mark that it had.
 abbrev pub cutOff : Follower → Heard → Follower

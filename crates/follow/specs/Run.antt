@@ -11,7 +11,7 @@ use lib.Dec.{eqb}
 use Rattle.answers.specs.declared.verdict.Verdict.{Verdict}
 use Rattle.board_record.specs.Table.{Table}
 use Rattle.board_rules.specs.Report.{bodyIn}
-use Rattle.report_call.specs.Reported.{reportFor, reportStoreFor}
+use Rattle.board_report_call.specs.Reported.{reportFor, reportStoreFor}
 use Rattle.board_rules.specs.Remove.{removeAnswer}
 use Rattle.board_rules.specs.Compact.{compactAnswer}
 use Rattle.board_rules.specs.Next.{nextAnswer}
@@ -55,11 +55,11 @@ abbrev pub following : World → ℕ → Follower → World
 following x n f = record { table = x .table; store = x .store; story = x .story; followers = λ m. cond (eqb m n) f (x .followers m) }
 
 unfoldable pub step : World → Act → World
-step x (report k octets both pst addresses) =
-    let a = reportFor (x .table) (x .store) k octets both pst addresses in
+step x (report k octets sessions pst addresses) =
+    let a = reportFor (x .table) (x .store) k octets sessions pst addresses in
     record {
       table = a .table;
-      store = reportStoreFor (x .table) (x .store) k octets both pst addresses;
+      store = reportStoreFor (x .table) (x .store) k octets sessions pst addresses;
       story = told (a .verdict) (did (sets k (reportedPath octets pst)) (x .story)) (x .story);
       followers = x .followers;
     }
@@ -70,7 +70,7 @@ step x (compact c) =
     let a = compactAnswer (x .table) (x .store) c in
     record { table = a .table; store = x .store; story = told (a .verdict) (compactedTo c (x .story)) (x .story); followers = x .followers }
 step x (begin n) = following x n (fresh (x .table))
-step x (ask n both) = following x n (does (x .followers n) both (answerTo x n))
+step x (ask n updates) = following x n (does (x .followers n) updates (answerTo x n))
 step x (askCut n) = following x n (cutOff (x .followers n) (answerTo x n))
 
 unfoldable pub run : World → List Act → World

@@ -30,7 +30,7 @@ use Rattle.answers.specs.Verdicts.{refusedBy}
 use Rattle.answers.proofs.Kept.{kept-old, kept-new}
 use Rattle.route_limit.specs.FirstOff.{sessionFor}
 use Rattle.route_call.specs.Called.{rule28}
-use Rattle.report_call.specs.Reported.{reportFor, reportStoreFor, reportForOn, reportStoreForOn}
+use Rattle.board_report_call.specs.Reported.{reportFor, reportStoreFor, reportForOn, reportStoreForOn}
 use Rattle.board_rules.specs.Rules.{Outcome, outcomeOf}
 use Rattle.board_rules.specs.Report.{reportAnswer, reportStore}
 use Rattle.board_rules.specs.Remove.{removeAnswer}
@@ -84,22 +84,22 @@ module _ (t : Table) (p : Proper t) where
       let o = reportAnswer t store k octets session pst in reportOn (recordOf t) store k octets session pst ≡ resultOf (o .verdict) (recordOf (o .table))
   report-is store k octets session pst = result-is (reportAnswer t store k octets session pst) (report-refused-keeps t store k octets session pst)
 
-  pub report-for-is : (store : List ℕ) (k : ℕ) (octets : List ℕ) (both : Sessions) (pst : ℕ) (addresses : List ℕ) →
-      let o = reportFor t store k octets both pst addresses in reportForOn (recordOf t) store k octets both pst addresses ≡ resultOf (o .verdict) (recordOf (o .table))
+  pub report-for-is : (store : List ℕ) (k : ℕ) (octets : List ℕ) (sessions : Sessions) (pst : ℕ) (addresses : List ℕ) →
+      let o = reportFor t store k octets sessions pst addresses in reportForOn (recordOf t) store k octets sessions pst addresses ≡ resultOf (o .verdict) (recordOf (o .table))
   unfolding reportFor reportForOn
-  report-for-is store k octets both pst addresses = go (rule28 addresses)
+  report-for-is store k octets sessions pst addresses = go (rule28 addresses)
     where
       go : (b : Bool) →
-          let under = sessionFor octets true (sessionUnder both pst) addresses in
+          let under = sessionFor octets true (sessionUnder sessions pst) addresses in
           let o = cond b (outcomeOf (refusedBy notUsable 0) t) (reportAnswer t store k octets under pst) in
           cond b (resultOf (refusedBy notUsable 0) (recordOf t)) (reportOn (recordOf t) store k octets under pst) ≡ resultOf (o .verdict) (recordOf (o .table))
       go true = refl
-      go false = report-is store k octets (sessionFor octets true (sessionUnder both pst) addresses) pst
+      go false = report-is store k octets (sessionFor octets true (sessionUnder sessions pst) addresses) pst
 
-  pub store-for-is : (store : List ℕ) (k : ℕ) (octets : List ℕ) (both : Sessions) (pst : ℕ) (addresses : List ℕ)
-      → reportStoreForOn (recordOf t) store k octets both pst addresses ≡ reportStoreFor t store k octets both pst addresses
+  pub store-for-is : (store : List ℕ) (k : ℕ) (octets : List ℕ) (sessions : Sessions) (pst : ℕ) (addresses : List ℕ)
+      → reportStoreForOn (recordOf t) store k octets sessions pst addresses ≡ reportStoreFor t store k octets sessions pst addresses
   unfolding reportStoreOn reportStoreFor reportStoreForOn
-  store-for-is store k octets both pst addresses = rw sound
+  store-for-is store k octets sessions pst addresses = rw sound
 
   pub remove-is : (store : List ℕ) (k : ℕ) → let o = removeAnswer t store k in removeOn (recordOf t) store k ≡ resultOf (o .verdict) (recordOf (o .table))
   remove-is store k = result-is (removeAnswer t store k) (remove-refused-keeps t store k)
@@ -128,16 +128,17 @@ module _ (t : Table) (p : Proper t) where
   moved-is store from to v = rw sound
 
 -- ---- what a report leaves
-pub for-proper : (t : Table) → ListsWhole t → Proper t → (store : List ℕ) (k : ℕ) (octets : List ℕ) (both : Sessions) (pst : ℕ) (addresses : List ℕ) →
-    let o = reportFor t store k octets both pst addresses in ListsWhole (o .table) × Proper (o .table)
+pub for-proper : (t : Table) → ListsWhole t → Proper t → (store : List ℕ) (k : ℕ) (octets : List ℕ) (sessions : Sessions) (pst : ℕ) (addresses : List ℕ) →
+    let o = reportFor t store k octets sessions pst addresses in ListsWhole (o .table) × Proper (o .table)
 unfolding reportFor
-for-proper t s p store k octets both pst addresses = go (rule28 addresses)
+for-proper t s p store k octets sessions pst addresses = go (rule28 addresses)
   where
     go : (b : Bool) →
-        let o = cond b (outcomeOf (refusedBy notUsable 0) t) (reportAnswer t store k octets (sessionFor octets true (sessionUnder both pst) addresses) pst) in ListsWhole (o .table) × Proper (o .table)
+        let o = cond b (outcomeOf (refusedBy notUsable 0) t) (reportAnswer t store k octets (sessionFor octets true (sessionUnder sessions pst) addresses) pst) in
+        ListsWhole (o .table) × Proper (o .table)
     go true = (s, p)
     go false =
-        let under = sessionFor octets true (sessionUnder both pst) addresses in
+        let under = sessionFor octets true (sessionUnder sessions pst) addresses in
         (report-sized t store k octets under pst s, report-proper t store k octets under pst s p)
 
 -- ---- call for call
@@ -146,7 +147,7 @@ recorded x = record { board = recordOf (x .table); store = x .store }
 
 reply-same : (x : OnTable) → Proper (x .table) → (c : Call) → replyOn (recorded x) c ≡ replyOf x c
 unfolding replyOn replyOf
-reply-same x p (report k octets both pst addresses) = ap (λ (a : Result). verdict (a .verdict)) (report-for-is (x .table) p (x .store) k octets both pst addresses)
+reply-same x p (report k octets sessions pst addresses) = ap (λ (a : Result). verdict (a .verdict)) (report-for-is (x .table) p (x .store) k octets sessions pst addresses)
 reply-same x p (remove k) = ap (λ (a : Result). verdict (a .verdict)) (remove-is (x .table) p (x .store) k)
 reply-same x p (compact c) = ap (λ (a : Result). verdict (a .verdict)) (compact-is (x .table) p (x .store) c)
 reply-same x p (body k) = rw (number-is (x .table) p (x .store) k, form-is (x .table) p (x .store) k, body-is (x .table) p (x .store) k)
@@ -156,8 +157,8 @@ reply-same x p fresh = refl
 
 left-same : (x : OnTable) → Proper (x .table) → (c : Call) → leftOn (recorded x) c ≡ recorded (leftOf x c)
 unfolding leftOn leftOf
-left-same x p (report k octets both pst addresses) =
-    rw (report-for-is (x .table) p (x .store) k octets both pst addresses, store-for-is (x .table) p (x .store) k octets both pst addresses)
+left-same x p (report k octets sessions pst addresses) =
+    rw (report-for-is (x .table) p (x .store) k octets sessions pst addresses, store-for-is (x .table) p (x .store) k octets sessions pst addresses)
 left-same x p (remove k) = ap (λ (a : Result). record { board = a .board; store = x .store }) (remove-is (x .table) p (x .store) k)
 left-same x p (compact c) = ap (λ (a : Result). record { board = a .board; store = x .store }) (compact-is (x .table) p (x .store) c)
 left-same x p (body k) = refl
@@ -167,7 +168,7 @@ left-same x p fresh = refl
 
 left-proper : (x : OnTable) → ListsWhole (x .table) → Proper (x .table) → (c : Call) → ListsWhole (leftOf x c .table) × Proper (leftOf x c .table)
 unfolding leftOf
-left-proper x s p (report k octets both pst addresses) = for-proper (x .table) s p (x .store) k octets both pst addresses
+left-proper x s p (report k octets sessions pst addresses) = for-proper (x .table) s p (x .store) k octets sessions pst addresses
 left-proper x s p (remove k) = (remove-sized (x .table) (x .store) k s, remove-proper (x .table) (x .store) k s p)
 left-proper x s p (compact c) = (compact-sized (x .table) (x .store) c s, compact-proper (x .table) (x .store) c p)
 left-proper x s p (body k) = (s, p)

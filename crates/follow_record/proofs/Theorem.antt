@@ -45,8 +45,8 @@ answer-same x p n = ap (heardIn (x .store)) (next-is (x .table) p (x .store) (x 
 
 step-same : (x : World) → Proper (x .table) → (a : Act) → stepOn (recordedWorld x) a ≡ recordedWorld (step x a)
 unfolding stepOn step
-step-same x p (report k octets both pst addresses) =
-    rw (report-for-is (x .table) p (x .store) k octets both pst addresses, store-for-is (x .table) p (x .store) k octets both pst addresses)
+step-same x p (report k octets sessions pst addresses) =
+    rw (report-for-is (x .table) p (x .store) k octets sessions pst addresses, store-for-is (x .table) p (x .store) k octets sessions pst addresses)
 step-same x p (remove k) =
     ap (λ (a : Result). record { board = a .board; store = x .store; story = told (a .verdict) (did (clears k) (x .story)) (x .story); followers = x .followers })
     (remove-is (x .table) p (x .store) k)
@@ -54,16 +54,16 @@ step-same x p (compact c) =
     ap (λ (a : Result). record { board = a .board; store = x .store; story = told (a .verdict) (compactedTo c (x .story)) (x .story); followers = x .followers })
     (compact-is (x .table) p (x .store) c)
 step-same x p (begin n) = refl
-step-same x p (ask n both) = ap (λ (h : Heard). followingOn (recordedWorld x) n (does (x .followers n) both h)) (answer-same x p n)
+step-same x p (ask n updates) = ap (λ (h : Heard). followingOn (recordedWorld x) n (does (x .followers n) updates h)) (answer-same x p n)
 step-same x p (askCut n) = ap (λ (h : Heard). followingOn (recordedWorld x) n (cutOff (x .followers n) h)) (answer-same x p n)
 
 step-proper : (x : World) → ListsWhole (x .table) → Proper (x .table) → (a : Act) → ListsWhole (step x a .table) × Proper (step x a .table)
 unfolding step
-step-proper x s p (report k octets both pst addresses) = for-proper (x .table) s p (x .store) k octets both pst addresses
+step-proper x s p (report k octets sessions pst addresses) = for-proper (x .table) s p (x .store) k octets sessions pst addresses
 step-proper x s p (remove k) = (remove-sized (x .table) (x .store) k s, remove-proper (x .table) (x .store) k s p)
 step-proper x s p (compact c) = (compact-sized (x .table) (x .store) c s, compact-proper (x .table) (x .store) c p)
 step-proper x s p (begin n) = (s, p)
-step-proper x s p (ask n both) = (s, p)
+step-proper x s p (ask n updates) = (s, p)
 step-proper x s p (askCut n) = (s, p)
 
 pub run-same : (x : World) → ListsWhole (x .table) → Proper (x .table) → (acts : List Act) → runOn (recordedWorld x) acts ≡ recordedWorld (run x acts)
@@ -162,8 +162,8 @@ verdicts-of-a-record-are-the-storys b store followers r acts =
     let v = verdicts-are-the-storys (tableIn b) store followers (ready-table b store r) acts in
     subst (λ (z : WorldOn). VerdictsOfRecord (z .story) (z .board) (z .store)) (sym (same b store followers r acts))
     (record {
-      report = λ k octets both pst addresses.
-          ap (λ (a : Result). a .verdict) (report-for-is (x .table) p (x .store) k octets both pst addresses) ∙ v .report k octets both pst addresses;
+      report = λ k octets sessions pst addresses.
+          ap (λ (a : Result). a .verdict) (report-for-is (x .table) p (x .store) k octets sessions pst addresses) ∙ v .report k octets sessions pst addresses;
       remove = λ k. ap (λ (a : Result). a .verdict) (remove-is (x .table) p (x .store) k) ∙ v .remove k;
       compact = λ c. ap (λ (a : Result). a .verdict) (compact-is (x .table) p (x .store) c) ∙ v .compact c;
     })

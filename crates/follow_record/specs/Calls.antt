@@ -15,7 +15,7 @@ use Rattle.board_rules.specs.Compact.{compactAnswer}
 use Rattle.board_rules.specs.Body.{bodyNumber, bodyOf, bodyForm}
 use Rattle.board_rules.specs.Next.{nextAnswer, freshMark}
 use Rattle.board_rules.specs.Moved.{movedAnswer}
-use Rattle.report_call.specs.Reported.{reportFor, reportStoreFor, reportForOn, reportStoreForOn}
+use Rattle.board_report_call.specs.Reported.{reportFor, reportStoreFor, reportForOn, reportStoreForOn}
 use Rattle.board_rules.specs.OnRecord.{removeOn, compactOn, bodyNumberOn, bodyOn, bodyFormOn, nextOn, movedOn}
 
 -- report (key, ERO, the two sessions, PST, addresses), remove (key), compact (c), body (key), next (mark s, w), moved (keys a to b, version v), a fresh mark
@@ -41,7 +41,7 @@ pub record OnTable : Type 0 where
   pub store : List ℕ
 
 unfoldable pub replyOf : OnTable → Call → Reply
-replyOf x (report k octets both pst addresses) = verdict (reportFor (x .table) (x .store) k octets both pst addresses .verdict)
+replyOf x (report k octets sessions pst addresses) = verdict (reportFor (x .table) (x .store) k octets sessions pst addresses .verdict)
 replyOf x (remove k) = verdict (removeAnswer (x .table) (x .store) k .verdict)
 replyOf x (compact c) = verdict (compactAnswer (x .table) (x .store) c .verdict)
 replyOf x (body k) = given (bodyNumber (x .table) (x .store) k) (bodyForm (x .table) (x .store) k) (bodyOf (x .table) (x .store) k)
@@ -50,8 +50,8 @@ replyOf x (moved a b v) = verdict (movedAnswer (x .table) (x .store) a b v)
 replyOf x fresh = mark (freshMark (x .table))
 
 unfoldable pub leftOf : OnTable → Call → OnTable
-leftOf x (report k octets both pst addresses) =
-    record { table = reportFor (x .table) (x .store) k octets both pst addresses .table; store = reportStoreFor (x .table) (x .store) k octets both pst addresses }
+leftOf x (report k octets sessions pst addresses) =
+    record { table = reportFor (x .table) (x .store) k octets sessions pst addresses .table; store = reportStoreFor (x .table) (x .store) k octets sessions pst addresses }
 leftOf x (remove k) = record { table = removeAnswer (x .table) (x .store) k .table; store = x .store }
 leftOf x (compact c) = record { table = compactAnswer (x .table) (x .store) c .table; store = x .store }
 leftOf x (body k) = x
@@ -69,7 +69,7 @@ pub record OnRecord : Type 0 where
   pub store : List ℕ
 
 unfoldable pub replyOn : OnRecord → Call → Reply
-replyOn x (report k octets both pst addresses) = verdict (reportForOn (x .board) (x .store) k octets both pst addresses .verdict)
+replyOn x (report k octets sessions pst addresses) = verdict (reportForOn (x .board) (x .store) k octets sessions pst addresses .verdict)
 replyOn x (remove k) = verdict (removeOn (x .board) (x .store) k .verdict)
 replyOn x (compact c) = verdict (compactOn (x .board) (x .store) c .verdict)
 replyOn x (body k) = given (bodyNumberOn (x .board) (x .store) k) (bodyFormOn (x .board) (x .store) k) (bodyOn (x .board) (x .store) k)
@@ -78,8 +78,8 @@ replyOn x (moved a b v) = verdict (movedOn (x .board) (x .store) a b v)
 replyOn x fresh = mark (freshMark (tableIn (x .board)))
 
 unfoldable pub leftOn : OnRecord → Call → OnRecord
-leftOn x (report k octets both pst addresses) =
-    record { board = reportForOn (x .board) (x .store) k octets both pst addresses .board; store = reportStoreForOn (x .board) (x .store) k octets both pst addresses }
+leftOn x (report k octets sessions pst addresses) =
+    record { board = reportForOn (x .board) (x .store) k octets sessions pst addresses .board; store = reportStoreForOn (x .board) (x .store) k octets sessions pst addresses }
 leftOn x (remove k) = record { board = removeOn (x .board) (x .store) k .board; store = x .store }
 leftOn x (compact c) = record { board = compactOn (x .board) (x .store) c .board; store = x .store }
 leftOn x (body k) = x

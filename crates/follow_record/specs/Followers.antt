@@ -13,7 +13,7 @@ use Rattle.board_record.specs.Sizes.{places, groups}
 use Rattle.board_record.specs.Table.{ListsWhole}
 use Rattle.board_record.specs.Record.{tableIn, emptyBoard}
 use Rattle.board_rules.specs.OnRecord.{isRecord, removeOn, compactOn, bodyNumberOn, bodyOn, bodyFormOn, nextOn}
-use Rattle.report_call.specs.Reported.{reportForOn, reportStoreForOn}
+use Rattle.board_report_call.specs.Reported.{reportForOn, reportStoreForOn}
 use Rattle.follow.specs.Story.{sets, clears, Story, beginning, begun, did, compactedTo, version}
 use Rattle.follow.specs.Follower.{Follower, fresh}
 use Rattle.follow.specs.Heard.{Heard, heardIn, does, cutOff}
@@ -36,11 +36,11 @@ abbrev pub followingOn : WorldOn → ℕ → Follower → WorldOn
 followingOn x n f = record { board = x .board; store = x .store; story = x .story; followers = λ m. cond (eqb m n) f (x .followers m) }
 
 unfoldable pub stepOn : WorldOn → Act → WorldOn
-stepOn x (report k octets both pst addresses) =
-    let a = reportForOn (x .board) (x .store) k octets both pst addresses in
+stepOn x (report k octets sessions pst addresses) =
+    let a = reportForOn (x .board) (x .store) k octets sessions pst addresses in
     record {
       board = a .board;
-      store = reportStoreForOn (x .board) (x .store) k octets both pst addresses;
+      store = reportStoreForOn (x .board) (x .store) k octets sessions pst addresses;
       story = told (a .verdict) (did (sets k (reportedPath octets pst)) (x .story)) (x .story);
       followers = x .followers;
     }
@@ -51,7 +51,7 @@ stepOn x (compact c) =
     let a = compactOn (x .board) (x .store) c in
     record { board = a .board; store = x .store; story = told (a .verdict) (compactedTo c (x .story)) (x .story); followers = x .followers }
 stepOn x (begin n) = followingOn x n (fresh (tableIn (x .board)))
-stepOn x (ask n both) = followingOn x n (does (x .followers n) both (answerToOn x n))
+stepOn x (ask n updates) = followingOn x n (does (x .followers n) updates (answerToOn x n))
 stepOn x (askCut n) = followingOn x n (cutOff (x .followers n) (answerToOn x n))
 
 unfoldable pub runOn : WorldOn → List Act → WorldOn
@@ -85,8 +85,8 @@ BodiesOfARecordAreThoseHeld = (b : Board) (store : List ℕ) (followers : ℕ �
 
 -- report, remove and compact are accepted and refused as the story says
 pub record VerdictsOfRecord (h : Story) (b : Board) (store : List ℕ) : Type 0 where
-  pub report : (k : ℕ) (octets : List ℕ) (both : Sessions) (pst : ℕ) (addresses : List ℕ) →
-      reportForOn b store k octets both pst addresses .verdict ≡ reportSaid h k octets both pst addresses
+  pub report : (k : ℕ) (octets : List ℕ) (sessions : Sessions) (pst : ℕ) (addresses : List ℕ) →
+      reportForOn b store k octets sessions pst addresses .verdict ≡ reportSaid h k octets sessions pst addresses
   pub remove : (k : ℕ) → removeOn b store k .verdict ≡ removeSaid h k
   pub compact : (c : ℕ) → compactOn b store c .verdict ≡ compactSaid h c
 

@@ -22,7 +22,7 @@ use Rattle.head_end.specs.Addresses.{usableList}
 use Rattle.route_limit.specs.FirstOff.{underLimit, sessionFor}
 use Rattle.route_limit.proofs.Laws.{no-address}
 use Rattle.route_call.specs.Called.{rule28}
-use Rattle.report_call.specs.Reported.{reportFor, reportStoreFor}
+use Rattle.board_report_call.specs.Reported.{reportFor, reportStoreFor}
 use Rattle.board_record.specs.Sizes.{bodyLeast}
 use Rattle.board_record.specs.Table.{Table, tableOf, emptyTable, removalB}
 use Rattle.board_record.specs.Search.{firstWhere, leastWhere, placeIn, oldestOf, targetOf, floorAfter, wantedB, nextOf}
@@ -50,7 +50,7 @@ use Rattle.follow_worked.specs.Example.{
   objectB,
   agreed,
   mplsAgreed,
-  both,
+  sessions,
   keyA,
   keyB,
   calls,
@@ -89,11 +89,11 @@ store2 = firstBody ++ (replicate 360 0 ++ (secondBody ++ replicate 48760 0))
 -- ---- what each call answers
 
 -- neither flag is agreed, and no address given
-own-limitA : sessionFor objectA true (sessionUnder both srv6Setup) [] ≡ agreed
+own-limitA : sessionFor objectA true (sessionUnder sessions srv6Setup) [] ≡ agreed
 unfolding sessionFor sessionUnder
 own-limitA = ap (underLimit agreed) (no-address objectA true agreed [] refl)
 
-own-limitB : sessionFor objectB true (sessionUnder both mplsSetup) [] ≡ mplsAgreed
+own-limitB : sessionFor objectB true (sessionUnder sessions mplsSetup) [] ≡ mplsAgreed
 unfolding sessionFor sessionUnder
 own-limitB = ap (underLimit mplsAgreed) (no-address objectB true mplsAgreed [] refl)
 
@@ -149,11 +149,11 @@ at3 = record { table = table3; store = store2; story = did (clears keyA) (at2 .s
 abbrev at4 : World
 at4 = record { table = table4; store = store2; story = compactedTo 3 (at3 .story); followers = dawn .followers }
 
-step1 : step dawn (report keyA objectA both srv6Setup []) ≡ at1
+step1 : step dawn (report keyA objectA sessions srv6Setup []) ≡ at1
 unfolding step reportFor reportStoreFor rule28 usableList reportAnswer reportStore
 step1 = rw (own-limitA, judgedA, report1, stored1)
 
-step2 : step at1 (report keyB objectB both mplsSetup []) ≡ at2
+step2 : step at1 (report keyB objectB sessions mplsSetup []) ≡ at2
 unfolding step reportFor reportStoreFor rule28 usableList reportAnswer reportStore
 step2 = rw (own-limitB, judgedB, report2, stored2)
 

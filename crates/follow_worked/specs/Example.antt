@@ -52,8 +52,8 @@ agreed = record { agreed = true; n = false; limit = Most 4; a = false; r = false
 abbrev pub mplsAgreed : Session
 mplsAgreed = record { agreed = true; n = false; limit = Most 2; a = false; r = false; v = absent; m = absent }
 
-abbrev pub both : Sessions
-both = record { srv6 = agreed; mpls = mplsAgreed }
+abbrev pub sessions : Sessions
+sessions = record { srv6 = agreed; mpls = mplsAgreed }
 
 -- keys A and B
 abbrev pub keyA : ℕ
@@ -63,7 +63,7 @@ abbrev pub keyB : ℕ
 keyB = 9
 
 abbrev pub calls : List Act
-calls = report keyA objectA both srv6Setup [] ∷ report keyB objectB both mplsSetup [] ∷ remove keyA ∷ []
+calls = report keyA objectA sessions srv6Setup [] ∷ report keyB objectB sessions mplsSetup [] ∷ remove keyA ∷ []
 
 -- the empty table with a store of 49,152 octets, every follower fresh
 abbrev pub dawn : World

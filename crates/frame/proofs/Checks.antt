@@ -26,8 +26,8 @@ abbrev pub None : List Check → Type 0
 None cs = NoneOf (λ c. c .broken) cs
 
 -- Every check of the list has a number.
-abbrev pub Numbered : List Check → Type 0
-Numbered cs = EachOf (λ c. 0 < c .number) cs
+abbrev pub AllNumbered : List Check → Type 0
+AllNumbered cs = EachOf (λ c. 0 < c .number) cs
 
 pub none-first : (cs : List Check) (after : Verdict) → None cs → firstBroken cs after ≡ after
 none-first cs after h = none-first-of (λ (c : Check). c .broken) (λ (c : Check). refusedBy (c .number) (c .place)) cs after h
@@ -38,15 +38,15 @@ none-append xs ys h k = each-append (λ (c : Check). c .broken ≡ false) xs ys 
 pub none-split : (xs ys : List Check) → None (xs ++ ys) → None xs × None ys
 none-split xs ys h = each-split (λ (c : Check). c .broken ≡ false) xs ys h
 
-pub numbered-append : (xs ys : List Check) → Numbered xs → Numbered ys → Numbered (xs ++ ys)
+pub numbered-append : (xs ys : List Check) → AllNumbered xs → AllNumbered ys → AllNumbered (xs ++ ys)
 numbered-append xs ys h k = each-append (λ (c : Check). 0 < c .number) xs ys h k
 
 -- An answer without a number: no check was broken.
-pub first-none : (cs : List Check) (after : Verdict) → Numbered cs → firstBroken cs after .number ≡ 0 → None cs
+pub first-none : (cs : List Check) (after : Verdict) → AllNumbered cs → firstBroken cs after .number ≡ 0 → None cs
 first-none cs after h e =
     first-of-none (λ (c : Check). c .broken) (λ (c : Check). refusedBy (c .number) (c .place)) (λ (v : Verdict). v .number ≡ 0) cs after (each cs h) e
   where
-    each : (cs : List Check) → Numbered cs → EachOf (λ (c : Check). c .number ≡ 0 → ⊥) cs
+    each : (cs : List Check) → AllNumbered cs → EachOf (λ (c : Check). c .number ≡ 0 → ⊥) cs
     each [] h = tt
     each (c ∷ cs) h = ((λ z. omega (arith, h .0)), each cs (h .1))
 
@@ -134,7 +134,7 @@ pub record ByFirst (v : Verdict) (cs : List Check) (after : Verdict) : Type 0 wh
   pub accepted : v .number ≡ 0 → None cs
   pub unbroken : None cs → v ≡ after
 
-pub by-first : (v : Verdict) (cs : List Check) (after : Verdict) → Numbered cs → after .number ≡ 0 → v ≡ firstBroken cs after → ByFirst v cs after
+pub by-first : (v : Verdict) (cs : List Check) (after : Verdict) → AllNumbered cs → after .number ≡ 0 → v ≡ firstBroken cs after → ByFirst v cs after
 by-first v cs after ns z e =
     record {
       refused = λ n p l q. answer-first cs after n p (λ y. omega (arith, l, z, y)) (sym e ∙ q);

@@ -21,12 +21,12 @@ use Rattle.frame.specs.Gathered.{noFacts, seenOf, factsIn, factsOf}
 -- the header ---------------------------------------------------------------------------------------------------
 
 -- What a sound header says of the octets' number.
-pub record Sized (s : List ℕ) : Type 0 where
+pub record SoundLength (s : List ℕ) : Type 0 where
   pub low : header ≤ length s
   pub four : length s % unit ≡ 0
   pub read : be16 s lengthPlace ≡ length s
 
-pub headed-sized : (ero : Bool) (s : List ℕ) → headed s ero ≡ true → Sized s
+pub headed-sized : (ero : Bool) (s : List ℕ) → headed s ero ≡ true → SoundLength s
 unfolding headed
 headed-sized ero s e =
     let a = both-true (not (ltb (length s) header)) _ e in

@@ -170,8 +170,8 @@ left-255 = refl
 
 -- Any two answers that fit the contract of a call are equal -------------------------------------------------------
 
-pub one_more-determined : (limit : Limit) (v m : ℕ) {x y : Limit} → x ≡ oneMoreBy limit (depthIn v) (depthIn m) → y ≡ oneMoreBy limit (depthIn v) (depthIn m) → x ≡ y
-one_more-determined limit v m = determined
+pub one-more-determined : (limit : Limit) (v m : ℕ) {x y : Limit} → x ≡ oneMoreBy limit (depthIn v) (depthIn m) → y ≡ oneMoreBy limit (depthIn v) (depthIn m) → x ≡ y
+one-more-determined limit v m = determined
 
 pub limit-determined : (v m : ℕ) {x y : Limit} → x ≡ limitBy (depthIn v) (depthIn m) → y ≡ limitBy (depthIn v) (depthIn m) → x ≡ y
 limit-determined v m = determined

@@ -10,8 +10,8 @@ use Rattle.octets.specs.Octets.{part}
 use Rattle.octets.proofs.Laws.{rest-lent}
 use Rattle.objects.specs.Objects.{mplsSetup, srv6Setup}
 use Rattle.answers.specs.Numbers.{openMalformed, capabilityMissing, wrongMsd, notUsable}
-use Rattle.flag_positions.specs.declared.Setup.{Setup}
-use Rattle.flag_positions.specs.Positions.{usableSetup}
+use Rattle.flag_positions.specs.declared.Positions.{Positions}
+use Rattle.flag_positions.specs.Positions.{usablePositions}
 use Rattle.session.specs.declared.Opened.{Opened}
 use Rattle.session.specs.Sessions.{noForm, openRefused, withoutSrv6}
 use Rattle.tlvs.specs.Tlvs.{tlvsWhole, firstTlv, notThere}
@@ -66,7 +66,7 @@ abbrev three : Bool → Bool → Bool → ℕ → List Rule
 three a b c form = rule openMalformed form a ∷ rule capabilityMissing form b ∷ rule wrongMsd form c ∷ []
 
 -- A half is the first broken one of its three rules, or what it carries.
-srv6-half : (p : Setup) (v sub : Option (List ℕ))
+srv6-half : (p : Positions) (v sub : Option (List ℕ))
     → srv6By p v sub
     ≡ (let l = listedIn v srv6Setup in firstRule (three (l && not (sizedIn sub)) (l && notThere sub) (l && wrongSub sub) srv6Setup) (cond l (saidBy p sub) withoutSrv6))
 unfolding announcedOf
@@ -150,12 +150,12 @@ module _ (sub : Option (List ℕ)) (o : Opened) (accepted : o .number ≡ 0) whe
       go true none = refl
       go true (some w) = rw accepted
 
-pub said-zero : (p : Setup) (l : Bool) (sub : Option (List ℕ)) → cond l (saidBy p sub) withoutSrv6 .number ≡ 0
+pub said-zero : (p : Positions) (l : Bool) (sub : Option (List ℕ)) → cond l (saidBy p sub) withoutSrv6 .number ≡ 0
 said-zero p true none = refl
 said-zero p true (some w) = refl
 said-zero p false sub = refl
 
-pub halves : (p : Setup) (v mpls srv6 : Option (List ℕ))
+pub halves : (p : Positions) (v mpls srv6 : Option (List ℕ))
     → joinedOf (mplsBy v mpls) (srv6By p v srv6)
     ≡ (let m = listedIn v mplsSetup in
     let l = listedIn v srv6Setup in
@@ -174,12 +174,12 @@ abbrev pub withBeside : Opened → Sight → Opened
 withBeside o torn = openRefused openMalformed noForm
 withBeside o (seen again mpls) = joinedOf (mplsAnnouncedBy mpls) o
 
-abbrev pub answerBy : Setup → Sight → Sight → Opened
+abbrev pub answerBy : Positions → Sight → Sight → Opened
 answerBy p torn beside = openRefused openMalformed noForm
 answerBy p (seen list srv6) beside = cond (listedIn list mplsSetup) (withBeside (srv6By p list srv6) beside) (srv6By p list srv6)
 
 -- Of MPLS nothing is joined where setup type 1 is not listed.
-joined-listed : (p : Setup) (v mpls srv6 : Option (List ℕ))
+joined-listed : (p : Positions) (v mpls srv6 : Option (List ℕ))
     → cond (listedIn v mplsSetup) (joinedOf (mplsAnnouncedBy mpls) (srv6By p v srv6)) (srv6By p v srv6) ≡ joinedOf (mplsBy v mpls) (srv6By p v srv6)
 joined-listed p v mpls srv6 = go (listedIn v mplsSetup)
   where
@@ -188,16 +188,16 @@ joined-listed p v mpls srv6 = go (listedIn v mplsSetup)
     go false = refl
 
 -- Positions of no use go before everything else.
-pub unusable : (p : Setup) (s : List ℕ) → usableSetup p ≡ false → openRefused notUsable noForm ≡ openOf p s
+pub unusable : (p : Positions) (s : List ℕ) → usablePositions p ≡ false → openRefused notUsable noForm ≡ openOf p s
 unfolding openOf breaks28
 unusable p s u = rw u
 
-pub unframed : (p : Setup) (s : List ℕ) → usableSetup p ≡ true → framed s ≡ false → openRefused openMalformed noForm ≡ openOf p s
+pub unframed : (p : Positions) (s : List ℕ) → usablePositions p ≡ true → framed s ≡ false → openRefused openMalformed noForm ≡ openOf p s
 unfolding openOf breaks28 breaks1
 unframed p s u e = rw (u, e)
 
 -- The walks of the code and the rules of the paper give the same answer.
-module _ (p : Setup) (s : List ℕ) (u : usableSetup p ≡ true) (e : framed s ≡ true) where
+module _ (p : Positions) (s : List ℕ) (u : usablePositions p ≡ true) (e : framed s ≡ true) where
   pub answered : answerBy p (openWalk (drop tlvsAt s) false srv6Capability) (openWalk (drop tlvsAt s) false mplsCapability) ≡ openOf p s
   unfolding openWalk openOf breaks28 breaks1 breaks1Mpls breaks1Srv6 breaks2Mpls breaks2Srv6 breaks3Mpls breaks3Srv6 fitting holding mplsListed listed mplsOf srv6Of setupOf carriesOf srv6Carried
   answered = fit (tlvsWhole (openTlvs s)) (firstTlv (openTlvs s) pathSetup) refl refl

@@ -15,7 +15,7 @@ use Rattle.objects.specs.Objects.{mplsSetup, srv6Setup}
 use Rattle.answers.specs.Numbers.{openMalformed, capabilityMissing, wrongMsd, notUsable}
 use Rattle.answers.proofs.First.{EachOf, NoneOf, none-first-of, first-of-none, first-of-keeps}
 use Rattle.answers.proofs.Determined.{determined}
-use Rattle.flag_positions.specs.declared.Setup.{Setup}
+use Rattle.flag_positions.specs.declared.Positions.{Positions}
 use Rattle.session.specs.declared.Limit.the-variants.{Free}
 use Rattle.session.specs.declared.Opened.{Opened}
 use Rattle.session.specs.Sessions.{noForm, openRefused, withoutSrv6}
@@ -154,7 +154,7 @@ beside-limit false sub o = refl
 beside-limit true none o = refl
 beside-limit true (some w) o = refl
 
-module _ (p : Setup) (s : List ℕ) where
+module _ (p : Positions) (s : List ℕ) where
   is-first : openOf p s ≡ firstRule (openRules p s) (carriesOf p s)
   unfolding openOf
   is-first = refl
@@ -362,5 +362,5 @@ module _ (p : Setup) (s : List ℕ) where
       beside true (some w) x e = e
 
   -- Any two answers that fit the contract of `read_open` are equal.
-  pub read_open-determined : (x y : Opened) → x ≡ openOf p s → y ≡ openOf p s → x ≡ y
-  read_open-determined x y = determined
+  pub read-open-determined : (x y : Opened) → x ≡ openOf p s → y ≡ openOf p s → x ≡ y
+  read-open-determined x y = determined

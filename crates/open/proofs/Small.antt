@@ -79,21 +79,21 @@ module _ (s : List ℕ) (h : (i : ℕ) → getD s i 0 < 256) where
 -- smallest values ------------------------------------------------------------------------------------------------
 
 -- A smallest value that is there is an octet.
-abbrev Small : Option ℕ → Type 0
-Small none = Unit {0}
-Small (some v) = v < 256
+abbrev OctetIfThere : Option ℕ → Type 0
+OctetIfThere none = Unit {0}
+OctetIfThere (some v) = v < 256
 
-pub small-smallest : (kind : ℕ) (w : List ℕ) → ((i : ℕ) → getD w i 0 < 256) → Small (smallestOf (pairsIn w) kind)
+pub small-smallest : (kind : ℕ) (w : List ℕ) → ((i : ℕ) → getD w i 0 < 256) → OctetIfThere (smallestOf (pairsIn w) kind)
 small-smallest kind [] h = tt
 small-smallest kind (a ∷ []) h = tt
 small-smallest kind (a ∷ b ∷ rest) h = go (eqb a kind) (smallestOf (pairsIn rest) kind) (small-smallest kind rest (λ i. h (suc (suc i))))
   where
-    go : (x : Bool) (d : Option ℕ) → Small d → Small (cond x (smaller b d) d)
+    go : (x : Bool) (d : Option ℕ) → OctetIfThere d → OctetIfThere (cond x (smaller b d) d)
     go true none k = h 1
     go true (some m) k = let l = h 1 in omega (arith, l, k)
     go false d k = k
 
 -- The number of an octet, or of none, stands for it.
-pub depth-back : (d : Option ℕ) → Small d → depthIn (depthNumber d) ≡ d
+pub depth-back : (d : Option ℕ) → OctetIfThere d → depthIn (depthNumber d) ≡ d
 depth-back none h = depth-none absent (omega arith)
 depth-back (some v) h = depth-octet v h

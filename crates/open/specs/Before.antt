@@ -3,7 +3,7 @@ use Prim.Native.Nat.{ℕ}
 use mathlib.Core.List.{List}
 use mathlib.Core.Bool.{Bool, false, cond, not, _&&_, _||_}
 use Rattle.answers.specs.Numbers.{openMalformed, capabilityMissing, wrongMsd, notUsable}
-use Rattle.flag_positions.specs.declared.Setup.{Setup}
+use Rattle.flag_positions.specs.declared.Positions.{Positions}
 use Rattle.session.specs.declared.Limit.the-variants.{Free}
 use Rattle.session.specs.declared.Opened.{Opened}
 use Rattle.session.specs.Sessions.{noForm, openRefused}
@@ -36,7 +36,7 @@ abbrev pub breaks1Before : List ℕ → Bool
 breaks1Before s = not (framed s && (fitting s && (holding s && subSized s)))
 
 -- 28 "before all others". "Order: 1, 2, 3. Otherwise accepted."
-abbrev pub openBefore : Setup → List ℕ → Opened
+abbrev pub openBefore : Positions → List ℕ → Opened
 openBefore p s =
     cond (breaks28 p) (openRefused notUsable noForm)
     (cond (breaks1Before s) (openRefused openMalformed noForm)

@@ -7,8 +7,8 @@ use lib.ListN.{drop}
 use Rattle.objects.specs.Objects.{mplsSetup, srv6Setup}
 use Rattle.answers.specs.Numbers.{openMalformed, capabilityMissing, wrongMsd, notUsable}
 use Rattle.answers.specs.First.{firstOf}
-use Rattle.flag_positions.specs.declared.Setup.{Setup}
-use Rattle.flag_positions.specs.Positions.{usableSetup}
+use Rattle.flag_positions.specs.declared.Positions.{Positions}
+use Rattle.flag_positions.specs.Positions.{usablePositions}
 use Rattle.session.specs.declared.Opened.{Opened}
 use Rattle.session.specs.Sessions.{noForm, openRefused, withoutSrv6}
 use Rattle.tlvs.specs.Tlvs.{Tlvs, tlvsOf, tlvsWhole, firstTlv, notThere}
@@ -47,8 +47,8 @@ listed s = listedIn (setupOf s) srv6Setup
 -- rule 28 ------------------------------------------------------------------------------------------------------
 
 -- "28 unusable bit positions .., before all others" (document 02, C-15).
-unfoldable pub breaks28 : Setup → Bool
-breaks28 p = not (usableSetup p)
+unfoldable pub breaks28 : Positions → Bool
+breaks28 p = not (usablePositions p)
 
 -- rule 1 -------------------------------------------------------------------------------------------------------
 
@@ -116,12 +116,12 @@ breaks3Srv6 s = listed s && wrongSub (srv6Of s)
 
 -- the answer ---------------------------------------------------------------------------------------------------
 
-abbrev pub saidBy : Setup → Option (List ℕ) → Opened
+abbrev pub saidBy : Positions → Option (List ℕ) → Opened
 saidBy p none = withoutSrv6
 saidBy p (some w) = carriesBy p w
 
 -- SRv6 is carried where type 3 is listed, as sub-TLV 27 says.
-unfoldable pub srv6Carried : Setup → List ℕ → Opened
+unfoldable pub srv6Carried : Positions → List ℕ → Opened
 srv6Carried p s = cond (listed s) (saidBy p (srv6Of s)) withoutSrv6
 
 abbrev pub besideBy : Opened → Option (List ℕ) → Bool → Opened
@@ -130,7 +130,7 @@ besideBy o none true = o
 besideBy o (some w) true = mplsBeside o w
 
 -- MPLS is carried beside it where type 1 is listed, as sub-TLV 26 says.
-unfoldable pub carriesOf : Setup → List ℕ → Opened
+unfoldable pub carriesOf : Positions → List ℕ → Opened
 carriesOf p s = besideBy (srv6Carried p s) (mplsOf s) (mplsListed s)
 
 -- A rule: the number that it refuses by, the form at fault, and whether it is broken.
@@ -147,7 +147,7 @@ abbrev pub firstRule : List Rule → Opened → Opened
 firstRule rs o = firstOf (λ r. r .broken) (λ r. openRefused (r .number) (r .form)) rs o
 
 -- 28 "before all others". "Order: 1, 2, 3.", and of each 26's "tested before 27's".
-abbrev pub openRules : Setup → List ℕ → List Rule
+abbrev pub openRules : Positions → List ℕ → List Rule
 openRules p s =
     rule notUsable noForm (breaks28 p)
     ∷ rule openMalformed noForm (breaks1 s)
@@ -160,5 +160,5 @@ openRules p s =
     ∷ []
 
 -- "Otherwise accepted."
-unfoldable pub openOf : Setup → List ℕ → Opened
+unfoldable pub openOf : Positions → List ℕ → Opened
 openOf p s = firstRule (openRules p s) (carriesOf p s)

@@ -12,7 +12,7 @@ use answers::NOT_USABLE;
 use answers::OPEN_MALFORMED;
 use capability::SRV6_CAPABILITY;
 use capability_mpls::MPLS_CAPABILITY;
-use flag_positions::Setup;
+use flag_positions::Positions;
 use open_carried::MPLS;
 use open_carried::joined;
 use open_carried::listed;
@@ -25,7 +25,7 @@ use session::Opened;
 
 // The answer to an OPEN object, with A and R at two positions: what it carries, or 28, 1, 2 or 3 with the form at fault. Sub-TLV 26 is looked for,
 // in a walk of its own, only where setup type 1 is listed.
-pub fn read_open(p: Setup, s: &[u8]) -> Opened
+pub fn read_open(p: Positions, s: &[u8]) -> Opened
     ensures read { λ r. ⌜ r ≡ openOf p (now (s .entry)) ⌝ }
 {
     if !flag_positions::usable(p) {

@@ -7,7 +7,7 @@ use mathlib.Core.Option.{Option, none, some}
 use lib.Dec.{eqb, ltb}
 use Rattle.objects.specs.Objects.{mplsSetup, srv6Setup}
 use Rattle.answers.specs.Numbers.{capabilityMissing}
-use Rattle.flag_positions.specs.declared.Setup.{Setup}
+use Rattle.flag_positions.specs.declared.Positions.{Positions}
 use Rattle.session.specs.declared.Opened.{Opened}
 use Rattle.session.specs.Sessions.{openRefused, withoutSrv6, withMpls}
 use Rattle.setup_types.specs.SetupTypes.{listedIn}
@@ -15,11 +15,11 @@ use Rattle.capability_mpls.specs.Mpls.{mplsAnnouncedOf}
 use Rattle.capability.specs.Srv6.{announcedOf}
 
 -- SRv6's half, of the values of TLV 34 and of sub-TLV 27.
-abbrev pub announcedBy : Setup → Option (List ℕ) → Opened
+abbrev pub announcedBy : Positions → Option (List ℕ) → Opened
 announcedBy p none = openRefused capabilityMissing srv6Setup
 announcedBy p (some w) = announcedOf p w
 
-abbrev pub srv6By : Setup → Option (List ℕ) → Option (List ℕ) → Opened
+abbrev pub srv6By : Positions → Option (List ℕ) → Option (List ℕ) → Opened
 srv6By p v sub = cond (listedIn v srv6Setup) (announcedBy p sub) withoutSrv6
 
 -- MPLS's half, of the values of TLV 34 and of sub-TLV 26.

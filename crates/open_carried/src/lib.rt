@@ -9,7 +9,7 @@ ghost use Rattle.open_carried.specs.Carried.{mplsAnnouncedBy, srv6By, jo
 use answers::CAPABILITY_MISSING;
 use capability::SRV6_FORM;
 use capability_mpls::MPLS_FORM;
-use flag_positions::Setup;
+use flag_positions::Positions;
 use objects::MPLS_SETUP;
 use objects::SRV6_SETUP;
 use session::Opened;
@@ -48,7 +48,7 @@ pub fn mpls_by(s: &[u8], sub: Span) -> Opened
 }
 
 // What the values found carry of SRv6: nothing unless setup type 3 is listed.
-pub fn srv6_by(p: Setup, s: &[u8], list: Span, sub: Span) -> Opened
+pub fn srv6_by(p: Positions, s: &[u8], list: Span, sub: Span) -> Opened
     requires { ⌜ Listed (now s) list × Inside sub (length (now s)) ⌝ }
     ensures carried { λ r. ⌜ r ≡ srv6By p (valueAt (now (s .entry)) list) (valueAt (now (s .entry)) sub) ⌝ }
 {

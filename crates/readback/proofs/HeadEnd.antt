@@ -20,14 +20,14 @@ use Rattle.readback.specs.Runs.{writeRun, Accepted, objectIn, AllTyped, 
 use Rattle.readback.proofs.Theorems as inner
 
 module _ (ero : Bool) (pst : ℕ) (gs : List Segment) (b : List ℕ) (w : Writer) (typed : AllTyped gs) (accepted : Accepted (writeRun b w gs ero pst)) (addresses : List ℕ)
-    (usable : rule28 addresses ≡ false) (both : Sessions) (agreed : sessionUnder both (formOf pst .setup) ≡ openSession) where
-  pub read-back : judgedFor (objectIn (writeRun b w gs ero pst)) ero both (formOf pst .setup) addresses ≡ acceptedWith (length gs)
+    (usable : rule28 addresses ≡ false) (sessions : Sessions) (agreed : sessionUnder sessions (formOf pst .setup) ≡ openSession) where
+  pub read-back : judgedFor (objectIn (writeRun b w gs ero pst)) ero sessions (formOf pst .setup) addresses ≡ acceptedWith (length gs)
   read-back =
       ap (λ (x : Session). judgedIn (objectIn (writeRun b w gs ero pst)) ero x (formOf pst .setup) addresses) agreed
       ∙ neither-agreed (objectIn (writeRun b w gs ero pst)) ero openSession (formOf pst .setup) addresses usable refl refl
       ∙ inner.read-back ero pst gs b w typed accepted
 
-  pub segments-back : (i : ℕ) → i < length gs → segmentFor (objectIn (writeRun b w gs ero pst)) ero both (formOf pst .setup) addresses i
+  pub segments-back : (i : ℕ) → i < length gs → segmentFor (objectIn (writeRun b w gs ero pst)) ero sessions (formOf pst .setup) addresses i
       ≡ record { verdict = acceptedWith (length gs); segment = getD gs i noSegment; strays = noStrays }
   segments-back i h =
       ap (λ (x : Session). segmentIn (objectIn (writeRun b w gs ero pst)) ero x (formOf pst .setup) addresses i) agreed

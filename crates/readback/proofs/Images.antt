@@ -18,7 +18,7 @@ use Rattle.writer_layout.proofs.Forms.{readable-by}
 use Rattle.writer_state.specs.declared.Writer.{Writer}
 use Rattle.writer_state.specs.declared.Written.{Written}
 use Rattle.writer_rules.specs.Refusals.{mostOctets, addNumber, finishNumber}
-use Rattle.writer_rules.proofs.Laws.{Fit, Proper, Taken, taken, Done, done}
+use Rattle.writer_rules.proofs.Laws.{Fit, PlaceFine, Taken, taken, Done, done}
 use Rattle.writer_state.specs.Answers.{answered, refusedAs, acceptedAs}
 use Rattle.writer_begin_finish.specs.Ends.{headerOf, beginNumber, beginAnswer, beginBuffer, finishAnswer, finishBuffer}
 use Rattle.writer.specs.Writing.{addAnswerIn, addBufferIn, addAnswer, addBuffer}

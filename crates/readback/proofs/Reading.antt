@@ -56,7 +56,7 @@ use Rattle.readback.specs.Ignored.{ignoredAt, ignoredIn, ignoredOf}
 use Rattle.readback.proofs.Parts.{zeros-append, zeros-cons}
 use Rattle.readback.proofs.Images.AllFit.{also}
 use Rattle.readback.proofs.Images.{AllFit, Image, image, length-object}
-use Rattle.readback.proofs.Stands.{Stands, stands-octet, stands-first}
+use Rattle.readback.proofs.Stands.{StandsAt, stands-octet, stands-first}
 use Rattle.readback.proofs.Segments.{Plain, plain, there, stands-four, stands-sid, stands-bits, head-back, segment-back, strays-back, ignored-back}
 
 -- the octets of a segment --------------------------------------------------------------------------------------
@@ -86,7 +86,7 @@ abbrev placesFrom : Form → ℕ → List Segment → List ℕ
 placesFrom form at [] = []
 placesFrom form at (g ∷ gs) = at ∷ placesFrom form (at + length (subobjectOf form g)) gs
 
-next-stands : (form : Form) (p : List ℕ) (g : Segment) (gs : List Segment) → Stands (p ++ (subobjectOf form g ++ writtenBody form gs)) (length p) (subobjectOf form g)
+next-stands : (form : Form) (p : List ℕ) (g : Segment) (gs : List Segment) → StandsAt (p ++ (subobjectOf form g ++ writtenBody form gs)) (length p) (subobjectOf form g)
 next-stands form p g gs = record { before = p; behind = writtenBody form gs; whole = refl; place = refl }
 
 size-at : {form : Form} → Sized form → Readable form → (p : List ℕ) (g : Segment) (gs : List Segment) → Typed g
@@ -144,7 +144,7 @@ unfolding hasLabel
 label-sid form h e = ap (λ (b : Bool). cond {A = ℕ} b (form .sid) 0) (both-true (eqb (h .s) 0) (eqb (h .m) 1) e .0)
 
 -- The first octets of a SID that stands.
-module _ {s : List ℕ} {at : ℕ} (x : List ℕ) (n : ℕ) (t : Stands s at (take n x)) (l : length (take n x) ≡ n) (long : 4 ≤ n) where
+module _ {s : List ℕ} {at : ℕ} (x : List ℕ) (n : ℕ) (t : StandsAt s at (take n x)) (l : length (take n x) ≡ n) (long : 4 ≤ n) where
   first-octet : octetOf s at ≡ octetOf x 0
   unfolding octetOf
   first-octet = stands-first (take n x) t (omega arith) ∙ getD-take n x 0 0 (omega arith)
@@ -175,7 +175,7 @@ pub bits-off : (h : Head) (sum : ℕ) → hasStructure h ≡ false → rule11 h 
 unfolding rule11
 bits-off h sum e = rw e
 
-pub sum-back : {s : List ℕ} {at : ℕ} (x : List ℕ) → Stands s at x → length x ≡ 4 → sumAt s at ≡ sumAt x 0
+pub sum-back : {s : List ℕ} {at : ℕ} (x : List ℕ) → StandsAt s at x → length x ≡ 4 → sumAt s at ≡ sumAt x 0
 unfolding sumAt octetOf
 sum-back {s} {at} x t l =
     let e0 = stands-first x t (omega arith) in
@@ -184,14 +184,14 @@ sum-back {s} {at} x t l =
     let e3 = stands-octet x t 3 (omega arith) in
     rw (e0, e1, e2, e3)
 
-module _ {form : Form} (z : Sized form) (r : Readable form) {s : List ℕ} {at : ℕ} (g : Segment) (t : Stands s at (subobjectOf form g)) (h : Typed g) where
+module _ {form : Form} (z : Sized form) (r : Readable form) {s : List ℕ} {at : ℕ} (g : Segment) (t : StandsAt s at (subobjectOf form g)) (h : Typed g) where
   bits-back : (g .structured && not (g .hassid)) ≡ false → rule11 (headOfSegment form g) (bitsOf g) ≡ false → (b : Bool) → g .structured ≡ b
       → rule11 (headOfSegment form g) (bitsAt form (headOfSegment form g) s at) ≡ false
   unfolding bitsOf headOfSegment
   bits-back n e true q = rw (sum-back (g .structure) (stands-bits z r g t h q n) (h .structure)) e
   bits-back n e false q = bits-off (headOfSegment form g) (bitsAt form (headOfSegment form g) s at) (there form g n ∙ q)
 
-  sid-stands : hasLabel (headOfSegment form g) ≡ true → Stands s (at + form .fixed) (take (form .sid) (g .sid))
+  sid-stands : hasLabel (headOfSegment form g) ≡ true → StandsAt s (at + form .fixed) (take (form .sid) (g .sid))
   sid-stands e = rw (label-sid form (headOfSegment form g) e) at (stands-sid z r g t)
 
   sid-long : length (take (form .sid) (g .sid)) ≡ form .sid

@@ -31,7 +31,7 @@ use Rattle.writer_rules.specs.Refusals.{foreign, unfit}
 use Rattle.writer_rules.proofs.Checks.{seven-written}
 use Rattle.readback.specs.Ignored.{unassignedAt, assignedAt, endingAt, ignoredAt}
 use Rattle.readback.proofs.Parts.{zeros-append, zeros-cons}
-use Rattle.readback.proofs.Stands.{Stands, stands-octet, stands-first, stands-left, stands-right, stands-part, padded-back}
+use Rattle.readback.proofs.Stands.{StandsAt, stands-octet, stands-first, stands-left, stands-right, stands-part, padded-back}
 
 -- what a fit segment keeps to ----------------------------------------------------------------------------------
 
@@ -188,33 +188,33 @@ any-both : (x y : List ℕ) → anySet x ≡ false → anySet y ≡ false → an
 any-both [] y e f = f
 any-both (a ∷ x) y e f = let p = either-false (not (eqb a 0)) (anySet x) e in rw (p .0) (any-both x y (p .1) f)
 
-module _ {form : Form} (z : Sized form) (r : Readable form) {s : List ℕ} {at : ℕ} (g : Segment) (t : Stands s at (subobjectOf form g)) where
-  stands-fixed : Stands s at (fixedPart form g)
+module _ {form : Form} (z : Sized form) (r : Readable form) {s : List ℕ} {at : ℕ} (g : Segment) (t : StandsAt s at (subobjectOf form g)) where
+  stands-fixed : StandsAt s at (fixedPart form g)
   unfolding subobjectOf
   stands-fixed = stands-left (fixedPart form g) _ t
 
-  pub stands-four : Stands s at (firstPart form g)
+  pub stands-four : StandsAt s at (firstPart form g)
   unfolding fixedOctets headOfSegment
   stands-four = stands-left (firstPart form g) (secondPart (form .behaves) (g .behaviour)) stands-fixed
 
-  stands-second : Stands s (at + 4) (secondPart (form .behaves) (g .behaviour))
+  stands-second : StandsAt s (at + 4) (secondPart (form .behaves) (g .behaviour))
   unfolding fixedOctets headOfSegment
   stands-second = stands-right (firstPart form g) (secondPart (form .behaves) (g .behaviour)) stands-fixed
 
-  stands-parts : Stands s (at + form .fixed) (sidPart form g ++ (naiPart form g ++ lastPart form g))
+  stands-parts : StandsAt s (at + form .fixed) (sidPart form g ++ (naiPart form g ++ lastPart form g))
   unfolding subobjectOf
   stands-parts = rw (length-fixed z (headOfSegment form g) (g .behaviour)) at (stands-right (fixedPart form g) _ t)
 
-  pub stands-sid : Stands s (at + form .fixed) (sidPart form g)
+  pub stands-sid : StandsAt s (at + form .fixed) (sidPart form g)
   stands-sid = stands-left (sidPart form g) _ stands-parts
 
-  stands-behind : Typed g → Stands s (at + form .fixed + sidLength form (headOfSegment form g .s)) (naiPart form g ++ lastPart form g)
+  stands-behind : Typed g → StandsAt s (at + form .fixed + sidLength form (headOfSegment form g .s)) (naiPart form g ++ lastPart form g)
   stands-behind h = rw (length-sid z g h) at (stands-right (sidPart form g) _ stands-parts)
 
-  pub stands-nai : Typed g → Stands s (at + form .fixed + sidLength form (headOfSegment form g .s)) (naiPart form g)
+  pub stands-nai : Typed g → StandsAt s (at + form .fixed + sidLength form (headOfSegment form g .s)) (naiPart form g)
   stands-nai h = stands-left (naiPart form g) _ (stands-behind h)
 
-  pub stands-last : Typed g → Stands s (at + form .fixed + sidLength form (headOfSegment form g .s) + naiLength form (g .nt)) (lastPart form g)
+  pub stands-last : Typed g → StandsAt s (at + form .fixed + sidLength form (headOfSegment form g .s) + naiLength form (g .nt)) (lastPart form g)
   stands-last h = rw (length-nai z g h) at (stands-right (naiPart form g) _ (stands-behind h))
 
   -- reading ------------------------------------------------------------------------------------------------------
@@ -229,7 +229,7 @@ module _ {form : Form} (z : Sized form) (r : Readable form) {s : List ℕ} {at :
         stands-octet (firstPart form g) stands-four 3 (omega arith),
       ) (head-made r ero g p)
 
-  behaviour-by : Typed g → (b : Bool) → Stands s (at + 4) (secondPart b (g .behaviour)) → (not b && not (eqb (g .behaviour) 0)) ≡ false
+  behaviour-by : Typed g → (b : Bool) → StandsAt s (at + 4) (secondPart b (g .behaviour)) → (not b && not (eqb (g .behaviour) 0)) ≡ false
       → cond b (be16 s (at + 6)) 0 ≡ g .behaviour
   unfolding be16 octetOf
   behaviour-by h true u e =
@@ -261,14 +261,14 @@ module _ {form : Form} (z : Sized form) (r : Readable form) {s : List ℕ} {at :
 
   -- The four bit lengths stand where a structure is looked for.
   stands-structure : Typed g → g .structured ≡ true → (g .structured && not (g .hassid)) ≡ false
-      → Stands s (at + form .fixed + form .sid + naiLength form (g .nt)) (structureOctets (g .structure))
+      → StandsAt s (at + form .fixed + form .sid + naiLength form (g .nt)) (structureOctets (g .structure))
   stands-structure h e n =
       let l : lastPart form g ≡ structureOctets (g .structure) = ap (λ (b : Bool). cond b (structureOctets (g .structure)) []) (there form g n ∙ e) in
       let k = full-sid form g (sided g e n) in
       rw (l, k) at (stands-last h)
 
   pub stands-bits : Typed g → g .structured ≡ true → (g .structured && not (g .hassid)) ≡ false
-      → Stands s (at + form .fixed + form .sid + naiLength form (g .nt)) (g .structure)
+      → StandsAt s (at + form .fixed + form .sid + naiLength form (g .nt)) (g .structure)
   stands-bits h e n =
       let t4 : take 4 (g .structure) ≡ g .structure = take-all 4 (g .structure) (omega (arith, h .structure)) in
       rw t4 at (stands-left (take 4 (g .structure)) _ (stands-structure h e n))
@@ -335,7 +335,7 @@ module _ {form : Form} (z : Sized form) (r : Readable form) {s : List ℕ} {at :
       let n : g .nt * 16 % 16 ≡ 0 = omega arith in
       rw (add-assoc at 2 1, e2, e3) (q ∙ rw (n, a .none) (omega arith))
 
-  fixed-clean : (b : Bool) → Stands s (at + 4) (secondPart b (g .behaviour)) → anySet (cond b (octetOf s (at + 4) ∷ octetOf s (at + 4 + 1) ∷ []) []) ≡ false
+  fixed-clean : (b : Bool) → StandsAt s (at + 4) (secondPart b (g .behaviour)) → anySet (cond b (octetOf s (at + 4) ∷ octetOf s (at + 4 + 1) ∷ []) []) ≡ false
   fixed-clean true u =
       let x : List ℕ = 0 ∷ 0 ∷ hi (g .behaviour) ∷ lo (g .behaviour) ∷ [] in
       rw (stands-first x u (omega arith), stands-octet x u 1 (omega arith))
@@ -343,12 +343,12 @@ module _ {form : Form} (z : Sized form) (r : Readable form) {s : List ℕ} {at :
 
   -- The last four octets of the structure stand behind the bit lengths.
   stands-spare : Typed g → g .structured ≡ true → (g .structured && not (g .hassid)) ≡ false
-      → Stands s (at + form .fixed + form .sid + naiLength form (g .nt) + 4) (0 ∷ 0 ∷ 0 ∷ 0 ∷ [])
+      → StandsAt s (at + form .fixed + form .sid + naiLength form (g .nt) + 4) (0 ∷ 0 ∷ 0 ∷ 0 ∷ [])
   stands-spare h e n =
       let f : length (take 4 (g .structure)) ≡ 4 = length-take-le 4 (g .structure) (omega (arith, h .structure)) in
       rw f at (stands-right (take 4 (g .structure)) _ (stands-structure h e n))
 
-  reserved-clean : (b : Bool) (p : ℕ) → (b ≡ true → Stands s p (0 ∷ 0 ∷ 0 ∷ 0 ∷ []))
+  reserved-clean : (b : Bool) (p : ℕ) → (b ≡ true → StandsAt s p (0 ∷ 0 ∷ 0 ∷ 0 ∷ []))
       → (anySet (cond b (octetOf s p ∷ octetOf s (p + 1) ∷ octetOf s (p + 2) ∷ []) []) ≡ false) × (cond b (octetOf s (p + 3)) 0 ≡ 0)
   reserved-clean true p u =
       let t = u refl in
@@ -384,7 +384,7 @@ module _ {form : Form} (z : Sized form) (r : Readable form) {s : List ℕ} {at :
   unfolding headOfSegment flagsOctet
   flags-octet = stands-octet (firstPart form g) stands-four 3 (omega arith)
 
-  second-zero : (b : Bool) → Stands s (at + 4) (secondPart b (g .behaviour)) → zeros (cond b (octetOf s (at + 4) ∷ octetOf s (at + 5) ∷ []) []) ≡ true
+  second-zero : (b : Bool) → StandsAt s (at + 4) (secondPart b (g .behaviour)) → zeros (cond b (octetOf s (at + 4) ∷ octetOf s (at + 5) ∷ []) []) ≡ true
   second-zero true u =
       let x : List ℕ = 0 ∷ 0 ∷ hi (g .behaviour) ∷ lo (g .behaviour) ∷ [] in
       let e5 : octetOf s (at + 5) ≡ 0 = ap (octetOf s) (sym (add-assoc at 4 1)) ∙ stands-octet x u 1 (omega arith) in

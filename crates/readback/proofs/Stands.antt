@@ -14,31 +14,31 @@ use Rattle.octets.proofs.Said.{both-true}
 use Rattle.writer_spare.specs.Spare.{zeros}
 
 -- x stands in s at a place.
-pub record Stands (s : List ℕ) (at : ℕ) (x : List ℕ) : Type 0 where
+pub record StandsAt (s : List ℕ) (at : ℕ) (x : List ℕ) : Type 0 where
   pub before : List ℕ
   pub behind : List ℕ
   pub whole : s ≡ before ++ (x ++ behind)
   pub place : at ≡ length before
 
 module _ {s : List ℕ} {at : ℕ} where
-  pub stands-octet : (x : List ℕ) → Stands s at x → (i : ℕ) → i < length x → octetOf s (at + i) ≡ getD x i 0
+  pub stands-octet : (x : List ℕ) → StandsAt s at x → (i : ℕ) → i < length x → octetOf s (at + i) ≡ getD x i 0
   unfolding octetOf
   stands-octet x t i h =
       rw (t .whole, t .place) (getD-append-add (t .before) (x ++ t .behind) i 0 ∙ List·getD-append x (t .behind) 0 i h)
 
-  pub stands-first : (x : List ℕ) → Stands s at x → 0 < length x → octetOf s at ≡ getD x 0 0
+  pub stands-first : (x : List ℕ) → StandsAt s at x → 0 < length x → octetOf s at ≡ getD x 0 0
   stands-first x t h = ap (octetOf s) (sym (add-zero at)) ∙ stands-octet x t 0 h
 
-  pub stands-left : (x y : List ℕ) → Stands s at (x ++ y) → Stands s at x
+  pub stands-left : (x y : List ℕ) → StandsAt s at (x ++ y) → StandsAt s at x
   stands-left x y t =
       record { before = t .before; behind = y ++ t .behind; whole = t .whole ∙ rw (append-assoc x y (t .behind)); place = t .place }
 
-  pub stands-right : (x y : List ℕ) → Stands s at (x ++ y) → Stands s (at + length x) y
+  pub stands-right : (x y : List ℕ) → StandsAt s at (x ++ y) → StandsAt s (at + length x) y
   stands-right x y t =
       record { before = t .before ++ x; behind = t .behind; whole = t .whole ∙ simp append-assoc; place = rw (length-append, t .place) }
 
   -- What stands at a place is the part there.
-  pub stands-part : (x : List ℕ) → Stands s at x → part s at (length x) ≡ x
+  pub stands-part : (x : List ℕ) → StandsAt s at x → part s at (length x) ≡ x
   unfolding part
   stands-part x t = rw (t .whole, t .place, drop-at (t .before) (x ++ t .behind) (length (t .before)) refl) (take-at x (t .behind) (length x) refl)
 

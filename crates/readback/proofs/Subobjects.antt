@@ -33,7 +33,7 @@ use Rattle.writer_rules.specs.Refusals.{foreign, unfit}
 use Rattle.writer_rules.proofs.Checks.{seven-written}
 use Rattle.writer_rules.proofs.Laws.{Fit, size-subobject}
 use Rattle.readback.specs.Ignored.{EachOctet, unassignedAt, assignedAt, endingAt, ignoredAt}
-use Rattle.readback.proofs.Stands.{Stands, zeros-are}
+use Rattle.readback.proofs.Stands.{StandsAt, zeros-are}
 use Rattle.readback.proofs.Segments.{secondPart}
 use Rattle.readback.proofs.Reading.{bits-off, sum-back, label-part, time-part, label-off, time-off, label-sid}
 use Rattle.readback.proofs.Parts.{part-add, length-partOf, take-partOf, drop-partOf, append-same, octet-small, zeros-replicate, zeros-append, zeros-split, zeros-cons, zeros-uncons}
@@ -137,7 +137,7 @@ never-both true false = refl
 never-both false b = refl
 
 -- What stands at a place is a part of the string.
-pub part-stands : (s : List ℕ) (at n : ℕ) → at + n ≤ length s → Stands s at (part s at n)
+pub part-stands : (s : List ℕ) (at n : ℕ) → at + n ≤ length s → StandsAt s at (part s at n)
 unfolding part
 part-stands s at n h =
     record {

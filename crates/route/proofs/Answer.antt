@@ -34,8 +34,8 @@ use Rattle.subobject.proofs.Laws.{sound-length, sound-least}
 use Rattle.frame.specs.Checks.{Check, check, firstBroken}
 use Rattle.frame.specs.Frames.{headed, fitsIn, Apart, ended, unfilled, from, apart, apartOf, placesOf, rule4, rule5, frameChecks}
 use Rattle.frame.specs.Gathered.{frameOf}
-use Rattle.frame.proofs.Checks.{first-append, None, Numbered, none-first, none-append, none-split, numbered-append, first-none, first-some}
-use Rattle.frame.proofs.Laws.{Sized, headed-sized, fits-true}
+use Rattle.frame.proofs.Checks.{first-append, None, AllNumbered, none-first, none-append, none-split, numbered-append, first-none, first-some}
+use Rattle.frame.proofs.Laws.{SoundLength, headed-sized, fits-true}
 use Rattle.route.specs.declared.picking.Picked.{Picked}
 use Rattle.route_walk.specs.Walk.{checksAt, subobjectChecks}
 use Rattle.route_walk.proofs.Laws.{head-size}

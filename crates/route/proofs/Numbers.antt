@@ -16,20 +16,20 @@ use Rattle.route_walk.specs.Walk.{subobjectChecks}
 use Rattle.route.specs.Routes.{lastChecks, checksOf, countOf, acceptanceOf, judgeAs}
 
 -- A number that neither 28's call nor a board answers on its own.
-abbrev pub Apart : ℕ → Type 0
-Apart n = (n < noSuchSegment) ⊎ (notUsable < n)
+abbrev pub OtherNumber : ℕ → Type 0
+OtherNumber n = (n < noSuchSegment) ⊎ (notUsable < n)
 
 abbrev Low : List Check → Type 0
-Low cs = EachOf (λ c. Apart (c .number)) cs
+Low cs = EachOf (λ c. OtherNumber (c .number)) cs
 
 low-append : (xs ys : List Check) → Low xs → Low ys → Low (xs ++ ys)
-low-append xs ys p q = each-append (λ (c : Check). Apart (c .number)) xs ys p q
+low-append xs ys p q = each-append (λ (c : Check). OtherNumber (c .number)) xs ys p q
 
-low-first : (cs : List Check) (after : Verdict) → Low cs → Apart (after .number) → Apart (firstBroken cs after .number)
+low-first : (cs : List Check) (after : Verdict) → Low cs → OtherNumber (after .number) → OtherNumber (firstBroken cs after .number)
 low-first [] after p h = h
 low-first (c ∷ cs) after p h = go (c .broken) (low-first cs after (p .1) h)
   where
-    go : (x : Bool) → Apart (firstBroken cs after .number) → Apart (cond x (refusedBy (c .number) (c .place)) (firstBroken cs after) .number)
+    go : (x : Bool) → OtherNumber (firstBroken cs after .number) → OtherNumber (cond x (refusedBy (c .number) (c .place)) (firstBroken cs after) .number)
     go true q = p .0
     go false q = q
 
@@ -56,6 +56,6 @@ low-all form s ero session pst =
     (low-subobjects form s ero (session .n) (placesOf s)) (inl (omega arith), tt) in
     (inl (omega arith), (inl (omega arith), (inl (omega arith), (inl (omega arith), (inl (omega arith), rest)))))
 
-pub judge-low : (form : Form) (s : List ℕ) (ero : Bool) (session : Session) (pst : ℕ) → Apart (judgeAs form s ero session pst .number)
+pub judge-low : (form : Form) (s : List ℕ) (ero : Bool) (session : Session) (pst : ℕ) → OtherNumber (judgeAs form s ero session pst .number)
 unfolding judgeAs
 judge-low form s ero session pst = low-first (checksOf form s ero session pst) (acceptanceOf form s ero) (low-all form s ero session pst) (inl (omega arith))

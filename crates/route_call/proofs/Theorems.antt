@@ -227,9 +227,9 @@ mpls-own-limit s ero pcc pce addresses e = go (mplsAgreedBy pcc pce)
     go false = neither-agreed s ero notAgreedOn mplsSetup addresses e refl refl
 
 -- Of any two answers that fit, both are the same.
-pub judge-determined : (s : List ℕ) (ero : Bool) (both : Sessions) (pst : ℕ) (addresses : List ℕ) {x y : Verdict}
-    → x ≡ judgedFor s ero both pst addresses → y ≡ judgedFor s ero both pst addresses → x ≡ y
-judge-determined s ero both pst addresses = determined
+pub judge-determined : (s : List ℕ) (ero : Bool) (sessions : Sessions) (pst : ℕ) (addresses : List ℕ) {x y : Verdict}
+    → x ≡ judgedFor s ero sessions pst addresses → y ≡ judgedFor s ero sessions pst addresses → x ≡ y
+judge-determined s ero sessions pst addresses = determined
 
 pub judge-in-determined : (s : List ℕ) (ero : Bool) (own : Session) (pst : ℕ) (addresses : List ℕ) {x y : Verdict}
     → x ≡ judgedIn s ero own pst addresses → y ≡ judgedIn s ero own pst addresses → x ≡ y
@@ -239,9 +239,9 @@ pub judge-plain-determined : (s : List ℕ) (ero agreed n has : Bool) (most pst 
     → x ≡ judgedIn s ero (sessionBy agreed n has most) pst addresses → y ≡ judgedIn s ero (sessionBy agreed n has most) pst addresses → x ≡ y
 judge-plain-determined s ero agreed n has most pst addresses = determined
 
-pub segment-determined : (s : List ℕ) (ero : Bool) (both : Sessions) (pst : ℕ) (addresses : List ℕ) (i : ℕ) {x y : Picked}
-    → x ≡ segmentFor s ero both pst addresses i → y ≡ segmentFor s ero both pst addresses i → x ≡ y
-segment-determined s ero both pst addresses i = determined
+pub segment-determined : (s : List ℕ) (ero : Bool) (sessions : Sessions) (pst : ℕ) (addresses : List ℕ) (i : ℕ) {x y : Picked}
+    → x ≡ segmentFor s ero sessions pst addresses i → y ≡ segmentFor s ero sessions pst addresses i → x ≡ y
+segment-determined s ero sessions pst addresses i = determined
 
 pub segment-in-determined : (s : List ℕ) (ero : Bool) (own : Session) (pst : ℕ) (addresses : List ℕ) (i : ℕ) {x y : Picked}
     → x ≡ segmentIn s ero own pst addresses i → y ≡ segmentIn s ero own pst addresses i → x ≡ y

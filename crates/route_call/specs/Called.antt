@@ -33,10 +33,10 @@ segmentIn s ero session pst addresses i =
 
 -- The session is that of the form which the PST names (document 02, C-16).
 abbrev pub judgedFor : List ℕ → Bool → Sessions → ℕ → List ℕ → Verdict
-judgedFor s ero both pst addresses = judgedIn s ero (sessionUnder both pst) pst addresses
+judgedFor s ero sessions pst addresses = judgedIn s ero (sessionUnder sessions pst) pst addresses
 
 abbrev pub segmentFor : List ℕ → Bool → Sessions → ℕ → List ℕ → ℕ → Picked
-segmentFor s ero both pst addresses i = segmentIn s ero (sessionUnder both pst) pst addresses i
+segmentFor s ero sessions pst addresses i = segmentIn s ero (sessionUnder sessions pst) pst addresses i
 
 -- words of the theorems ----------------------------------------------------------------------------------------
 

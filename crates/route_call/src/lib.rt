@@ -45,10 +45,10 @@ pub fn judge_plain(
 }
 
 // The same, under the sessions of both forms.
-pub fn judge(s: &[u8], ero: bool, both: Sessions, pst: u64, addresses: &[u8]) -> Verdict
-    ensures judged { λ r. ⌜ r ≡ judgedFor (now (s .entry)) ero both pst (now (addresses .entry)) ⌝ }
+pub fn judge(s: &[u8], ero: bool, sessions: Sessions, pst: u64, addresses: &[u8]) -> Verdict
+    ensures judged { λ r. ⌜ r ≡ judgedFor (now (s .entry)) ero sessions pst (now (addresses .entry)) ⌝ }
 {
-    judge_in(s, ero, session::under(both, pst), pst, addresses)
+    judge_in(s, ero, session::under(sessions, pst), pst, addresses)
 }
 
 // Segment i, from 0, of a route in the session of the form that the setup type names.
@@ -67,8 +67,15 @@ pub fn segment_in(s: &[u8], ero: bool, own: Session, pst: u64, addresses: &[u8],
 }
 
 // The same, under the sessions of both forms.
-pub fn segment(s: &[u8], ero: bool, both: Sessions, pst: u64, addresses: &[u8], i: u64) -> Picked
-    ensures picked { λ r. ⌜ r ≡ segmentFor (now (s .entry)) ero both pst (now (addresses .entry)) i ⌝ }
+pub fn segment(
+    s: &[u8],
+    ero: bool,
+    sessions: Sessions,
+    pst: u64,
+    addresses: &[u8],
+    i: u64,
+) -> Picked
+    ensures picked { λ r. ⌜ r ≡ segmentFor (now (s .entry)) ero sessions pst (now (addresses .entry)) i ⌝ }
 {
-    segment_in(s, ero, session::under(both, pst), pst, addresses, i)
+    segment_in(s, ero, session::under(sessions, pst), pst, addresses, i)
 }

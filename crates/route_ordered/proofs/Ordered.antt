@@ -19,7 +19,7 @@ use Rattle.octets.proofs.Said.{both-true}
 use Rattle.frame.specs.Checks.{check, firstBroken}
 use Rattle.frame.specs.Frames.{headed, apartOf, placesOf, rule4, frameChecks}
 use Rattle.frame.specs.Gathered.{frameOf}
-use Rattle.frame.proofs.Checks.{first-append, None, Numbered, none-first, numbered-append, first-none, first-some}
+use Rattle.frame.proofs.Checks.{first-append, None, AllNumbered, none-first, numbered-append, first-none, first-some}
 use Rattle.frame.proofs.Laws.{headed-sized}
 use Rattle.route_walk.specs.Walk.{subobjectChecks, walkOf}
 use Rattle.route_rules.specs.SessionRules.{rule13, lastChecks}
@@ -28,12 +28,12 @@ use Rattle.route_ordered.specs.Judged.{laterChecks, checksOf, countOf, s
 
 -- every check has a number (of all of them `numbered-all`, below) ----------------------------------------------
 
-pub numbered-subobjects : (form : Form) (s : List ℕ) (ero n : Bool) (ps : List ℕ) → Numbered (subobjectChecks form s ero n ps)
+pub numbered-subobjects : (form : Form) (s : List ℕ) (ero n : Bool) (ps : List ℕ) → AllNumbered (subobjectChecks form s ero n ps)
 numbered-subobjects form s ero n [] = tt
 numbered-subobjects form s ero n (p ∷ ps) =
     (omega arith, (omega arith, (omega arith, (omega arith, (omega arith, (omega arith, (omega arith, numbered-subobjects form s ero n ps)))))))
 
-pub numbered-frame : (form : Form) (ero : Bool) (s : List ℕ) → Numbered (frameChecks s ero (form .kind))
+pub numbered-frame : (form : Form) (ero : Bool) (s : List ℕ) → AllNumbered (frameChecks s ero (form .kind))
 numbered-frame form ero s = (omega arith, (omega arith, (omega arith, (omega arith, tt))))
 
 -- the frame ----------------------------------------------------------------------------------------------------
@@ -137,7 +137,7 @@ module _ (form : Form) (s : List ℕ) (ero : Bool) (session : Session) (pst : �
 
 -- all checks ---------------------------------------------------------------------------------------------------
 
-pub numbered-all : (form : Form) (s : List ℕ) (ero : Bool) (session : Session) (pst : ℕ) → Numbered (checksOf form s ero session pst)
+pub numbered-all : (form : Form) (s : List ℕ) (ero : Bool) (session : Session) (pst : ℕ) → AllNumbered (checksOf form s ero session pst)
 numbered-all form s ero session pst =
     let rest =
     numbered-append (subobjectChecks form s ero (session .n) (placesOf s)) (lastChecks (placesOf s) ero (session .limit) (countOf s))

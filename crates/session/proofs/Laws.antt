@@ -55,30 +55,30 @@ unfolding mplsSessionOf
 mpls-agreed pcc pce e = rw e
 
 -- The session of a PST.
-pub under-mpls : (both : Sessions) (pst : ℕ) → eqb pst mplsSetup ≡ true → sessionUnder both pst ≡ both .mpls
+pub under-mpls : (sessions : Sessions) (pst : ℕ) → eqb pst mplsSetup ≡ true → sessionUnder sessions pst ≡ sessions .mpls
 unfolding sessionUnder
-under-mpls both pst e = rw e
+under-mpls sessions pst e = rw e
 
-pub under-srv6 : (both : Sessions) (pst : ℕ) → eqb pst mplsSetup ≡ false → sessionUnder both pst ≡ both .srv6
+pub under-srv6 : (sessions : Sessions) (pst : ℕ) → eqb pst mplsSetup ≡ false → sessionUnder sessions pst ≡ sessions .srv6
 unfolding sessionUnder
-under-srv6 both pst e = rw e
+under-srv6 sessions pst e = rw e
 
 -- Any two answers that fit the contract of a call are equal.
-pub refused_open-determined : (number form : ℕ) (x y : Opened) → x ≡ openRefused number form → y ≡ openRefused number form → x ≡ y
-refused_open-determined number form x y = determined
+pub refused-open-determined : (number form : ℕ) (x y : Opened) → x ≡ openRefused number form → y ≡ openRefused number form → x ≡ y
+refused-open-determined number form x y = determined
 
-pub with_mpls-determined : (o : Opened) (n : Bool) (limit : Limit) (x y : Opened) → x ≡ withMpls o n limit → y ≡ withMpls o n limit → x ≡ y
-with_mpls-determined o n limit x y = determined
+pub with-mpls-determined : (o : Opened) (n : Bool) (limit : Limit) (x y : Opened) → x ≡ withMpls o n limit → y ≡ withMpls o n limit → x ≡ y
+with-mpls-determined o n limit x y = determined
 
 pub carried-determined : (srv6 n : Bool) (limit : Limit) (a r : Bool) (v m : ℕ) (x y : Opened)
     → x ≡ openCarries srv6 n limit a r v m → y ≡ openCarries srv6 n limit a r v m → x ≡ y
 carried-determined srv6 n limit a r v m x y = determined
 
-pub without_srv6-determined : (x y : Opened) → x ≡ withoutSrv6 → y ≡ withoutSrv6 → x ≡ y
-without_srv6-determined x y = determined
+pub without-srv6-determined : (x y : Opened) → x ≡ withoutSrv6 → y ≡ withoutSrv6 → x ≡ y
+without-srv6-determined x y = determined
 
 pub agree-determined : (pcc pce : Opened) (x y : Sessions) → x ≡ sessionsOf pcc pce → y ≡ sessionsOf pcc pce → x ≡ y
 agree-determined pcc pce x y = determined
 
-pub under-determined : (both : Sessions) (pst : ℕ) (x y : Session) → x ≡ sessionUnder both pst → y ≡ sessionUnder both pst → x ≡ y
-under-determined both pst x y = determined
+pub under-determined : (sessions : Sessions) (pst : ℕ) (x y : Session) → x ≡ sessionUnder sessions pst → y ≡ sessionUnder sessions pst → x ≡ y
+under-determined sessions pst x y = determined

@@ -103,4 +103,4 @@ sessionsOf pcc pce = record { srv6 = sessionOf pcc pce; mpls = mplsSessionOf pcc
 
 -- The one of the form that the PST names, SRv6's if it names none.
 unfoldable pub sessionUnder : Sessions → ℕ → Session
-sessionUnder both pst = cond (eqb pst mplsSetup) (both .mpls) (both .srv6)
+sessionUnder sessions pst = cond (eqb pst mplsSetup) (sessions .mpls) (sessions .srv6)

@@ -200,11 +200,11 @@ pub fn agree(pcc: Opened, pce: Opened) -> Sessions
 }
 
 // The session of the form that a setup type names, SRv6's if it names none.
-pub fn under(both: Sessions, pst: u64) -> Session
-    ensures session { λ r. ⌜ r ≡ sessionUnder both pst ⌝ }
+pub fn under(sessions: Sessions, pst: u64) -> Session
+    ensures session { λ r. ⌜ r ≡ sessionUnder sessions pst ⌝ }
 {
     if pst == MPLS_SETUP {
-        return both.mpls;
+        return sessions.mpls;
     }
-    both.srv6
+    sessions.srv6
 }

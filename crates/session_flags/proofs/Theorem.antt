@@ -5,7 +5,7 @@ use mathlib.Core.List.{List, [], _∷_}
 use mathlib.Core.Bool.{Bool, true, false, cond}
 use mathlib.Core.Option.{Option, none, some}
 use lib.ListN.{getD, drop}
-use Rattle.flag_positions.specs.declared.Setup.{Setup}
+use Rattle.flag_positions.specs.declared.Positions.{Positions}
 use Rattle.session.specs.declared.Opened.{Opened}
 use Rattle.session.specs.Sessions.{openRefused, withoutSrv6, sessionsOf}
 use Rattle.capability_mpls.specs.Mpls.{mplsBeside}
@@ -20,7 +20,7 @@ turned-on : {o q : Opened} → TurnedOn o q → q ≡ flaggedOpen o (q .a) (q .r
 turned-on {o} {q} h = ap (λ (u : Opened). flaggedOpen u (q .a) (q .r)) (sym (h .alike))
 
 -- The PCC's OPEN x and the PCE's y, made of octets, read with A and R at any positions; a route, ERO or RRO, that is accepted in their sessions, of either form.
-module _ (p : Setup) (x y : List ℕ) (octets : (i : ℕ) → getD x i 0 < 256) (s : List ℕ) (ero : Bool) (pst : ℕ) (addresses : List ℕ)
+module _ (p : Positions) (x y : List ℕ) (octets : (i : ℕ) → getD x i 0 < 256) (s : List ℕ) (ero : Bool) (pst : ℕ) (addresses : List ℕ)
     (accepted : judgedFor s ero (sessionsOf (openOf p x) (openOf p y)) pst addresses .number ≡ 0) where
   answers-never-refuse : (o q : Opened) → TurnedOn (openOf p x) o → TurnedOn (openOf p y) q
       → judgedFor s ero (sessionsOf o q) pst addresses ≡ judgedFor s ero (sessionsOf (openOf p x) (openOf p y)) pst addresses
@@ -49,11 +49,11 @@ module _ (p : Setup) (x y : List ℕ) (octets : (i : ℕ) → getD x i 0 < 256) 
 -- positions ------------------------------------------------------------------------------------------------------
 
 -- All rules but 28: positions play no part in them.
-abbrev behind28 : Setup → List ℕ → List Rule
+abbrev behind28 : Positions → List ℕ → List Rule
 behind28 p s = drop 1 (openRules p s)
 
 -- Where A and R stand is told by A and R alone: at any two pairs of usable positions all else is the same.
-pub positions-tell-flags : (p q : Setup) (s : List ℕ) → breaks28 p ≡ false → breaks28 q ≡ false → unflagged (openOf p s) ≡ unflagged (openOf q s)
+pub positions-tell-flags : (p q : Positions) (s : List ℕ) → breaks28 p ≡ false → breaks28 q ≡ false → unflagged (openOf p s) ≡ unflagged (openOf q s)
 unfolding openOf carriesOf srv6Carried
 positions-tell-flags p q s e f = rw (e, f) (
     refused (behind28 p s) (carriesOf p s) (carriesOf q s)

@@ -30,8 +30,8 @@ listed-lent kind v n e h = rw (← h) e
 
 -- Any two answers that fit the contract of a call are equal ----------------------------------------------------
 
-pub list_size-determined : (v : List ℕ) {x y : ℕ} → x ≡ listSize v → y ≡ listSize v → x ≡ y
-list_size-determined v = determined
+pub list-size-determined : (v : List ℕ) {x y : ℕ} → x ≡ listSize v → y ≡ listSize v → x ≡ y
+list-size-determined v = determined
 
 pub lists-determined : (kind : ℕ) (v : List ℕ) {x y : Bool} → x ≡ listsType v kind → y ≡ listsType v kind → x ≡ y
 lists-determined kind v = determined

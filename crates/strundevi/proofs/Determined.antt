@@ -12,14 +12,14 @@ use Rattle.subobject.specs.Segments.{segmentWith}
 use Rattle.writer_begin_finish.specs.Ends.{beginAnswer, beginBuffer, finishAnswer, finishBuffer}
 use Rattle.writer.specs.Writing.{addAnswer, addBuffer}
 use Rattle.board_rules.specs.OnRecord.{removeOn, compactOn, nextOn, movedOn}
-use Rattle.report_call.specs.Reported.{reportForOn, reportStoreForOn}
+use Rattle.board_report_call.specs.Reported.{reportForOn, reportStoreForOn}
 use Rattle.border_records.specs.declared.verdict.VerdictRecord.{VerdictRecord}
 use Rattle.border_opened.specs.declared.opened.OpenedRecord.{OpenedRecord}
 use Rattle.border_session.specs.declared.SessionRecord.{SessionRecord}
-use Rattle.border_opened.specs.declared.setup.SetupRecord.{SetupRecord}
+use Rattle.border_opened.specs.declared.positions.PositionsRecord.{PositionsRecord}
 use Rattle.border_segment.specs.declared.segment.OutlineRecord.{OutlineRecord}
 use Rattle.border_records.specs.Records.{isYes, verdictOut}
-use Rattle.border_opened.specs.Opens.{openedIn, openedOut, setupIn}
+use Rattle.border_opened.specs.Opens.{openedIn, openedOut, positionsIn}
 use Rattle.border_session.specs.Agreed.{sessionsIn, sessionsOut}
 use Rattle.route_step.specs.Steps.{stepOf}
 use Rattle.border_segment.specs.Segments.{outlineIn, pickedOut, steppedOut}
@@ -39,7 +39,7 @@ One {A} z = (x y : A) → x ≡ z → y ≡ z → x ≡ y
 one : {A : Type 0} (z : A) → One z
 one z x y = determined
 
-pub read-open-determined : (p : SetupRecord) (s : List ℕ) → One (openedOut (openOf (setupIn p) s))
+pub read-open-determined : (p : PositionsRecord) (s : List ℕ) → One (openedOut (openOf (positionsIn p) s))
 read-open-determined p s = one _
 
 pub agree-determined : (pcc pce : OpenedRecord) → One (sessionsOut (sessionsOf (openedIn pcc) (openedIn pce)))

@@ -3,7 +3,7 @@ ghost use mathlib.Core.Path.{_≡_};
 ghost use Rattle.board_record.specs.Record.{boardOf, emptyBoard};
 ghost use Rattle.octets.specs.Octets.{part};
 ghost use Rattle.board_rules.specs.OnRecord.{removeOn, compactOn, bodyOn, bodyFormOn, nextOn, movedOn};
-ghost use Rattle.report_call.specs.Reported.{reportForOn, reportStoreForOn};
+ghost use Rattle.board_report_call.specs.Reported.{reportForOn, reportStoreForOn};
 ghost use Rattle.border_records.specs.Records.{verdictOut};
 ghost use Rattle.border_session.specs.Agreed.{sessionsIn};
 ghost use Rattle.border_answers.specs.AnswersOut.{changeOut};

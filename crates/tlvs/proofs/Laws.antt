@@ -148,5 +148,5 @@ items-turn (suc n) short s at stop h k l =
     rw (ne-eqb (length (part s at (stop - at))) 0 m) (sym (item-turn s at stop short (λ rest. tlvsIn rest short n) (omega arith) l))
 
 -- Any two answers that fit the contract of `item_at` are equal.
-pub item_at-determined : (short : Bool) (s : List ℕ) (at stop : ℕ) {x y : Item} → x ≡ itemAt s short at stop → y ≡ itemAt s short at stop → x ≡ y
-item_at-determined short s at stop = determined
+pub item-at-determined : (short : Bool) (s : List ℕ) (at stop : ℕ) {x y : Item} → x ≡ itemAt s short at stop → y ≡ itemAt s short at stop → x ≡ y
+item-at-determined short s at stop = determined

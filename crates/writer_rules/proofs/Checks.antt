@@ -17,7 +17,7 @@ use Rattle.subobject.specs.Layout.{expectedLength}
 use Rattle.subobject.specs.Rules.{rule8, rule9, flagF, malformed, rule7, rule11, labelAt, timeAt, rule29, rule30}
 use Rattle.subobject.specs.Segments.{headOfSegment, bitsOf, bit}
 use Rattle.frame.specs.Checks.{Check, check, firstBroken}
-use Rattle.frame.proofs.Checks.{Numbered, ByFirst, by-first}
+use Rattle.frame.proofs.Checks.{AllNumbered, ByFirst, by-first}
 use Rattle.writer_rules.specs.Checks.{firstNumber, beginChecks, unfit, noRoom, addChecks, finishChecks}
 
 -- any list -----------------------------------------------------------------------------------------------------
@@ -30,7 +30,7 @@ AtZero cs = EachOf (λ c. c .place ≡ 0) cs
 abbrev pub verdictOf : ℕ → Verdict
 verdictOf n = kept n (refusedBy n 0) (acceptedWith 0)
 
-pub first-verdict : (cs : List Check) → Numbered cs → AtZero cs → verdictOf (firstNumber cs) ≡ firstBroken cs (acceptedWith 0)
+pub first-verdict : (cs : List Check) → AllNumbered cs → AtZero cs → verdictOf (firstNumber cs) ≡ firstBroken cs (acceptedWith 0)
 first-verdict [] n z = refl
 first-verdict (c ∷ cs) n z = go (c .broken) refl (first-verdict cs (n .1) (z .1))
   where
@@ -40,7 +40,7 @@ first-verdict (c ∷ cs) n z = go (c .broken) refl (first-verdict cs (n .1) (z .
         rw k (kept-old (c .number) (refusedBy (c .number) 0) (acceptedWith 0) (λ e. omega (arith, n .0, e)) ∙ ap (refusedBy (c .number)) (sym (z .0)))
     go false k rest = rw k rest
 
-pub by-first-number : (v : Verdict) (cs : List Check) → Numbered cs → AtZero cs → v ≡ verdictOf (firstNumber cs) → ByFirst v cs (acceptedWith 0)
+pub by-first-number : (v : Verdict) (cs : List Check) → AllNumbered cs → AtZero cs → v ≡ verdictOf (firstNumber cs) → ByFirst v cs (acceptedWith 0)
 by-first-number v cs n z e = by-first v cs (acceptedWith 0) n refl (e ∙ first-verdict cs n z)
 
 -- begin --------------------------------------------------------------------------------------------------------

@@ -42,23 +42,23 @@ no-refusal false n m e = (refl, e)
 
 -- the place ----------------------------------------------------------------------------------------------------
 
-pub record Within (end room : ℕ) : Type 0 where
+pub record WithinRoom (end room : ℕ) : Type 0 where
   pub inside : end ≤ room
   pub most : end ≤ mostOctets
 
-pub within : (end room : ℕ) → passes end room ≡ false → Within end room
+pub within : (end room : ℕ) → passes end room ≡ false → WithinRoom end room
 unfolding passes
 within end room e =
     let p = either-false (ltb room end) (ltb mostOctets end) e in
     record { inside = ltb-false room end (p .0); most = ltb-false mostOctets end (p .1) }
 
-pub record Proper (at room : ℕ) : Type 0 where
+pub record PlaceFine (at room : ℕ) : Type 0 where
   pub low : header ≤ at
   pub fours : at % unit ≡ 0
   pub inside : at ≤ room
   pub most : at ≤ mostOctets
 
-pub proper : (at room : ℕ) → badPlace at room ≡ false → Proper at room
+pub proper : (at room : ℕ) → badPlace at room ≡ false → PlaceFine at room
 unfolding badPlace
 proper at room e =
     let p = either-false (ltb at header) _ e in
@@ -85,8 +85,8 @@ pub record Fit (form : Form) (ero : Bool) (g : Segment) : Type 0 where
 -- and of the place.
 pub record Taken (form : Form) (room : ℕ) (ero : Bool) (at : ℕ) (g : Segment) : Type 0 where
   pub segment : Fit form ero g
-  pub place : Proper at room
-  pub end : Within (at + length (subobjectOf form g)) room
+  pub place : PlaceFine at room
+  pub end : WithinRoom (at + length (subobjectOf form g)) room
 
 pub taken : (form : Form) (room : ℕ) (ero : Bool) (at : ℕ) (g : Segment) → addNumber form g ero at room ≡ 0 → Taken form room ero at g
 unfolding addNumber noRoom
@@ -115,7 +115,7 @@ size-subobject z g h = sym (length-subobject z g h)
 -- finish -------------------------------------------------------------------------------------------------------
 
 pub record Done (room at : ℕ) : Type 0 where
-  pub place : Proper at room
+  pub place : PlaceFine at room
   pub filled : at ≡ header → ⊥
 
 pub done : (room at : ℕ) → finishNumber at room ≡ 0 → Done room at

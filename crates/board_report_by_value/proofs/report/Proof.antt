@@ -13,7 +13,7 @@ returns : tie.Need-returns
 returns c =
     let e = c .before .before .report .ensures in
     let a = c .before .before .before .before .before .before .before .before .before .before .before .before .before .before .before .before .before .before .before .before .before .args in
-    (report-back (a .b) (a .store .now) _ _ (a .key) (a .octets .now) (a .both) (a .pst) (a .addresses .now) (e .0), e .1)
+    (report-back (a .b) (a .store .now) _ _ (a .key) (a .octets .now) (a .sessions) (a .pst) (a .addresses .now) (e .0), e .1)
 
 pub report-spec : {M : Type 1} → statement M
 report-spec = tie.close (tie.spec report-requires same-length returns)

@@ -1,7 +1,7 @@
 use Rattle.session.specs.declared.Sessions.{Sessions}
 use Rattle.board_record.specs.Table.{tableOf}
 use Rattle.board_record.specs.Record.{withRows}
-use Rattle.report_call.specs.Reported.{reportForOn, reportStoreForOn}
+use Rattle.board_report_call.specs.Reported.{reportForOn, reportStoreForOn}
 use Rattle.border_board.proofs.Laws.{told-under}
 use borrow.Author.Needs.{needs}
 use Rattle.border_board.proofs.report.Statement.{statement}

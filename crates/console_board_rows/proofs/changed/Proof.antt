@@ -40,7 +40,7 @@ returns c =
     let before10 = before6 .before .before .before .before in
     let a = before10 .before .before .before .before .before .before .before .args in
     let call = before6 .reported .ensures in
-    by-change (λ (y : Changing). changedTurn y (a .b) (a .store .now) (a .c) (a .line .now) (a .both) (listIn (a .memory .now) (a .given)))
+    by-change (λ (y : Changing). changedTurn y (a .b) (a .store .now) (a .c) (a .line .now) (a .sessions) (listIn (a .memory .now) (a .given)))
     (before10 .enum-told .given .1) (call .0) (call .1 .0) (call .1 .1)
 
 same-length-4 : tie.Need-same-length-4
@@ -54,7 +54,7 @@ returns-2 c =
     let before2 = c .before .before in
     let before5 = before2 .before .before .before in
     let a = before5 .before .before .before .before .before .before .before .args in
-    by-change (λ (y : Changing). changedTurn y (a .b) (a .store .now) (a .c) (a .line .now) (a .both) (listIn (a .memory .now) (a .given)))
+    by-change (λ (y : Changing). changedTurn y (a .b) (a .store .now) (a .c) (a .line .now) (a .sessions) (listIn (a .memory .now) (a .given)))
     (before5 .enum-told2 .given .1) (before2 .removed .ensures .0) refl (before2 .removed .ensures .1)
 
 same-length-6 : tie.Need-same-length-6
@@ -68,7 +68,7 @@ returns-3 c =
     let before2 = c .before .before in
     let before5 = before2 .before .before .before in
     let a = before5 .before .before .before .before .before .before .before .args in
-    by-change (λ (y : Changing). changedTurn y (a .b) (a .store .now) (a .c) (a .line .now) (a .both) (listIn (a .memory .now) (a .given)))
+    by-change (λ (y : Changing). changedTurn y (a .b) (a .store .now) (a .c) (a .line .now) (a .sessions) (listIn (a .memory .now) (a .given)))
     (before5 .enum-told3 .given .1) (before2 .compacted .ensures .0) refl (before2 .compacted .ensures .1)
 
 pub changed-spec : {M : Type 1} → statement M

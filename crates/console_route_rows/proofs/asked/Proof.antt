@@ -42,7 +42,7 @@ returns c =
     let before4 = c .before .before .before .before in
     let before7 = before4 .before .before .before in
     let a = before7 .before .before .before .before .before .before .args in
-    behind-by (λ (y : Asking). askedLine y (a .c) (a .line .now) (a .both) (listIn (a .memory .now) (a .given))) (before7 .enum-told .given .1) (before4 .judged .ensures)
+    behind-by (λ (y : Asking). askedLine y (a .c) (a .line .now) (a .sessions) (listIn (a .memory .now) (a .given))) (before7 .enum-told .given .1) (before4 .judged .ensures)
 
 same-length-3 : tie.Need-same-length-3
 same-length-3 c = search needs
@@ -55,7 +55,7 @@ returns-2 c =
     let before4 = c .before .before .before .before in
     let before7 = before4 .before .before .before in
     let a = before7 .before .before .before .before .before .before .args in
-    behind-by (λ (y : Asking). askedLine y (a .c) (a .line .now) (a .both) (listIn (a .memory .now) (a .given))) (before7 .enum-told2 .given .1) (before4 .judged2 .ensures)
+    behind-by (λ (y : Asking). askedLine y (a .c) (a .line .now) (a .sessions) (listIn (a .memory .now) (a .given))) (before7 .enum-told2 .given .1) (before4 .judged2 .ensures)
 
 same-length-5 : tie.Need-same-length-5
 same-length-5 c = search needs
@@ -68,7 +68,7 @@ returns-3 c =
     let before4 = c .before .before .before .before in
     let before7 = before4 .before .before .before in
     let a = before7 .before .before .before .before .before .before .args in
-    behind-by (λ (y : Asking). askedLine y (a .c) (a .line .now) (a .both) (listIn (a .memory .now) (a .given))) (before7 .enum-told3 .given .1) (before4 .picked .ensures)
+    behind-by (λ (y : Asking). askedLine y (a .c) (a .line .now) (a .sessions) (listIn (a .memory .now) (a .given))) (before7 .enum-told3 .given .1) (before4 .picked .ensures)
 
 same-length-7 : tie.Need-same-length-7
 same-length-7 c = search needs
@@ -81,7 +81,7 @@ returns-4 c =
     let before4 = c .before .before .before .before in
     let before7 = before4 .before .before .before in
     let a = before7 .before .before .before .before .before .before .args in
-    behind-by (λ (y : Asking). askedLine y (a .c) (a .line .now) (a .both) (listIn (a .memory .now) (a .given))) (before7 .enum-told4 .given .1) (before4 .picked2 .ensures)
+    behind-by (λ (y : Asking). askedLine y (a .c) (a .line .now) (a .sessions) (listIn (a .memory .now) (a .given))) (before7 .enum-told4 .given .1) (before4 .picked2 .ensures)
 
 pub asked-spec : {M : Type 1} → statement M
 asked-spec =

@@ -34,7 +34,7 @@ unfolding routeLine
 returns c =
     let before6 = c .before .before .before .before .before .before in
     let a = before6 .before .before .before .before .before .before .before .before .before .args in
-    let e = judged-told (a .ero) (a .both) (a .c .one) (spelled _ _ (before6 .before .before .before .octets-at .ensures .0)) (before6 .listed .ensures)
+    let e = judged-told (a .ero) (a .sessions) (a .c .one) (spelled _ _ (before6 .before .before .before .octets-at .ensures .0)) (before6 .listed .ensures)
     (c .before .before .before .before .judge .ensures) in
     rw (← e) (c .before .before .counted .ensures)
 

@@ -37,7 +37,7 @@ returns c =
     let told = c .before .before .before .before .before .before .before in
     let p = told .segment .result in
     let a = told .before .before .before .before .before .before .before .before .before .before .before .args in
-    let e = picked-told (a .ero) (a .both) (a .c .one) (a .c .two) (spelled _ _ (told .before .before .before .before .before .octets-at .ensures .0)) (told .before .before .listed .ensures)
+    let e = picked-told (a .ero) (a .sessions) (a .c .one) (a .c .two) (spelled _ _ (told .before .before .before .before .before .octets-at .ensures .0)) (told .before .before .listed .ensures)
     (told .segment .ensures) in
     rw (← e) (told-refused (p .verdict) (segmentLine (formOf (a .c .one)) (p .segment) (p .strays)) (c .before .before .before .before .if1 .taken) (c .before .before .refusal .ensures .0))
 
@@ -56,7 +56,7 @@ returns-2 c =
     let told = c .before .before .before .before .before .before .before .before .before in
     let p = told .segment .result in
     let a = told .before .before .before .before .before .before .before .before .before .before .before .args in
-    let e = picked-told (a .ero) (a .both) (a .c .one) (a .c .two) (spelled _ _ (told .before .before .before .before .before .octets-at .ensures .0)) (told .before .before .listed .ensures)
+    let e = picked-told (a .ero) (a .sessions) (a .c .one) (a .c .two) (spelled _ _ (told .before .before .before .before .before .octets-at .ensures .0)) (told .before .before .listed .ensures)
     (told .segment .ensures) in
     rw (← e) (told-accepted (p .verdict) (segmentLine (formOf (a .c .one)) (p .segment) (p .strays)) (c .before .before .before .before .before .before .if1 .left) (c .before .before .shown .ensures))
 

@@ -9,7 +9,7 @@ use Rattle.board_record.specs.Sizes.{places}
 use Rattle.board_record.specs.Table.{tableOf}
 use Rattle.board_record.specs.Order.{named}
 use Rattle.board_order.proofs.Chains.{in-order-is}
-use Rattle.board_order_drops.proofs.Drops.{Sifting, sifting-none, sifting-skip, sifting-keep, Filled, filling-none, filling-more, filled-order}
+use Rattle.board_order_drops.proofs.Drops.{Sifting, sifting-none, sifting-skip, sifting-keep, Sifted, filling-none, filling-more, filled-order}
 use Rattle.board_order_drops.proofs.dropping.drop_empty.Statement.{statement}
 use Rattle.board_order_drops.proofs.dropping.drop_empty.Tie as tie
 
@@ -20,7 +20,7 @@ abbrev μ-loop : tie.MeasureT-loop
 μ-loop keys versions lengths version floor order₀ forms dropped kept₀ i₀ order kept i = places - i
 
 abbrev Inv-loop2 : tie.InvT-loop2
-Inv-loop2 keys versions lengths version floor order₀ forms dropped kept₀ i order kept = Filled (tableOf keys versions lengths version floor forms) order kept
+Inv-loop2 keys versions lengths version floor order₀ forms dropped kept₀ i order kept = Sifted (tableOf keys versions lengths version floor forms) order kept
 
 abbrev μ-loop2 : tie.MeasureT-loop2
 μ-loop2 keys versions lengths version floor order₀ forms dropped kept₀ i order kept = places - kept

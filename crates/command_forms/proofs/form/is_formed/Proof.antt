@@ -1,6 +1,6 @@
--- The letters of the row's form are found in the table's text (`form-in`). Then a walk over them: `Fitting` says that what is left of the letters gives
+-- The letters of the row's form are found in the table's text (`form-in`). Then a walk over them: `LettersLeft` says that what is left of the letters gives
 -- the whole answer, with one law for each way out of a turn.
-use Rattle.command_forms.proofs.Laws.{form-in, Fitting, other-number, fitting-start, fitting-miss, fitting-hit, fitting-end}
+use Rattle.command_forms.proofs.Laws.{form-in, LettersLeft, other-number, fitting-start, fitting-miss, fitting-hit, fitting-end}
 use Rattle.command_forms.specs.Forms.{kindsOf}
 use Rattle.command_forms.specs.Rows.{verbAt, letter, fitsLetter}
 use borrow.Author.Tests.{not-true, not-false}
@@ -14,7 +14,7 @@ use Rattle.command_forms.proofs.form.is_formed.Statement.{statement}
 use Rattle.command_forms.proofs.form.is_formed.Tie as tie
 
 abbrev Inv-loop : tie.InvT-loop
-Inv-loop line place form i₀ i = (form ≡ map letter (kindsOf (verbAt place))) × Fitting form line i
+Inv-loop line place form i₀ i = (form ≡ map letter (kindsOf (verbAt place))) × LettersLeft form line i
 
 abbrev μ-loop : tie.MeasureT-loop
 μ-loop line place form i₀ i = length form - i

@@ -42,10 +42,10 @@ returns c =
     let a = before11 .before .before .before .before .before .before .before .before .before .before .args in
     let s = spelled _ _ (before11 .before .before .before .octets-at .ensures .0) in
     let l = before11 .listed .ensures in
-    let e = before8 .report .ensures .0 ∙ (λ i. reportByValue (a .b) (a .store .now) (a .c .one) (s i) (a .both) (a .c .two) (l i)) in (
+    let e = before8 .report .ensures .0 ∙ (λ i. reportByValue (a .b) (a .store .now) (a .c .one) (s i) (a .sessions) (a .c .two) (l i)) in (
       rw (← e),
       (
-        before8 .report .ensures .1 ∙ (λ i. reportStoreByValue (a .b) (a .store .now) (a .c .one) (s i) (a .both) (a .c .two) (l i)),
+        before8 .report .ensures .1 ∙ (λ i. reportStoreByValue (a .b) (a .store .now) (a .c .one) (s i) (a .sessions) (a .c .two) (l i)),
         rw (← e) (c .before .before .counted .ensures),
       ),
     )

@@ -5,7 +5,7 @@ use Rattle.open.specs.Open.{tlvsAt, framed}
 use Rattle.open_walk.specs.Walk.{sightOf, openWalk}
 use Rattle.capability_mpls.specs.Mpls.{mplsCapability}
 use Rattle.capability.specs.Srv6.{srv6Capability}
-use Rattle.flag_positions.specs.Positions.{usableSetup}
+use Rattle.flag_positions.specs.Positions.{usablePositions}
 use lib.ListN.{drop}
 use mathlib.Core.Bool.{true, false}
 use borrow.Author.Tests.{not-true, not-false}
@@ -15,7 +15,7 @@ use borrow.Author.Needs.{needs}
 use Rattle.open.proofs.object.read_open.Statement.{statement}
 use Rattle.open.proofs.object.read_open.Tie as tie
 
-of-use : (c : tie.Else1) → usableSetup (c .before .before .before .args .p) ≡ true
+of-use : (c : tie.Else1) → usablePositions (c .before .before .before .args .p) ≡ true
 of-use c = sym (c .before .usable .ensures) ∙ not-false _ (c .if1 .left)
 
 good : (c : tie.Else2) → framed (c .before .before .before .before .before .args .s .now) ≡ true

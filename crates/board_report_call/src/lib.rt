@@ -3,7 +3,7 @@
 ghost use mathlib.Core.Path.{_≡_};
 ghost use Rattle.board_record.specs.Record.{boardOf};
 ghost use Rattle.board_rules.specs.OnRecord.{resultOf};
-ghost use Rattle.report_call.specs.Reported.{reportForOn, reportStoreForOn};
+ghost use Rattle.board_report_call.specs.Reported.{reportForOn, reportStoreForOn};
 use answers::NOT_USABLE;
 use answers::Verdict;
 use answers::refused;
@@ -22,7 +22,7 @@ pub fn report(
     store: &mut [u8],
     key: u64,
     octets: &[u8],
-    both: Sessions,
+    sessions: Sessions,
     pst: u64,
     addresses: &[u8],
 ) -> Verdict
@@ -30,16 +30,16 @@ pub fn report(
         let before =
         boardOf (now (keys .entry)) (now (versions .entry)) (now (lengths .entry)) (now (version .entry)) (now (floor .entry)) (now (order .entry)) (now (tops .entry)) (now (forms .entry)) in
         let after = boardOf (now (keys .exit)) (now (versions .exit)) (now (lengths .exit)) (now (version .exit)) (now (floor .exit)) (now (order .exit)) (now (tops .exit)) (now (forms .exit)) in
-        ⌜ resultOf r after ≡ reportForOn before (now (store .entry)) key (now (octets .entry)) both pst (now (addresses .entry)) ⌝ }
+        ⌜ resultOf r after ≡ reportForOn before (now (store .entry)) key (now (octets .entry)) sessions pst (now (addresses .entry)) ⌝ }
     ensures stored { λ r.
         let before =
         boardOf (now (keys .entry)) (now (versions .entry)) (now (lengths .entry)) (now (version .entry)) (now (floor .entry)) (now (order .entry)) (now (tops .entry)) (now (forms .entry)) in
-        ⌜ now (store .exit) ≡ reportStoreForOn before (now (store .entry)) key (now (octets .entry)) both pst (now (addresses .entry)) ⌝ }
+        ⌜ now (store .exit) ≡ reportStoreForOn before (now (store .entry)) key (now (octets .entry)) sessions pst (now (addresses .entry)) ⌝ }
 {
     if !head_end::usable(addresses) {
         return refused(NOT_USABLE, 0);
     }
-    let own = session::under(both, pst);
+    let own = session::under(sessions, pst);
     let here = route_limit::session_for(octets, true, own, addresses);
     board_report::report(
         keys,

@@ -13,5 +13,5 @@ use Rattle.board_record.specs.Table.{Table}
 use Rattle.board_rules.specs.Checks.{reportChecks}
 
 abbrev pub reportForChecks : Bool → Table → ℕ → List ℕ → Sessions → ℕ → List ℕ → List Check
-reportForChecks whole b k octets both pst addresses =
-    check notUsable 0 (rule28 addresses) ∷ reportChecks whole b k octets (sessionFor octets true (sessionUnder both pst) addresses) pst
+reportForChecks whole b k octets sessions pst addresses =
+    check notUsable 0 (rule28 addresses) ∷ reportChecks whole b k octets (sessionFor octets true (sessionUnder sessions pst) addresses) pst

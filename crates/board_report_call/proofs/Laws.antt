@@ -19,18 +19,18 @@ use Rattle.board_rules.specs.Rules.{Outcome, outcomeOf}
 use Rattle.board_rules.specs.Report.{reportWith, storeWith, reportAnswer, reportStore}
 use Rattle.board_rules.specs.OnRecord.{Result, resultOf, reportOn, reportStoreOn}
 use Rattle.board_rules.proofs.OnRecord.{results-same, NoRecord, report-17-on}
-use Rattle.report_call.specs.Reported.{reportFor, reportStoreFor, reportForOn, reportStoreForOn}
+use Rattle.board_report_call.specs.Reported.{reportFor, reportStoreFor, reportForOn, reportStoreForOn}
 
-module _ (b : Board) (store : List ℕ) (k : ℕ) (octets : List ℕ) (both : Sessions) (pst : ℕ) (addresses : List ℕ) where
+module _ (b : Board) (store : List ℕ) (k : ℕ) (octets : List ℕ) (sessions : Sessions) (pst : ℕ) (addresses : List ℕ) where
   pub reported-28 : {x : Bool} {v : Verdict} → x ≡ usableList addresses → x ≡ false → v ≡ refusedBy notUsable 0
-      → (resultOf v b ≡ reportForOn b store k octets both pst addresses) × (store ≡ reportStoreForOn b store k octets both pst addresses)
+      → (resultOf v b ≡ reportForOn b store k octets sessions pst addresses) × (store ≡ reportStoreForOn b store k octets sessions pst addresses)
   unfolding reportForOn reportStoreForOn rule28
   reported-28 e f g = (rw (g, sym e ∙ f), rw (sym e ∙ f))
 
-  pub reported-under : {x : Bool} {own g : Session} {o : Result} {after : List ℕ} → x ≡ usableList addresses → x ≡ true → own ≡ sessionUnder both pst
+  pub reported-under : {x : Bool} {own g : Session} {o : Result} {after : List ℕ} → x ≡ usableList addresses → x ≡ true → own ≡ sessionUnder sessions pst
       → g ≡ sessionFor octets true own addresses
       → o ≡ reportOn b store k octets g pst → after ≡ reportStoreOn b store k octets g pst
-      → (o ≡ reportForOn b store k octets both pst addresses) × (after ≡ reportStoreForOn b store k octets both pst addresses)
+      → (o ≡ reportForOn b store k octets sessions pst addresses) × (after ≡ reportStoreForOn b store k octets sessions pst addresses)
   unfolding reportForOn reportStoreForOn rule28
   reported-under e f u h o a =
       let q = h ∙ ap (λ (x : Session). sessionFor octets true x addresses) u in (
@@ -40,34 +40,34 @@ module _ (b : Board) (store : List ℕ) (k : ℕ) (octets : List ℕ) (both : Se
 
   -- With a usable list, 17 exactly if there is no board.
   pub report-call-17 : rule28 addresses ≡ false →
-      let v = reportForOn b store k octets both pst addresses .verdict in
+      let v = reportForOn b store k octets sessions pst addresses .verdict in
       (NoRecord b (length store) → v ≡ refusedBy notABoard 0) × (v .number ≡ notABoard → NoRecord b (length store))
   unfolding reportForOn
-  report-call-17 e = rw e (report-17-on b store k octets (sessionFor octets true (sessionUnder both pst) addresses) pst)
+  report-call-17 e = rw e (report-17-on b store k octets (sessionFor octets true (sessionUnder sessions pst) addresses) pst)
 
-module _ (b : Table) (store : List ℕ) (k : ℕ) (octets : List ℕ) (both : Sessions) (pst : ℕ) (addresses : List ℕ) where
+module _ (b : Table) (store : List ℕ) (k : ℕ) (octets : List ℕ) (sessions : Sessions) (pst : ℕ) (addresses : List ℕ) where
   -- A usable list: the report under the limit for this route.
   pub usable-reported : rule28 addresses ≡ false
-      → (reportFor b store k octets both pst addresses ≡ reportAnswer b store k octets (sessionFor octets true (sessionUnder both pst) addresses) pst)
-      × (reportStoreFor b store k octets both pst addresses ≡ reportStore b store k octets (sessionFor octets true (sessionUnder both pst) addresses) pst)
+      → (reportFor b store k octets sessions pst addresses ≡ reportAnswer b store k octets (sessionFor octets true (sessionUnder sessions pst) addresses) pst)
+      × (reportStoreFor b store k octets sessions pst addresses ≡ reportStore b store k octets (sessionFor octets true (sessionUnder sessions pst) addresses) pst)
   unfolding reportFor reportStoreFor
   usable-reported e = (rw e, rw e)
 
   -- Its route checks are those of the call that judges a route.
-  pub judged-alike : rule28 addresses ≡ false → reportFor b store k octets both pst addresses ≡ reportWith b store k octets (judgedFor octets true both pst addresses) pst
+  pub judged-alike : rule28 addresses ≡ false → reportFor b store k octets sessions pst addresses ≡ reportWith b store k octets (judgedFor octets true sessions pst addresses) pst
   unfolding reportFor reportAnswer judgedIn
   judged-alike e = rw e
 
   -- 28 changes nothing.
   pub unusable-reported : rule28 addresses ≡ true
-      → (reportFor b store k octets both pst addresses ≡ outcomeOf (refusedBy notUsable 0) b) × (reportStoreFor b store k octets both pst addresses ≡ store)
+      → (reportFor b store k octets sessions pst addresses ≡ outcomeOf (refusedBy notUsable 0) b) × (reportStoreFor b store k octets sessions pst addresses ≡ store)
   unfolding reportFor reportStoreFor
   unusable-reported e = (rw e, rw e)
 
-pub report-determined : (b : Board) (store : List ℕ) (k : ℕ) (octets : List ℕ) (both : Sessions) (pst : ℕ) (addresses : List ℕ) (v w : Verdict) (c d : Board) (x y : List ℕ)
-    → resultOf v c ≡ reportForOn b store k octets both pst addresses
-    → resultOf w d ≡ reportForOn b store k octets both pst addresses
-    → x ≡ reportStoreForOn b store k octets both pst addresses
-    → y ≡ reportStoreForOn b store k octets both pst addresses
+pub report-determined : (b : Board) (store : List ℕ) (k : ℕ) (octets : List ℕ) (sessions : Sessions) (pst : ℕ) (addresses : List ℕ) (v w : Verdict) (c d : Board) (x y : List ℕ)
+    → resultOf v c ≡ reportForOn b store k octets sessions pst addresses
+    → resultOf w d ≡ reportForOn b store k octets sessions pst addresses
+    → x ≡ reportStoreForOn b store k octets sessions pst addresses
+    → y ≡ reportStoreForOn b store k octets sessions pst addresses
     → ((v ≡ w) × (c ≡ d)) × (x ≡ y)
-report-determined b store k octets both pst addresses v w c d x y p q r t = (results-same (reportForOn b store k octets both pst addresses) v w c d p q, r ∙ sym t)
+report-determined b store k octets sessions pst addresses v w c d x y p q r t = (results-same (reportForOn b store k octets sessions pst addresses) v w c d p q, r ∙ sym t)

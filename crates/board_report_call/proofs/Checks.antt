@@ -19,19 +19,20 @@ use Rattle.board_record.specs.declared.record.Board.{Board}
 use Rattle.board_record.specs.Record.{tableIn}
 use Rattle.board_rules.specs.OnRecord.{isRecord, Result, resultOf, reportOn}
 use Rattle.board_rules.proofs.Checks.{report-numbered, report-checked-on}
-use Rattle.report_call.specs.Reported.{reportForOn}
-use Rattle.report_call.specs.Checks.{reportForChecks}
+use Rattle.board_report_call.specs.Reported.{reportForOn}
+use Rattle.board_report_call.specs.Checks.{reportForChecks}
 
 chosen : (t : Bool) (x y : Result) → cond t x y .verdict ≡ cond t (x .verdict) (y .verdict)
 chosen true x y = refl
 chosen false x y = refl
 
-pub report-call-by-first : (b : Board) (store : List ℕ) (k : ℕ) (octets : List ℕ) (both : Sessions) (pst : ℕ) (addresses : List ℕ)
-    → ByFirst (reportForOn b store k octets both pst addresses .verdict) (reportForChecks (isRecord b (length store)) (tableIn b) k octets both pst addresses) (acceptanceOf (formOf pst) octets true)
+pub report-call-by-first : (b : Board) (store : List ℕ) (k : ℕ) (octets : List ℕ) (sessions : Sessions) (pst : ℕ) (addresses : List ℕ)
+    → ByFirst (reportForOn b store k octets sessions pst addresses .verdict) (reportForChecks (isRecord b (length store)) (tableIn b) k octets sessions pst addresses)
+    (acceptanceOf (formOf pst) octets true)
 unfolding reportForOn
-report-call-by-first b store k octets both pst addresses =
-    let under = sessionFor octets true (sessionUnder both pst) addresses in
-    by-first _ (reportForChecks (isRecord b (length store)) (tableIn b) k octets both pst addresses) (acceptanceOf (formOf pst) octets true)
+report-call-by-first b store k octets sessions pst addresses =
+    let under = sessionFor octets true (sessionUnder sessions pst) addresses in
+    by-first _ (reportForChecks (isRecord b (length store)) (tableIn b) k octets sessions pst addresses) (acceptanceOf (formOf pst) octets true)
     (omega arith, report-numbered (tableIn b) k octets under pst (isRecord b (length store))) refl
     (chosen (rule28 addresses) (resultOf (refusedBy notUsable 0) b) (reportOn b store k octets under pst)
     ∙ ap (λ (v : Verdict). cond (rule28 addresses) (refusedBy notUsable 0) v) (report-checked-on b store k octets under pst))

@@ -6,8 +6,8 @@ use mathlib.Core.Path.{_∙_, ap}
 use Prim.Native.Nat.{ℕ}
 use native.Mathlib.Omega.{arith}
 use borrow.Author.Needs.{needs}
-use Rattle.console_line_parts.proofs.part.Statement.{statement}
-use Rattle.console_line_parts.proofs.part.Tie as tie
+use Rattle.console_input_parts.proofs.part.Statement.{statement}
+use Rattle.console_input_parts.proofs.part.Tie as tie
 
 sub-word : tie.Need-sub-word
 sub-word c = search needs

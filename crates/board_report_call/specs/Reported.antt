@@ -16,17 +16,17 @@ use Rattle.board_rules.specs.Report.{reportAnswer, reportStore}
 use Rattle.board_rules.specs.OnRecord.{Result, resultOf, reportOn, reportStoreOn}
 
 unfoldable pub reportFor : Table → List ℕ → ℕ → List ℕ → Sessions → ℕ → List ℕ → Outcome
-reportFor b store k octets both pst addresses =
-    cond (rule28 addresses) (outcomeOf (refusedBy notUsable 0) b) (reportAnswer b store k octets (sessionFor octets true (sessionUnder both pst) addresses) pst)
+reportFor b store k octets sessions pst addresses =
+    cond (rule28 addresses) (outcomeOf (refusedBy notUsable 0) b) (reportAnswer b store k octets (sessionFor octets true (sessionUnder sessions pst) addresses) pst)
 
 -- the store after it; after 28 it is as it was
 unfoldable pub reportStoreFor : Table → List ℕ → ℕ → List ℕ → Sessions → ℕ → List ℕ → List ℕ
-reportStoreFor b store k octets both pst addresses = cond (rule28 addresses) store (reportStore b store k octets (sessionFor octets true (sessionUnder both pst) addresses) pst)
+reportStoreFor b store k octets sessions pst addresses = cond (rule28 addresses) store (reportStore b store k octets (sessionFor octets true (sessionUnder sessions pst) addresses) pst)
 
 -- the same on the record: 28 goes before 17, so before the record is looked at
 unfoldable pub reportForOn : Board → List ℕ → ℕ → List ℕ → Sessions → ℕ → List ℕ → Result
-reportForOn b store k octets both pst addresses =
-    cond (rule28 addresses) (resultOf (refusedBy notUsable 0) b) (reportOn b store k octets (sessionFor octets true (sessionUnder both pst) addresses) pst)
+reportForOn b store k octets sessions pst addresses =
+    cond (rule28 addresses) (resultOf (refusedBy notUsable 0) b) (reportOn b store k octets (sessionFor octets true (sessionUnder sessions pst) addresses) pst)
 
 unfoldable pub reportStoreForOn : Board → List ℕ → ℕ → List ℕ → Sessions → ℕ → List ℕ → List ℕ
-reportStoreForOn b store k octets both pst addresses = cond (rule28 addresses) store (reportStoreOn b store k octets (sessionFor octets true (sessionUnder both pst) addresses) pst)
+reportStoreForOn b store k octets sessions pst addresses = cond (rule28 addresses) store (reportStoreOn b store k octets (sessionFor octets true (sessionUnder sessions pst) addresses) pst)
