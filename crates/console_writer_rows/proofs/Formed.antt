@@ -9,7 +9,7 @@ use native.Mathlib.Omega.{arith}
 use borrow.Author.Tests.{leb-true}
 use Rattle.octets.proofs.Said.{both-true}
 use Rattle.words.specs.Words.{space, wordOf, wordsIn}
-use Rattle.decimal.specs.Decimal.{isAtMost, isNumber, decimalValue}
+use Rattle.decimal.specs.Decimal.{mostOctet, mostTwoOctets, isAtMost, isNumber, decimalValue}
 use Rattle.hexadecimal.specs.Hexadecimal.{octetsOf, isOctets, isSid, isNai}
 use Rattle.command_forms.specs.declared.verb.Verb.{Verb}
 use Rattle.command_forms.specs.declared.verb.Verb.the-variants as v
@@ -83,7 +83,7 @@ add-at line e =
     let b = fit-word twoOctets (sid ∷ nai ∷ structure ∷ bit ∷ bit ∷ []) line 4 (t .1) in
     let s = fit-word sid (nai ∷ structure ∷ bit ∷ bit ∷ []) line 5 (b .1) in
     let n = fit-word nai (structure ∷ bit ∷ bit ∷ []) line 6 (s .1) in
-    record { nt = at-most 255 _ (t .0); behaviour = at-most 65535 _ (b .0); sid = sid-short _ (s .0); nai = nai-short _ (n .0) }
+    record { nt = at-most mostOctet _ (t .0); behaviour = at-most mostTwoOctets _ (b .0); sid = sid-short _ (s .0); nai = nai-short _ (n .0) }
 
 -- "NT 0 to 255, BEHAVIOUR 0 to 65,535, SID 1 to 16 octets .. or `-`, NAI 0 to 40 octets"
 pub add-form : (line : List ℕ) {c : Command} → c ≡ commandOf line → c .verb ≡ v.Add → AddForm c line

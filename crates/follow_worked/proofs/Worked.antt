@@ -23,7 +23,7 @@ use Rattle.route_limit.specs.FirstOff.{underLimit, sessionFor}
 use Rattle.route_limit.proofs.Laws.{no-address}
 use Rattle.route_call.specs.Called.{rule28}
 use Rattle.board_report_call.specs.Reported.{reportFor, reportStoreFor}
-use Rattle.board_record.specs.Sizes.{bodyLeast}
+use Rattle.board_record.specs.Sizes.{storeSize, bodyLeast}
 use Rattle.board_record.specs.Table.{Table, tableOf, emptyTable, removalB}
 use Rattle.board_record.specs.Search.{firstWhere, leastWhere, placeIn, oldestOf, targetOf, floorAfter, wantedB, nextOf}
 use Rattle.board_record.specs.Proper.{allBelow, pathOk, placeOk, soundB, freshB, newB, distinctB, properB}
@@ -107,12 +107,12 @@ unfolding judgeOf judgeAs rule4 headed fitsIn apart apartOf rule5 rule6Place rul
     rule30 sumAt flagIn naiLength knows expectedLength kindOf headOf headAt octetOf be16 strayFlags structureFlags reservedOctets straysAt
 judgedB = refl
 
-report1 : reportWith emptyTable (replicate 49152 0) keyA objectA (acceptedWith 1) srv6Setup ≡ record { verdict = acceptedWith 1; table = table1 }
+report1 : reportWith emptyTable (replicate storeSize 0) keyA objectA (acceptedWith 1) srv6Setup ≡ record { verdict = acceptedWith 1; table = table1 }
 unfolding reportWith reportVerdict reportRules reported isBoard inRange properB soundB placeOk pathOk bodyLeast distinctB newB freshB allBelow
     targetOf placeIn oldestOf firstWhere leastWhere floorAfter removalB
 report1 = refl
 
-stored1 : storeWith emptyTable (replicate 49152 0) keyA objectA (acceptedWith 1) ≡ store1
+stored1 : storeWith emptyTable (replicate storeSize 0) keyA objectA (acceptedWith 1) ≡ store1
 unfolding storeWith reportVerdict reportRules isBoard inRange properB soundB placeOk pathOk bodyLeast distinctB newB freshB allBelow targetOf placeIn
     oldestOf firstWhere leastWhere removalB placed over
 stored1 = refl
@@ -272,8 +272,8 @@ told-at-noon = rw noon-is (refl, refl, refl, refl, refl)
 -- the floor is 0, and 3 after the compaction
 pub floors : (floorOf (noon .story) ≡ 0) × (floorOf (dusk .story) ≡ 3)
 floors =
-    let g : Ready emptyTable (replicate 49152 0) = record { sized = empty-sized; proper = empty-proper; enough = omega arith } in (
-      sym (numbers-are-the-storys emptyTable (replicate 49152 0) (allFresh emptyTable) g calls .1) ∙ ap (λ (x : World). x .table .floor) noon-is,
-      sym (numbers-are-the-storys emptyTable (replicate 49152 0) (allFresh emptyTable) g (calls ++ (compact 3 ∷ [])) .1)
+    let g : Ready emptyTable (replicate storeSize 0) = record { sized = empty-sized; proper = empty-proper; enough = omega arith } in (
+      sym (numbers-are-the-storys emptyTable (replicate storeSize 0) (allFresh emptyTable) g calls .1) ∙ ap (λ (x : World). x .table .floor) noon-is,
+      sym (numbers-are-the-storys emptyTable (replicate storeSize 0) (allFresh emptyTable) g (calls ++ (compact 3 ∷ [])) .1)
           ∙ ap (λ (x : World). x .table .floor) dusk-is,
     )
