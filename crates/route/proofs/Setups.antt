@@ -90,7 +90,7 @@ module _ (s : List ℕ) (ero : Bool) (session : Session) (pst : ℕ) (z : judgeO
       answer.accepted-body srv6Form s ero session pst 16 srv6-shortest (subst (λ (x : Form). judgeAs x s ero session pst .number ≡ 0) (sym (form-srv6 pst n)) z)
 
 -- The numbers answered are none of the board's.
-pub judge-low : (s : List ℕ) (ero : Bool) (session : Session) (pst : ℕ) → numbers.Apart (judgeOf s ero session pst .number)
+pub judge-low : (s : List ℕ) (ero : Bool) (session : Session) (pst : ℕ) → numbers.OtherNumber (judgeOf s ero session pst .number)
 unfolding judgeOf
 judge-low s ero session pst = numbers.judge-low (formOf pst) s ero session pst
 
