@@ -50,10 +50,6 @@ range-passed k e =
     let p = both-true (leb keyLeast k) (leb k keyMost) (not-false (leb keyLeast k && leb k keyMost) e) in
     (leb-true keyLeast k (p .0), leb-true k keyMost (p .1))
 
-pub range-is : (k : ℕ) → keyLeast ≤ k → k ≤ keyMost → inRange k ≡ true
-unfolding inRange
-range-is k l m = rw (le-leb keyLeast k l, le-leb k keyMost m)
-
 -- ---- 17: "exactly if the store is shorter than 49,152 octets or the record isn't proper"
 pub record IsBoard (b : Table) (n : ℕ) : Type 0 where
   pub store : storeSize ≤ n
