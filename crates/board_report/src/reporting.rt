@@ -47,12 +47,10 @@ pub fn report(
     ensures answer { λ r.
         let before =
         boardOf (now (keys .entry)) (now (versions .entry)) (now (lengths .entry)) (now (version .entry)) (now (floor .entry)) (now (order .entry)) (now (tops .entry)) (now (forms .entry)) in
-        let after = boardOf (now (keys .exit)) (now (versions .exit)) (now (lengths .exit)) (now (version .exit)) (now (floor .exit)) (now (order .exit)) (now (tops .exit)) (now (forms .exit)) in
-        ⌜ resultOf r after ≡ reportOn before (now (store .entry)) key (now (octets .entry)) session pst ⌝ }
-    ensures stored { λ r.
-        let before =
-        boardOf (now (keys .entry)) (now (versions .entry)) (now (lengths .entry)) (now (version .entry)) (now (floor .entry)) (now (order .entry)) (now (tops .entry)) (now (forms .entry)) in
-        ⌜ now (store .exit) ≡ reportStoreOn before (now (store .entry)) key (now (octets .entry)) session pst ⌝ }
+        let after =
+        boardOf (now (keys .exit)) (now (versions .exit)) (now (lengths .exit)) (now (version .exit)) (now (floor .exit)) (now (order .exit)) (now (tops .exit)) (now (forms .exit)) in
+        ⌜ (resultOf r after ≡ reportOn before (now (store .entry)) key (now (octets .entry)) session pst)
+        × (now (store .exit) ≡ reportStoreOn before (now (store .entry)) key (now (octets .entry)) session pst) ⌝ }
 {
     if !is_board(
         keys,

@@ -29,12 +29,10 @@ pub fn report(
     ensures answer { λ r.
         let before =
         boardOf (now (keys .entry)) (now (versions .entry)) (now (lengths .entry)) (now (version .entry)) (now (floor .entry)) (now (order .entry)) (now (tops .entry)) (now (forms .entry)) in
-        let after = boardOf (now (keys .exit)) (now (versions .exit)) (now (lengths .exit)) (now (version .exit)) (now (floor .exit)) (now (order .exit)) (now (tops .exit)) (now (forms .exit)) in
-        ⌜ resultOf r after ≡ reportForOn before (now (store .entry)) key (now (octets .entry)) sessions pst (now (addresses .entry)) ⌝ }
-    ensures stored { λ r.
-        let before =
-        boardOf (now (keys .entry)) (now (versions .entry)) (now (lengths .entry)) (now (version .entry)) (now (floor .entry)) (now (order .entry)) (now (tops .entry)) (now (forms .entry)) in
-        ⌜ now (store .exit) ≡ reportStoreForOn before (now (store .entry)) key (now (octets .entry)) sessions pst (now (addresses .entry)) ⌝ }
+        let after =
+        boardOf (now (keys .exit)) (now (versions .exit)) (now (lengths .exit)) (now (version .exit)) (now (floor .exit)) (now (order .exit)) (now (tops .exit)) (now (forms .exit)) in
+        ⌜ (resultOf r after ≡ reportForOn before (now (store .entry)) key (now (octets .entry)) sessions pst (now (addresses .entry)))
+        × (now (store .exit) ≡ reportStoreForOn before (now (store .entry)) key (now (octets .entry)) sessions pst (now (addresses .entry))) ⌝ }
 {
     if !head_end::usable(addresses) {
         return refused(NOT_USABLE, 0);

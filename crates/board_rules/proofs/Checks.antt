@@ -36,10 +36,10 @@ use Rattle.board_rules.specs.Report.{bodyIn, reportRules, reportVerdict,
 use Rattle.board_rules.specs.Remove.{removeRules, removeVerdict, removeAnswer}
 use Rattle.board_rules.specs.Compact.{compactRules, compactVerdict, compactAnswer}
 use Rattle.board_rules.specs.Body.{bodyRules, bodyNumber}
-use Rattle.board_rules.specs.Next.{nextRules, nextVerdict, changeAt, handedAt, nextAnswer}
+use Rattle.board_rules.specs.Next.{nextRules, nextVerdict, changeAt, handedAt, nextAnswer, verdictIn}
 use Rattle.board_rules.specs.Moved.{movedRules, movedVerdict, movedAnswer}
 use Rattle.board_rules.specs.OnRecord.{isRecord, verdictOn, resultOn, reportOn, removeOn, compactOn, bodyNumberOn, nextOn, movedOn}
-use Rattle.board_rules.specs.Checks.{pathAtB, fullB, noPathB, reportChecks, removeChecks, compactChecks, bodyChecks, nextChecks, movedChecks, verdictIn}
+use Rattle.board_rules.specs.Checks.{pathAtB, fullB, noPathB, reportChecks, removeChecks, compactChecks, bodyChecks, nextChecks, movedChecks}
 use Rattle.board_rules.proofs.Verdicts.{range-passed, board-whole, path-there, path-has}
 
 -- the rest of a list

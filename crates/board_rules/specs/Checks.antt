@@ -6,9 +6,7 @@ use mathlib.Core.Bool.{Bool, true, not, _&&_, _||_}
 use mathlib.Core.List.{List, [], _∷_, _++_}
 use lib.ListN.{length}
 use lib.Dec.{eqb, ltb}
-use Rattle.answers.specs.declared.verdict.Verdict.{Verdict}
 use Rattle.answers.specs.Numbers.{notABoard, keyOutOfRange, bodyTooLong, versionsUsedUp, allPaths, noPath, markTooOld, markAhead}
-use Rattle.answers.specs.Verdicts.{acceptedWith}
 use Rattle.session.specs.declared.Session.{Session}
 use Rattle.forms.specs.Forms.{formOf}
 use Rattle.frame.specs.Checks.{Check, check}
@@ -16,8 +14,6 @@ use Rattle.route.specs.Routes.{checksOf}
 use Rattle.board_record.specs.Sizes.{places, room, versionMost}
 use Rattle.board_record.specs.Table.{Table, keyAt, lengthAt}
 use Rattle.board_record.specs.Proper.{allBelow, freshB}
-use Rattle.board_rules.specs.declared.answer.Handed.{Handed}
-use Rattle.board_rules.specs.declared.answer.Handed.the-variants.{Refused, Path, Removed, Level}
 use Rattle.board_rules.specs.Rules.{inRange}
 use Rattle.board_rules.specs.Report.{bodyIn}
 
@@ -83,10 +79,3 @@ movedChecks whole b v =
     ∷ (check markAhead 0 (ltb (b .version) v)
     ∷ (check markTooOld 0 (ltb v (b .floor))
     ∷ []))
-
--- the verdict that an answer of next stands for
-abbrev pub verdictIn : Handed → Verdict
-verdictIn (Refused v) = v
-verdictIn (Path c o) = acceptedWith 0
-verdictIn (Removed c) = acceptedWith 0
-verdictIn (Level v) = acceptedWith 0

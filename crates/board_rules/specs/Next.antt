@@ -48,12 +48,16 @@ handedAt b i = cond (ltb i places) (changeAt b i) (Level (b .version))
 unfoldable pub nextAnswer : Table → List ℕ → ℕ → ℕ → Handed
 nextAnswer b store s w = cond (eqb (nextVerdict b store s w .number) 0) (handedAt b (nextOf b s w)) (Refused (nextVerdict b store s w))
 
+-- the verdict that an answer of next stands for
+abbrev pub verdictIn : Handed → Verdict
+verdictIn (Refused v) = v
+verdictIn (Path c o) = acceptedWith 0
+verdictIn (Removed c) = acceptedWith 0
+verdictIn (Level v) = acceptedWith 0
+
 -- the number that an answer stands for
 abbrev pub numberIn : Handed → ℕ
-numberIn (Refused v) = v .number
-numberIn (Path c o) = 0
-numberIn (Removed c) = 0
-numberIn (Level v) = 0
+numberIn h = verdictIn h .number
 
 -- "A fresh mark is the board's version for s and 0 for w, with the follower empty."
 abbrev pub freshMark : Table → Mark

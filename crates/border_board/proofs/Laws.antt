@@ -18,7 +18,7 @@ told v r after a e o = (o ∙ ap (λ (x : Result). verdictOut (x .verdict)) e, a
 -- The same where answer and store hang on the sessions that came in as a record.
 pub told-under : (answer : Sessions → Result) (store : Sessions → List ℕ) (s : Sessions) (x : SessionRecord) (v : Verdict) (r : VerdictRecord) (after : Board)
     (octets : List ℕ) → s ≡ sessionsIn x → resultOf v after ≡ answer s → octets ≡ store s → r ≡ verdictOut v
-    → (r ≡ verdictOut (answer (sessionsIn x) .verdict)) × ((after ≡ answer (sessionsIn x) .board) × (octets ≡ store (sessionsIn x)))
+    → (r ≡ verdictOut (answer (sessionsIn x) .verdict)) × (after ≡ answer (sessionsIn x) .board) × (octets ≡ store (sessionsIn x))
 told-under answer store s x v r after octets f e g o =
     let t = told v r after (answer (sessionsIn x)) (e ∙ ap answer f) o in
-    (t .0, (t .1, g ∙ ap store f))
+    (t .0, t .1, g ∙ ap store f)

@@ -56,19 +56,14 @@ pub fn report(
     pst: u64,
     addresses: &[u8],
 ) -> VerdictRecord
-    ensures verdict { λ r.
+    ensures answer { λ r.
         let before =
         boardOf (now (keys .entry)) (now (versions .entry)) (now (lengths .entry)) (now (version .entry)) (now (floor .entry)) (now (order .entry)) (now (tops .entry)) (now (forms .entry)) in
-        ⌜ r ≡ verdictOut (reportForOn before (now (store .entry)) key (now (octets .entry)) (sessionsIn session) pst (now (addresses .entry)) .verdict) ⌝ }
-    ensures board { λ _.
-        let before =
-        boardOf (now (keys .entry)) (now (versions .entry)) (now (lengths .entry)) (now (version .entry)) (now (floor .entry)) (now (order .entry)) (now (tops .entry)) (now (forms .entry)) in
-        let after = boardOf (now (keys .exit)) (now (versions .exit)) (now (lengths .exit)) (now (version .exit)) (now (floor .exit)) (now (order .exit)) (now (tops .exit)) (now (forms .exit)) in
-        ⌜ after ≡ reportForOn before (now (store .entry)) key (now (octets .entry)) (sessionsIn session) pst (now (addresses .entry)) .board ⌝ }
-    ensures stored { λ _.
-        let before =
-        boardOf (now (keys .entry)) (now (versions .entry)) (now (lengths .entry)) (now (version .entry)) (now (floor .entry)) (now (order .entry)) (now (tops .entry)) (now (forms .entry)) in
-        ⌜ now (store .exit) ≡ reportStoreForOn before (now (store .entry)) key (now (octets .entry)) (sessionsIn session) pst (now (addresses .entry)) ⌝ }
+        let after =
+        boardOf (now (keys .exit)) (now (versions .exit)) (now (lengths .exit)) (now (version .exit)) (now (floor .exit)) (now (order .exit)) (now (tops .exit)) (now (forms .exit)) in
+        ⌜ (r ≡ verdictOut (reportForOn before (now (store .entry)) key (now (octets .entry)) (sessionsIn session) pst (now (addresses .entry)) .verdict))
+        × (after ≡ reportForOn before (now (store .entry)) key (now (octets .entry)) (sessionsIn session) pst (now (addresses .entry)) .board)
+        × (now (store .exit) ≡ reportStoreForOn before (now (store .entry)) key (now (octets .entry)) (sessionsIn session) pst (now (addresses .entry))) ⌝ }
 {
     let sessions = border_session::sessions_in(session);
     let v = board_report_call::report(

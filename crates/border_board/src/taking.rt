@@ -18,13 +18,13 @@ pub fn remove(
     store: &[u8],
     key: u64,
 ) -> VerdictRecord
-    ensures verdict { λ r.
-        let before = boardOf (now (keys .entry)) (now (versions .entry)) (now (lengths .entry)) (now (version .entry)) floor (now (order .entry)) (now (tops .entry)) (now (forms .entry)) in
-        ⌜ r ≡ verdictOut (removeOn before (now (store .entry)) key .verdict) ⌝ }
-    ensures board { λ _.
-        let before = boardOf (now (keys .entry)) (now (versions .entry)) (now (lengths .entry)) (now (version .entry)) floor (now (order .entry)) (now (tops .entry)) (now (forms .entry)) in
-        let after = boardOf (now (keys .entry)) (now (versions .exit)) (now (lengths .exit)) (now (version .exit)) floor (now (order .exit)) (now (tops .exit)) (now (forms .exit)) in
-        ⌜ after ≡ removeOn before (now (store .entry)) key .board ⌝ }
+    ensures answer { λ r.
+        let before =
+        boardOf (now (keys .entry)) (now (versions .entry)) (now (lengths .entry)) (now (version .entry)) floor (now (order .entry)) (now (tops .entry)) (now (forms .entry)) in
+        let after =
+        boardOf (now (keys .entry)) (now (versions .exit)) (now (lengths .exit)) (now (version .exit)) floor (now (order .exit)) (now (tops .exit)) (now (forms .exit)) in
+        ⌜ (r ≡ verdictOut (removeOn before (now (store .entry)) key .verdict))
+        × (after ≡ removeOn before (now (store .entry)) key .board) ⌝ }
 {
     let v = board_remove::remove(
         keys,
@@ -54,13 +54,13 @@ pub fn compact<'a>(
     store: &[u8],
     c: u64,
 ) -> VerdictRecord
-    ensures verdict { λ r.
-        let before = boardOf (now (keys .entry)) (now (versions .entry)) (now (lengths .entry)) version (now (floor .entry)) (now (order .entry)) (now (tops .entry)) (now (forms .entry)) in
-        ⌜ r ≡ verdictOut (compactOn before (now (store .entry)) c .verdict) ⌝ }
-    ensures board { λ _.
-        let before = boardOf (now (keys .entry)) (now (versions .entry)) (now (lengths .entry)) version (now (floor .entry)) (now (order .entry)) (now (tops .entry)) (now (forms .entry)) in
-        let after = boardOf (now (keys .exit)) (now (versions .exit)) (now (lengths .entry)) version (now (floor .exit)) (now (order .exit)) (now (tops .exit)) (now (forms .entry)) in
-        ⌜ after ≡ compactOn before (now (store .entry)) c .board ⌝ }
+    ensures answer { λ r.
+        let before =
+        boardOf (now (keys .entry)) (now (versions .entry)) (now (lengths .entry)) version (now (floor .entry)) (now (order .entry)) (now (tops .entry)) (now (forms .entry)) in
+        let after =
+        boardOf (now (keys .exit)) (now (versions .exit)) (now (lengths .entry)) version (now (floor .exit)) (now (order .exit)) (now (tops .exit)) (now (forms .entry)) in
+        ⌜ (r ≡ verdictOut (compactOn before (now (store .entry)) c .verdict))
+        × (after ≡ compactOn before (now (store .entry)) c .board) ⌝ }
 {
     let v = board_compact::compact(
         keys,

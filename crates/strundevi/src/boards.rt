@@ -51,19 +51,14 @@ pub extern "C" fn strundevi_raw_report(
     pst: u64,
     addresses: &[u8],
 ) -> VerdictRecord
-    ensures verdict { λ r.
+    ensures answer { λ r.
         let before =
         boardOf (now (keys .entry)) (now (versions .entry)) (now (lengths .entry)) (now (version .entry)) (now (floor .entry)) (now (order .entry)) (now (tops .entry)) (now (forms .entry)) in
-        ⌜ r ≡ verdictOut (reportForOn before (now (store .entry)) key (now (octets .entry)) (sessionsIn session) pst (now (addresses .entry)) .verdict) ⌝ }
-    ensures board { λ _.
-        let before =
-        boardOf (now (keys .entry)) (now (versions .entry)) (now (lengths .entry)) (now (version .entry)) (now (floor .entry)) (now (order .entry)) (now (tops .entry)) (now (forms .entry)) in
-        let after = boardOf (now (keys .exit)) (now (versions .exit)) (now (lengths .exit)) (now (version .exit)) (now (floor .exit)) (now (order .exit)) (now (tops .exit)) (now (forms .exit)) in
-        ⌜ after ≡ reportForOn before (now (store .entry)) key (now (octets .entry)) (sessionsIn session) pst (now (addresses .entry)) .board ⌝ }
-    ensures stored { λ _.
-        let before =
-        boardOf (now (keys .entry)) (now (versions .entry)) (now (lengths .entry)) (now (version .entry)) (now (floor .entry)) (now (order .entry)) (now (tops .entry)) (now (forms .entry)) in
-        ⌜ now (store .exit) ≡ reportStoreForOn before (now (store .entry)) key (now (octets .entry)) (sessionsIn session) pst (now (addresses .entry)) ⌝ }
+        let after =
+        boardOf (now (keys .exit)) (now (versions .exit)) (now (lengths .exit)) (now (version .exit)) (now (floor .exit)) (now (order .exit)) (now (tops .exit)) (now (forms .exit)) in
+        ⌜ (r ≡ verdictOut (reportForOn before (now (store .entry)) key (now (octets .entry)) (sessionsIn session) pst (now (addresses .entry)) .verdict))
+        × (after ≡ reportForOn before (now (store .entry)) key (now (octets .entry)) (sessionsIn session) pst (now (addresses .entry)) .board)
+        × (now (store .exit) ≡ reportStoreForOn before (now (store .entry)) key (now (octets .entry)) (sessionsIn session) pst (now (addresses .entry))) ⌝ }
 {
     border_board::report(
         keys,
@@ -97,13 +92,13 @@ pub extern "C" fn strundevi_raw_remove(
     store: &[u8],
     key: u64,
 ) -> VerdictRecord
-    ensures verdict { λ r.
-        let before = boardOf (now (keys .entry)) (now (versions .entry)) (now (lengths .entry)) (now (version .entry)) floor (now (order .entry)) (now (tops .entry)) (now (forms .entry)) in
-        ⌜ r ≡ verdictOut (removeOn before (now (store .entry)) key .verdict) ⌝ }
-    ensures board { λ _.
-        let before = boardOf (now (keys .entry)) (now (versions .entry)) (now (lengths .entry)) (now (version .entry)) floor (now (order .entry)) (now (tops .entry)) (now (forms .entry)) in
-        let after = boardOf (now (keys .entry)) (now (versions .exit)) (now (lengths .exit)) (now (version .exit)) floor (now (order .exit)) (now (tops .exit)) (now (forms .exit)) in
-        ⌜ after ≡ removeOn before (now (store .entry)) key .board ⌝ }
+    ensures answer { λ r.
+        let before =
+        boardOf (now (keys .entry)) (now (versions .entry)) (now (lengths .entry)) (now (version .entry)) floor (now (order .entry)) (now (tops .entry)) (now (forms .entry)) in
+        let after =
+        boardOf (now (keys .entry)) (now (versions .exit)) (now (lengths .exit)) (now (version .exit)) floor (now (order .exit)) (now (tops .exit)) (now (forms .exit)) in
+        ⌜ (r ≡ verdictOut (removeOn before (now (store .entry)) key .verdict))
+        × (after ≡ removeOn before (now (store .entry)) key .board) ⌝ }
 {
     border_board::remove(
         keys,
@@ -133,13 +128,13 @@ pub extern "C" fn strundevi_raw_compact<'a>(
     store: &[u8],
     c: u64,
 ) -> VerdictRecord
-    ensures verdict { λ r.
-        let before = boardOf (now (keys .entry)) (now (versions .entry)) (now (lengths .entry)) version (now (floor .entry)) (now (order .entry)) (now (tops .entry)) (now (forms .entry)) in
-        ⌜ r ≡ verdictOut (compactOn before (now (store .entry)) c .verdict) ⌝ }
-    ensures board { λ _.
-        let before = boardOf (now (keys .entry)) (now (versions .entry)) (now (lengths .entry)) version (now (floor .entry)) (now (order .entry)) (now (tops .entry)) (now (forms .entry)) in
-        let after = boardOf (now (keys .exit)) (now (versions .exit)) (now (lengths .entry)) version (now (floor .exit)) (now (order .exit)) (now (tops .exit)) (now (forms .entry)) in
-        ⌜ after ≡ compactOn before (now (store .entry)) c .board ⌝ }
+    ensures answer { λ r.
+        let before =
+        boardOf (now (keys .entry)) (now (versions .entry)) (now (lengths .entry)) version (now (floor .entry)) (now (order .entry)) (now (tops .entry)) (now (forms .entry)) in
+        let after =
+        boardOf (now (keys .exit)) (now (versions .exit)) (now (lengths .entry)) version (now (floor .exit)) (now (order .exit)) (now (tops .exit)) (now (forms .entry)) in
+        ⌜ (r ≡ verdictOut (compactOn before (now (store .entry)) c .verdict))
+        × (after ≡ compactOn before (now (store .entry)) c .board) ⌝ }
 {
     border_board::compact(
         keys,
@@ -169,15 +164,12 @@ pub extern "C" fn strundevi_raw_body<'a>(
     store: &[u8],
     key: u64,
 ) -> PartRecord
-    ensures part { λ r.
-        let b = boardOf (now (keys .entry)) (now (versions .entry)) (now (lengths .entry)) version floor (now (order .entry)) (now (tops .entry)) (now (forms .entry)) in
-        ⌜ r ≡ partOut b (now (store .entry)) key ⌝ }
-    ensures octets { λ r.
-        let b = boardOf (now (keys .entry)) (now (versions .entry)) (now (lengths .entry)) version floor (now (order .entry)) (now (tops .entry)) (now (forms .entry)) in
-        ⌜ part (now (store .entry)) (r .start) (r .length) ≡ bodyOn b (now (store .entry)) key ⌝ }
-    ensures form { λ r.
-        let b = boardOf (now (keys .entry)) (now (versions .entry)) (now (lengths .entry)) version floor (now (order .entry)) (now (tops .entry)) (now (forms .entry)) in
-        ⌜ r .form ≡ bodyFormOn b (now (store .entry)) key ⌝ }
+    ensures answer { λ r.
+        let b =
+        boardOf (now (keys .entry)) (now (versions .entry)) (now (lengths .entry)) version floor (now (order .entry)) (now (tops .entry)) (now (forms .entry)) in
+        ⌜ (r ≡ partOut b (now (store .entry)) key)
+        × (part (now (store .entry)) (r .start) (r .length) ≡ bodyOn b (now (store .entry)) key)
+        × (r .form ≡ bodyFormOn b (now (store .entry)) key) ⌝ }
 {
     border_looks::body(
         keys,
