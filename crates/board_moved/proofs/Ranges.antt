@@ -1,18 +1,18 @@
 -- The loop over the groups: no place of those before has moved. In a group whose largest version is not above v none has. Assumes nothing.
-use Prim.Native.Nat.{ℕ, zero, suc, _+_, _-_, _*_, _/_, _<_, _≤_}
+use Prim.Native.Nat.{ℕ, _+_, _-_, _*_, _<_, _≤_}
 use native.Mathlib.Omega.{arith}
-use mathlib.Core.Path.{_≡_, refl, sym, ap, _∙_, subst}
+use mathlib.Core.Path.{_≡_, sym, ap, _∙_}
 use mathlib.Core.Bool.{Bool, true, false, not, _&&_}
 use mathlib.Core.List.{List}
-use mathlib.Core.Logic.{_⊎_, inl, inr, ⊎-elim}
+use mathlib.Core.Logic.{_⊎_, ⊎-elim}
 use lib.ListN.{getD}
 use lib.Dec.{eqb, ltb, leb}
 use borrow.Author.Tests.{le-ltb}
 use Rattle.octets.proofs.Said.{and-false}
-use Rattle.board_record.specs.Sizes.{places, group, groups}
+use Rattle.board_record.specs.Sizes.{groups}
 use Rattle.board_record.specs.Lists.{anyBelow}
 use Rattle.board_record.specs.Search.{movedB, movedIn}
-use Rattle.board_record.specs.Tops.{topOf, inTops}
+use Rattle.board_record.specs.Tops.{inTops}
 use Rattle.board_record.proofs.Logic.{from?}
 use Rattle.board_record.proofs.Looks.{any-of, any-not, any-at, any-where}
 use Rattle.board_record.proofs.Tops.{top-of, tops-top}

@@ -1,17 +1,16 @@
 -- The next change, along the order: no place before number i is wanted (`Along`). The first wanted one has the smallest version, since versions rise; and where the
 -- places on the order end there is none. Assumes nothing.
-use Prim.Native.Nat.{ℕ, zero, suc, _+_, _<_, _≤_}
+use Prim.Native.Nat.{ℕ, _+_, _<_, _≤_}
 use native.Mathlib.Omega.{arith}
-use mathlib.Core.Path.{_≡_, refl, sym, ap, _∙_, subst}
-use mathlib.Core.Bool.{Bool, true}
+use mathlib.Core.Path.{_≡_, sym, ap, _∙_, subst}
+use mathlib.Core.Bool.{true}
 use mathlib.Core.List.{List}
 use mathlib.Core.Logic.{_⊎_, inl, inr, ⊎-elim}
-use lib.ListN.{getD}
 use Rattle.board_record.specs.Sizes.{places}
-use Rattle.board_record.specs.Table.{Table, keyAt, versionAt, lengthAt, Used, RemovalAt, PathAt}
+use Rattle.board_record.specs.Table.{Table, versionAt, lengthAt, Used}
 use Rattle.board_record.specs.Search.{Wanted, path, removal, NextChange, nextOf}
-use Rattle.board_record.specs.Proper.{Proper, properB}
-use Rattle.board_record.specs.Order.{placeOn, OnOrder, Chained, inOrder}
+use Rattle.board_record.specs.Proper.{properB}
+use Rattle.board_record.specs.Order.{placeOn, Chained, inOrder}
 use Rattle.board_record.proofs.Logic.{same?, from?}
 use Rattle.board_record.proofs.Search.{wanted-used, next-is, next-none, next-one, next-most}
 use Rattle.board_record.proofs.Proper.{proper-is}

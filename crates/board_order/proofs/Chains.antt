@@ -1,22 +1,22 @@
 -- A table has one chain, and a table whose versions are distinct has the one of `orderOf`. Of two chains the numbers are equal one after the other (`same-order`): the
 -- first place on which they differ would stand later on the other one, behind a place of higher version. That `orderOf` is chained needs that each number below the count of
 -- used places is the number of older changes of one of them (`ranked`): no two share it, and as many are hit as places are used. Assumes nothing.
-use Prim.Native.Nat.{ℕ, zero, suc, _+_, _<_, _≤_}
+use Prim.Native.Nat.{ℕ, zero, suc, _<_, _≤_}
 use native.Mathlib.Omega.{arith}
 use mathlib.Core.Path.{_≡_, refl, sym, ap, _∙_, subst}
-use mathlib.Core.Bool.{Bool, true, false, not, _&&_}
+use mathlib.Core.Bool.{Bool, true, false, _&&_}
 use mathlib.Core.List.{List}
-use mathlib.Core.Logic.{_⊎_, inl, inr, ⊎-elim}
+use mathlib.Core.Logic.{_⊎_, ⊎-elim}
 use lib.ListN.{getD, length}
 use lib.Seq.{ext-getD}
 use lib.Dec.{eqb, ltb}
-use borrow.Author.Tests.{eq-eqb, ne-eqb, eqb-true, eqb-false, lt-ltb, le-ltb, ltb-true, not-true}
+use borrow.Author.Tests.{eq-eqb, eqb-true, lt-ltb, le-ltb, ltb-true}
 use borrow.Author.Count.{below-more}
 use Rattle.board_record.specs.Sizes.{places}
 use Rattle.board_record.specs.Lists.{row, countBelow}
-use Rattle.board_record.specs.Table.{Table, keyAt, versionAt, Used, usedB}
+use Rattle.board_record.specs.Table.{Table, versionAt, Used, usedB}
 use Rattle.board_record.specs.Search.{firstWhere}
-use Rattle.board_record.specs.Proper.{Proper, allBelow}
+use Rattle.board_record.specs.Proper.{Proper}
 use Rattle.board_record.specs.Order.{named, placeOn, OnOrder, Chained, olderOf, placeAt, orderNumber, orderOf, inOrder}
 use Rattle.octets.proofs.Said.{both-true, and-false}
 use Rattle.board_record.proofs.Logic.{true≢false, same?, from?}

@@ -1,15 +1,15 @@
 -- The order after a compaction. So far the first `kept` numbers are those of the first i that are used places, in their order, and the numbers from i on are as they were
 -- (`Sifting`); a turn keeps one more, or none; and the numbers behind those kept become 0 (`Filling`). Assumes nothing.
-use Prim.Native.Nat.{ℕ, zero, suc, _+_, _-_, _<_, _≤_}
+use Prim.Native.Nat.{ℕ, _+_, _-_, _<_, _≤_}
 use native.Mathlib.Omega.{arith}
 use mathlib.Core.Path.{_≡_, refl, sym, ap, _∙_, subst}
 use mathlib.Core.List.{List}
-use mathlib.Core.Logic.{_⊎_, inl, inr, ⊎-elim}
+use mathlib.Core.Logic.{_⊎_, ⊎-elim}
 use lib.ListN.{getD, set, length, length-set}
 use lib.Seq.{getD-set-same, getD-set-other}
 use Rattle.board_record.specs.Sizes.{places}
-use Rattle.board_record.specs.Table.{Table, keyAt, versionAt, Used}
-use Rattle.board_record.specs.Order.{named, placeOn, OnOrder, Chained, orderOf}
+use Rattle.board_record.specs.Table.{Table, versionAt, Used}
+use Rattle.board_record.specs.Order.{named, placeOn, Chained, orderOf}
 use Rattle.board_record.proofs.Logic.{same?, from?}
 use Rattle.board_order_drops.specs.Loose.{Loose}
 use Rattle.board_order.proofs.Names.{named-none}

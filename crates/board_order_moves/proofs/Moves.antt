@@ -1,15 +1,15 @@
 -- The order after a change. `shift` takes one number out, moves those behind it up and puts a place behind them (`Shifting`, pointwise). Where the number taken out is that
 -- of the place, or the first that is no place, the order is the chain of the table in which that place holds the newest change (`shift-chained`); and the two looks along
 -- the order find that number, and the last one (`Spot`). Assumes nothing.
-use Prim.Native.Nat.{ℕ, zero, suc, _+_, _-_, _<_, _≤_}
+use Prim.Native.Nat.{ℕ, _+_, _-_, _<_, _≤_}
 use native.Mathlib.Omega.{arith}
 use mathlib.Core.Path.{_≡_, refl, sym, ap, _∙_, subst}
-use mathlib.Core.Bool.{Bool, true, false, not, cond, _&&_}
+use mathlib.Core.Bool.{Bool, true, false, not}
 use mathlib.Core.List.{List}
 use mathlib.Core.Logic.{_⊎_, inl, inr, ⊎-elim}
 use lib.ListN.{getD, set, length, length-set}
 use lib.Seq.{ext-getD, getD-set-same, getD-set-other}
-use lib.Dec.{eqb, ltb}
+use lib.Dec.{eqb}
 use borrow.Author.Tests.{eq-eqb, ne-eqb, eqb-true, eqb-false, lt-ltb, le-ltb, not-true, not-false}
 use Rattle.board_record.specs.Sizes.{places}
 use Rattle.board_record.specs.Lists.{row, countBelow}
@@ -17,8 +17,8 @@ use Rattle.board_record.specs.Table.{Table, Entry, keyAt, versionAt, Used, Empt
 use Rattle.board_record.specs.Proper.{Proper, properB}
 use Rattle.board_record.specs.Order.{named, placeOn, OnOrder, Chained, orderOf, inOrder}
 use Rattle.board_order.proofs.Names.{named-none, named-place, number-is}
-use Rattle.board_record.proofs.Logic.{true≢false, same?, from?}
-use Rattle.board_record.proofs.Lists.{length-row, row-at, count-less, count-full, Hit, hits, hits-where, count-hits}
+use Rattle.board_record.proofs.Logic.{same?, from?}
+use Rattle.board_record.proofs.Lists.{length-row, row-at, count-less, count-full, hits, hits-where, count-hits}
 use Rattle.board_record.proofs.Proper.{proper-is}
 use Rattle.board_order_moves.specs.Shifts.{lastWhere, shiftedAt, shifted}
 use Rattle.board_order.proofs.Chains.{proper-apart, once, order-is, in-chained}

@@ -1,14 +1,14 @@
 -- The place that a number names, and a version behind the last one, as the code tests it. Assumes nothing.
 use Prim.Native.Nat.{ℕ, _+_, _<_, _≤_, _%_}
 use native.Mathlib.Omega.{arith}
-use mathlib.Core.Path.{_≡_, refl, sym, ap, _∙_}
-use mathlib.Core.Bool.{Bool, true, false, not, _&&_, _||_}
-use mathlib.Core.Logic.{_⊎_, inl, inr, ⊎-elim}
+use mathlib.Core.Path.{_≡_, sym, ap, _∙_}
+use mathlib.Core.Bool.{true, false, not}
+use mathlib.Core.Logic.{_⊎_, ⊎-elim}
 use lib.Dec.{eqb, ltb}
 use borrow.Author.Tests.{eq-eqb, ne-eqb, lt-ltb, le-ltb}
 use Rattle.octets.proofs.Said.{and-false, or-true}
 use Rattle.board_record.specs.Order.{named}
-use Rattle.board_record.proofs.Logic.{same?, from?}
+use Rattle.board_record.proofs.Logic.{same?}
 use Rattle.board_order.proofs.Names.{named-none, named-some, named-place}
 use Rattle.board_order_numbers.specs.Numbers.{Numbered, lateB}
 

@@ -2,7 +2,7 @@
 --
 -- Buckets of a hash over a list of keys, 0 standing for none: where in the list the keys with one hash stand, the last one first. The list of heads has for each
 -- hash 1 more than the last place below i with it, the list of links for each place 1 more than the place before it in its bucket; 0 ends a bucket.
-use Prim.Native.Nat.{ℕ, _+_, _-_, _*_, _<_, _≤_, _%_, _/_}
+use Prim.Native.Nat.{ℕ, _-_, _*_, _<_, _≤_, _%_, _/_}
 use mathlib.Core.Path.{_≡_}
 use mathlib.Core.List.{List}
 use lib.ListN.{getD, length}

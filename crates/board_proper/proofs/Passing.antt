@@ -4,22 +4,21 @@
 use Prim.Native.Nat.{ℕ, zero, suc, _+_, _-_, _<_, _≤_}
 use native.Mathlib.Omega.{arith}
 use mathlib.Core.Path.{_≡_, refl, sym, ap, _∙_, subst}
-use mathlib.Core.Bool.{Bool, true, false, not, cond, _&&_, _||_}
+use mathlib.Core.Bool.{Bool, true, false, not, _&&_}
 use mathlib.Core.List.{List}
-use mathlib.Core.Logic.{_⊎_, inl, inr, ⊎-elim}
+use mathlib.Core.Logic.{_⊎_, ⊎-elim}
 use lib.ListN.{getD}
-use lib.Dec.{eqb, ltb, leb}
+use lib.Dec.{eqb, leb}
 use borrow.Author.Tests.{eq-eqb, ne-eqb, eqb-true, eqb-false, le-leb, lt-leb, leb-true, not-true}
 use Rattle.board_record.specs.Sizes.{places, keyMost, versionMost}
-use Rattle.board_record.specs.Lists.{row, countBelow}
+use Rattle.board_record.specs.Lists.{countBelow}
 use Rattle.board_record.specs.Table.{Table, keyAt, versionAt, lengthAt, formAt, entryAt, Used, usedB}
 use Rattle.board_record.specs.Proper.{Proper, allBelow, freshB, newB, properB}
-use Rattle.board_record.specs.Order.{named, placeOn, OnOrder, Chained, inOrder}
+use Rattle.board_record.specs.Order.{placeOn, Chained, inOrder}
 use Rattle.octets.proofs.Said.{both-true, said-yes}
 use Rattle.board_record.proofs.Logic.{true≢false, same?, from?}
-use Rattle.board_record.proofs.Lists.{count-same, count-full, count-most, count-less, count-equal, count-not, Hit, hits, hits-where, count-hits}
-use Rattle.board_record.proofs.All.{all-at, all-of, all-fails}
-use Rattle.board_record.proofs.Search.{used-is, is-used}
+use Rattle.board_record.proofs.Lists.{count-same, count-full, count-less, count-equal, count-not, Hit, hits, hits-where, count-hits}
+use Rattle.board_record.proofs.All.{all-at, all-of}
 use Rattle.board_record.proofs.Proper.{storable-is, is-storable, Sound, sound-none, sound-below, proper-sound, sound-proper, proper-is, is-proper}
 use Rattle.board_order.proofs.Names.{named-none}
 use Rattle.board_order.proofs.Chains.{proper-apart, once, chain-apart, chained-in, in-chained, chained-count, count-chained}

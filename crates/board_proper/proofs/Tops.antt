@@ -1,8 +1,8 @@
 -- The largest versions that the pass has met (`Topped`): where it ends well, they are those of the groups, so the record is proper if it has them. Assumes nothing.
-use Prim.Native.Nat.{ℕ, zero, suc, _+_, _-_, _*_, _/_, _<_, _≤_}
+use Prim.Native.Nat.{ℕ, _+_, _-_, _*_, _/_, _<_, _≤_}
 use native.Mathlib.Omega.{arith}
-use mathlib.Core.Path.{_≡_, refl, sym, ap, _∙_, subst}
-use mathlib.Core.Bool.{Bool, true, false, not, _&&_}
+use mathlib.Core.Path.{_≡_, sym, ap, _∙_}
+use mathlib.Core.Bool.{Bool, true, false, _&&_}
 use mathlib.Core.List.{List}
 use mathlib.Core.Logic.{_⊎_, inl, inr, ⊎-elim}
 use lib.ListN.{getD, set, length, length-set, replicate, length-replicate, getD-replicate}
@@ -11,7 +11,7 @@ use lib.Dec.{eqb}
 use borrow.Author.Tests.{ne-eqb}
 use Rattle.octets.proofs.Said.{both-true}
 use Rattle.board_record.specs.Sizes.{places, group, groups}
-use Rattle.board_record.specs.Table.{Table, keyAt, versionAt}
+use Rattle.board_record.specs.Table.{Table, keyAt}
 use Rattle.board_record.specs.Proper.{Proper, allBelow, properB}
 use Rattle.board_record.specs.Order.{placeOn, Chained, inOrder}
 use Rattle.board_record.specs.Tops.{inGroup, Top, topOf, inTops}

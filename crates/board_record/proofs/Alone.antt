@@ -1,13 +1,12 @@
 -- A table all of whose paths have SRv6's form is proper exactly if document 01 by itself calls it proper: part by part; of two places with one key or one version, being apart and
 -- being the same are compared. Assumes nothing.
-use Prim.Native.Nat.{ℕ, _<_, _≤_, _%_}
+use Prim.Native.Nat.{ℕ, _<_}
 use native.Mathlib.Omega.{arith}
-use mathlib.Core.Path.{_≡_, refl, sym, ap, _∙_}
-use mathlib.Core.Bool.{Bool, true}
-use mathlib.Core.Logic.{_⊎_, inl, inr, ⊎-elim}
-use Rattle.objects.specs.Objects.{srv6Setup}
+use mathlib.Core.Path.{_≡_, _∙_}
+use mathlib.Core.Bool.{true}
+use mathlib.Core.Logic.{_⊎_, inl, ⊎-elim}
 use Rattle.board_record.specs.Sizes.{bodyLeast}
-use Rattle.board_record.specs.Table.{Table, keyAt, versionAt, lengthAt, formAt, Used, PathAt}
+use Rattle.board_record.specs.Table.{Table, versionAt, formAt, Used, PathAt}
 use Rattle.board_record.specs.Proper.{Proper, properB}
 use Rattle.board_record.specs.Alone.{ProperAlone, FormsAlone}
 use Rattle.board_record.proofs.Logic.{same?}

@@ -3,9 +3,9 @@ use Prim.Native.Nat.{ℕ, zero, suc, _+_, _<_, _≤_, max}
 use native.Mathlib.Numerals.{add-one}
 use native.Mathlib.Omega.{arith}
 use mathlib.Core.Path.{_≡_, refl, sym, ap, _∙_}
-use mathlib.Core.Bool.{Bool, true, false, _&&_, _||_}
+use mathlib.Core.Bool.{Bool, true, false, _||_}
 use mathlib.Core.Logic.{_⊎_, inl, inr, ⊎-elim}
-use Rattle.octets.proofs.Said.{either-false, or-true}
+use Rattle.octets.proofs.Said.{or-true}
 use Rattle.board_record.specs.Lists.{maxBelow, anyBelow}
 use Rattle.board_record.specs.Proper.{allBelow}
 use Rattle.board_record.proofs.Logic.{true≢false, same?, from?}

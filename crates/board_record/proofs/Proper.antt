@@ -1,20 +1,19 @@
 -- Properness, the record and the test, are equal; the empty table is proper. Both ways go place by place (`Sound`), then over all places. Assumes
 -- nothing.
-use Prim.Native.Nat.{ℕ, zero, suc, _+_, _<_, _≤_, _%_}
+use Prim.Native.Nat.{ℕ, _<_, _≤_, _%_}
 use native.Mathlib.Omega.{arith}
-use mathlib.Core.Path.{_≡_, refl, sym, ap, _∙_}
-use mathlib.Core.Bool.{Bool, true, false, not, cond, _&&_, _||_}
-use mathlib.Core.List.{List}
+use mathlib.Core.Path.{_≡_, refl}
+use mathlib.Core.Bool.{Bool, true, false, cond, _&&_, _||_}
 use mathlib.Core.Logic.{_⊎_, inl, inr, ⊎-elim}
 use lib.ListN.{length-replicate}
 use lib.Dec.{eqb, ltb, leb}
-use borrow.Author.Tests.{eqb-true, eqb-false, leb-true, leb-false, ltb-true, ltb-false, eq-eqb, ne-eqb, lt-ltb, le-leb, not-true, not-false}
+use borrow.Author.Tests.{eqb-true, eqb-false, leb-true, ltb-true, eq-eqb, lt-ltb, le-leb}
 use Rattle.objects.specs.Objects.{unit, srv6Setup, mplsSetup}
-use Rattle.board_record.specs.Sizes.{places, room, keyLeast, keyMost, versionMost, bodyLeast}
-use Rattle.board_record.specs.Table.{Table, emptyTable, ListsWhole, Entry, keyAt, versionAt, lengthAt, formAt, entryAt, Empty, Used, RemovalAt, PathAt}
+use Rattle.board_record.specs.Sizes.{places, room, keyMost, versionMost, bodyLeast}
+use Rattle.board_record.specs.Table.{Table, emptyTable, ListsWhole, Entry, keyAt, versionAt, lengthAt, formAt, entryAt, Used, RemovalAt, PathAt}
 use Rattle.board_record.specs.Proper.{Proper, IsForm, allBelow, pathOk, placeOk, soundB, distinctB, properB}
 use Rattle.octets.proofs.Said.{both-true, or-true}
-use Rattle.board_record.proofs.Logic.{same?, test-is}
+use Rattle.board_record.proofs.Logic.{same?}
 use Rattle.board_record.proofs.Lists.{zeros}
 use Rattle.board_record.proofs.All.{all-at, all-of, distinct-one, one-distinct}
 

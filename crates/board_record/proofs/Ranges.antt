@@ -1,17 +1,14 @@
 -- A look at all places finds one exactly if there is one; and none where the range is empty. Assumes nothing.
-use Prim.Native.Nat.{ℕ, _<_, _≤_}
+use Prim.Native.Nat.{ℕ, _<_}
 use native.Mathlib.Omega.{arith}
-use mathlib.Core.Path.{_≡_, refl, sym, _∙_}
+use mathlib.Core.Path.{_≡_, refl}
 use mathlib.Core.Bool.{Bool, true, false, not, _&&_}
-use mathlib.Core.List.{List}
-use lib.ListN.{getD}
-use lib.Dec.{eqb, ltb, leb}
+use lib.Dec.{eqb, leb}
 use borrow.Author.Tests.{ne-eqb, eqb-false, lt-ltb, le-leb, ltb-true, leb-true, not-true}
 use Rattle.octets.proofs.Said.{both-true}
 use Rattle.board_record.specs.Sizes.{places}
 use Rattle.board_record.specs.Table.{Table, keyAt, versionAt}
 use Rattle.board_record.specs.Search.{MovedAt, movedB, movedIn}
-use Rattle.board_record.proofs.Logic.{true≢false}
 use Rattle.board_record.proofs.Looks.{any-of, any-where}
 
 module _ (b : Table) (from to v : ℕ) where

@@ -1,8 +1,8 @@
 -- The largest version of a group, as a function and in the paper's words, both ways; and the largest versions once one place holds a higher one. Assumes nothing.
-use Prim.Native.Nat.{ℕ, zero, suc, _+_, _-_, _*_, _/_, _<_, _≤_, max}
+use Prim.Native.Nat.{ℕ, _+_, _-_, _*_, _/_, _<_, _≤_}
 use native.Mathlib.Omega.{arith}
-use mathlib.Core.Path.{_≡_, refl, sym, ap, _∙_, subst}
-use mathlib.Core.Bool.{Bool, true, false}
+use mathlib.Core.Path.{_≡_, sym, ap, _∙_}
+use mathlib.Core.Bool.{true}
 use mathlib.Core.List.{List}
 use mathlib.Core.Logic.{_⊎_, inl, inr, ⊎-elim}
 use lib.ListN.{getD, set, length, length-set}
@@ -10,11 +10,10 @@ use lib.Seq.{ext-getD, getD-set-same, getD-set-other}
 use lib.Dec.{eqb}
 use borrow.Author.Tests.{eq-eqb, eqb-true}
 use Rattle.board_record.specs.Sizes.{places, group, groups}
-use Rattle.board_record.specs.Lists.{row, maxBelow}
 use Rattle.board_record.specs.Table.{Table, keyAt, versionAt}
 use Rattle.board_record.specs.Proper.{Proper}
 use Rattle.board_record.specs.Tops.{inGroup, Top, topOf, topsOf, inTops}
-use Rattle.board_record.proofs.Logic.{same?, from?}
+use Rattle.board_record.proofs.Logic.{same?}
 use Rattle.board_record.proofs.Lists.{length-row, row-at}
 use Rattle.board_record.proofs.All.{all-of, all-at}
 use Rattle.board_record.proofs.Looks.{max-most, max-is}

@@ -1,27 +1,26 @@
 -- What a report answers and writes is what the definitions say, rule by rule: one law for each way out of the code, and what the passed rules say
 -- (`Passed`) for the needs between. Assumes nothing.
-use Prim.Native.Nat.{ℕ, zero, suc, _+_, _-_, _*_, _<_, _≤_, _%_}
+use Prim.Native.Nat.{ℕ, _+_, _-_, _*_, _<_, _≤_}
 use native.Mathlib.Omega.{arith}
-use mathlib.Core.Path.{_≡_, refl, sym, ap, _∙_}
-use mathlib.Core.Bool.{Bool, true, false, not, cond, _&&_}
-use mathlib.Core.List.{List, []}
+use mathlib.Core.Path.{_≡_, sym, ap, _∙_}
+use mathlib.Core.Bool.{Bool, true, false, not}
+use mathlib.Core.List.{List}
 use mathlib.Core.Logic.{_⊎_, ⊎-elim}
 use lib.ListN.{length, take, drop, length-drop}
 use lib.Dec.{eqb, ltb, leb}
-use borrow.Author.Tests.{eqb-true, eqb-false, ltb-false, leb-false}
+use borrow.Author.Tests.{eqb-false, ltb-false, leb-false}
 use Rattle.answers.specs.declared.verdict.Verdict.{Verdict}
 use Rattle.answers.specs.Numbers.{notABoard}
-use Rattle.answers.specs.Verdicts.{refusedBy, kept}
+use Rattle.answers.specs.Verdicts.{refusedBy}
 use Rattle.answers.proofs.Kept.{kept-old, kept-new}
 use Rattle.octets.specs.Octets.{placed}
 use Rattle.octets.proofs.Laws.{rest-lent}
 use Rattle.session.specs.declared.Session.{Session}
 use Rattle.route.specs.Routes.{judgeOf}
-use Rattle.objects.specs.Objects.{header, srv6Setup, mplsSetup}
-use Rattle.board_record.specs.Sizes.{places, room, storeSize, keyLeast, keyMost, versionMost}
+use Rattle.objects.specs.Objects.{srv6Setup, mplsSetup}
+use Rattle.board_record.specs.Sizes.{places, room, keyLeast, keyMost, versionMost}
 use Rattle.board_record.specs.Table.{Table, bearing, changed}
 use Rattle.board_record.specs.Search.{targetOf, floorAfter}
-use Rattle.board_record.specs.Proper.{properB}
 use Rattle.board_rules.specs.Rules.{isBoard, inRange, outcomeOf}
 use Rattle.board_rules.specs.Report.{bodyIn, reportRules, reportVerdict, reported, reportWith, storeWith, reportAnswer, reportStore}
 use Rattle.board_rules.proofs.Keeps.{BodyFits, body-fits, least-some}

@@ -1,8 +1,8 @@
 -- The two ways out of a report: 28, or the report under the limit for this route; what it changes; any two answers that fit are equal.
 use Prim.Native.Nat.{ℕ}
-use mathlib.Core.Path.{_≡_, refl, sym, ap, _∙_}
+use mathlib.Core.Path.{_≡_, sym, ap, _∙_}
 use mathlib.Core.List.{List}
-use mathlib.Core.Bool.{Bool, true, false, cond}
+use mathlib.Core.Bool.{Bool, true, false}
 use lib.ListN.{length}
 use Rattle.answers.specs.declared.verdict.Verdict.{Verdict}
 use Rattle.answers.specs.Numbers.{notABoard, notUsable}
@@ -15,8 +15,8 @@ use Rattle.route_limit.specs.FirstOff.{sessionFor}
 use Rattle.route_call.specs.Called.{rule28, judgedIn, judgedFor}
 use Rattle.board_record.specs.declared.record.Board.{Board}
 use Rattle.board_record.specs.Table.{Table}
-use Rattle.board_rules.specs.Rules.{Outcome, outcomeOf}
-use Rattle.board_rules.specs.Report.{reportWith, storeWith, reportAnswer, reportStore}
+use Rattle.board_rules.specs.Rules.{outcomeOf}
+use Rattle.board_rules.specs.Report.{reportWith, reportAnswer, reportStore}
 use Rattle.board_rules.specs.OnRecord.{Result, resultOf, reportOn, reportStoreOn}
 use Rattle.board_rules.proofs.OnRecord.{results-same, NoRecord, report-17-on}
 use Rattle.board_report_call.specs.Reported.{reportFor, reportStoreFor, reportForOn, reportStoreForOn}

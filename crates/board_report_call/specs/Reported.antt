@@ -2,7 +2,7 @@
 -- checks in the session of the form that the PST names (C-16), under the limit for this route, 19, 20, 21.
 use Prim.Native.Nat.{ℕ}
 use mathlib.Core.List.{List}
-use mathlib.Core.Bool.{Bool, true, cond}
+use mathlib.Core.Bool.{true, cond}
 use Rattle.answers.specs.Numbers.{notUsable}
 use Rattle.answers.specs.Verdicts.{refusedBy}
 use Rattle.session.specs.declared.Sessions.{Sessions}

@@ -1,11 +1,11 @@
 -- 17 is answered exactly if the store is shorter than 49,152 octets or the record isn't proper, by every call, before any other number: it is the
 -- first rule of each, and no later rule, nor any route check, answers it. Assumes nothing.
-use Prim.Native.Nat.{ℕ, _+_, _<_, _≤_, max}
+use Prim.Native.Nat.{ℕ, max}
 use native.Mathlib.Omega.{arith}
-use mathlib.Core.Path.{_≡_, refl, sym, ap, _∙_}
-use mathlib.Core.Bool.{Bool, true, false, not, cond, _&&_}
-use mathlib.Core.List.{List, [], _∷_, _++_}
-use mathlib.Core.Logic.{_⊎_, inl, inr}
+use mathlib.Core.Path.{_≡_, refl}
+use mathlib.Core.Bool.{Bool, true, false, not, cond}
+use mathlib.Core.List.{List}
+use mathlib.Core.Logic.{inl, inr}
 use lib.ListN.{length}
 use lib.Dec.{eqb, ltb, leb}
 use Rattle.answers.specs.declared.verdict.Verdict.{Verdict}
@@ -18,8 +18,7 @@ use Rattle.route.proofs.Setups.{judge-low}
 use Rattle.board_record.specs.Sizes.{places, room, versionMost}
 use Rattle.board_record.specs.Table.{Table}
 use Rattle.board_record.specs.Search.{targetOf}
-use Rattle.board_rules.specs.declared.answer.Handed.{Handed}
-use Rattle.board_rules.specs.declared.answer.Handed.the-variants.{Refused, Path, Removed, Level}
+use Rattle.board_rules.specs.declared.answer.Handed.the-variants.{Refused}
 use Rattle.board_rules.specs.Rules.{isBoard, inRange, hasPath}
 use Rattle.board_rules.specs.Report.{bodyIn, reportRules, reportVerdict, reportWith, reportAnswer}
 use Rattle.board_rules.specs.Remove.{removeRules, removeVerdict, removeAnswer}

@@ -1,16 +1,15 @@
 -- Every call leaves a proper table if it got one; version and floor never fall, and the version rises by exactly 1 with each accepted report or
 -- removal and with nothing else. A report and a removal are a change at one place, which fits (`FittingEntry`) by the rules that were passed; a compaction
 -- leaves each place as it was or empty (`Left`). Assumes nothing.
-use Prim.Native.Nat.{ℕ, zero, suc, _+_, _*_, _<_, _≤_, _%_, max}
+use Prim.Native.Nat.{ℕ, _+_, _<_, _≤_, _%_, max}
 use native.Mathlib.Omega.{arith}
-use mathlib.Core.Path.{_≡_, refl, sym, ap, _∙_, subst}
-use mathlib.Core.Bool.{Bool, true, false, not, cond, _&&_}
-use mathlib.Core.List.{List, [], _∷_, _++_}
+use mathlib.Core.Path.{_≡_, refl, sym, ap, _∙_}
+use mathlib.Core.Bool.{Bool, true, false, cond}
+use mathlib.Core.List.{List}
 use mathlib.Core.Logic.{_⊎_, inl, inr, ⊎-elim}
-use lib.ListN.{length, getD, length-append, List·getD-append}
-use lib.Seq.{getD-append-add}
-use lib.Dec.{eqb, ltb, leb}
-use borrow.Author.Tests.{eq-eqb, ne-eqb, eqb-true, eqb-false, le-leb, leb-true, leb-false}
+use lib.ListN.{length}
+use lib.Dec.{eqb, leb}
+use borrow.Author.Tests.{leb-true, leb-false}
 use Rattle.answers.specs.declared.verdict.Verdict.{Verdict}
 use Rattle.answers.specs.Verdicts.{kept}
 use Rattle.answers.proofs.Kept.{kept-old, kept-new}
@@ -18,20 +17,20 @@ use Rattle.session.specs.declared.Session.{Session}
 use Rattle.route.specs.Routes.{judgeOf}
 use Rattle.route.proofs.Setups.{accepted-one, body-mpls, body-srv6}
 use Rattle.objects.specs.Objects.{unit, srv6Setup, mplsSetup}
-use Rattle.board_record.specs.Sizes.{places, room, keyLeast, keyMost, bodyLeast, versionMost}
-use Rattle.board_record.specs.Table.{Table, tableOf, ListsWhole, keyAt, versionAt, lengthAt, formAt, Empty, Used, RemovalAt, bearing, entryAt, changed, removalB}
-use Rattle.board_record.specs.Search.{KeyPlace, placeOf, LowestEmpty, OldestRemoval, ReportPlace, keeps, takes, drops, targetOf, floorAfter}
+use Rattle.board_record.specs.Sizes.{places, keyLeast, keyMost, bodyLeast, versionMost}
+use Rattle.board_record.specs.Table.{Table, ListsWhole, keyAt, versionAt, lengthAt, formAt, Used, RemovalAt, bearing, entryAt, removalB}
+use Rattle.board_record.specs.Search.{placeOf, ReportPlace, keeps, takes, drops, targetOf, floorAfter}
 use Rattle.board_record.specs.Proper.{Proper, IsForm}
 use Rattle.octets.proofs.Said.{both-true}
-use Rattle.board_record.proofs.Logic.{true≢false, same?}
+use Rattle.board_record.proofs.Logic.{same?}
 use Rattle.board_record.proofs.Lists.{row-at}
 use Rattle.board_record.proofs.Search.{removal-is, is-removal, report-place-is, floor-keeps, floor-takes, floor-drops}
 use Rattle.board_record.proofs.Proper.{Storable, Sound, sound-none, proper-sound, sound-proper}
-use Rattle.board_record.proofs.Changed.{FittingEntry, changed-sized, changed-proper}
+use Rattle.board_record.proofs.Changed.{FittingEntry, changed-proper}
 use Rattle.board_rules.specs.Report.{bodyIn, reportVerdict, reported, reportWith, reportAnswer}
 use Rattle.board_rules.specs.Remove.{removeVerdict, removed, removeAnswer}
 use Rattle.board_rules.specs.Compact.{compactVerdict, dropped, compacted, compactAnswer}
-use Rattle.board_rules.proofs.Verdicts.{ReportPassed, report-passed, RemovePassed, remove-passed, CompactPassed, compact-passed}
+use Rattle.board_rules.proofs.Verdicts.{report-passed, remove-passed, compact-passed}
 
 -- ---- report
 pub least-some : (form : ℕ) → 8 ≤ bodyLeast form

@@ -3,9 +3,8 @@
 use Prim.Native.Nat.{ℕ, _<_, _≤_}
 use native.Mathlib.Omega.{arith}
 use mathlib.Core.Path.{_≡_, refl, sym, ap, _∙_}
-use mathlib.Core.Bool.{Bool, true, false, not, cond}
+use mathlib.Core.Bool.{Bool, true, false, cond}
 use mathlib.Core.List.{List}
-use mathlib.Core.Logic.{_⊎_, inl, inr, ⊎-elim}
 use lib.ListN.{length}
 use lib.Dec.{ltb}
 use borrow.Author.Tests.{lt-ltb, le-ltb}
@@ -15,7 +14,6 @@ use Rattle.answers.specs.Verdicts.{refusedBy, acceptedWith, kept}
 use Rattle.answers.proofs.Kept.{kept-old}
 use Rattle.board_record.specs.Table.{Table}
 use Rattle.board_record.specs.Search.{MovedAt, movedIn}
-use Rattle.board_record.proofs.Logic.{from?}
 use Rattle.board_record.proofs.Ranges.{moved-where, where-moved, none-between}
 use Rattle.board_rules.specs.Rules.{isBoard}
 use Rattle.board_rules.specs.Moved.{movedRules, movedVerdict, movedAnswer}

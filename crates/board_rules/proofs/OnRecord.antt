@@ -1,10 +1,10 @@
 -- The calls on the record, from those on its table. 17 is answered exactly if the store is short, the table not proper, the order not its chain or a number of a group not its
 -- largest version; else a refusal leaves the record as it was, and what an accepted call leaves is the table's record. All by cases on whether the rows are the table's (`no-record`).
 -- Assumes nothing.
-use Prim.Native.Nat.{ℕ, zero, suc, _<_}
+use Prim.Native.Nat.{ℕ, _<_}
 use mathlib.Core.Path.{_≡_, refl, sym, ap, _∙_}
 use mathlib.Core.Bool.{Bool, true, false, not, cond, _&&_}
-use mathlib.Core.List.{List, []}
+use mathlib.Core.List.{List}
 use lib.ListN.{length, getD}
 use borrow.Author.Tests.{not-true, not-false}
 use native.Mathlib.Omega.{arith}
@@ -15,10 +15,9 @@ use Rattle.answers.proofs.Kept.{kept-old, kept-new}
 use Rattle.session.specs.declared.Session.{Session}
 use Rattle.board_record.specs.declared.record.Board.{Board}
 use Rattle.board_record.specs.Table.{Table}
-use Rattle.board_record.specs.Proper.{properB}
 use Rattle.board_record.specs.Sizes.{groups}
 use Rattle.board_record.specs.Order.{Chained, orderOf, inOrder}
-use Rattle.board_record.specs.Tops.{Top, topOf, topsOf, inTops}
+use Rattle.board_record.specs.Tops.{Top, topsOf, inTops}
 use Rattle.board_record.specs.Record.{tableIn, withRows, recordOf, tidy}
 use Rattle.octets.proofs.Said.{both-true}
 use Rattle.board_record.proofs.Logic.{true≢false}
@@ -30,10 +29,10 @@ use Rattle.board_rules.specs.Rules.{Outcome, isBoard, outcomeOf}
 use Rattle.board_rules.specs.Report.{reportAnswer, reportStore}
 use Rattle.board_rules.specs.Remove.{removeAnswer}
 use Rattle.board_rules.specs.Compact.{compactAnswer}
-use Rattle.board_rules.specs.Body.{bodyNumber, bodyOf, bodyForm}
-use Rattle.board_rules.specs.Next.{nextVerdict, nextAnswer, numberIn}
+use Rattle.board_rules.specs.Body.{bodyNumber}
+use Rattle.board_rules.specs.Next.{nextAnswer, numberIn}
 use Rattle.board_rules.specs.Moved.{movedAnswer}
-use Rattle.board_rules.specs.OnRecord.{isRecord, verdictOn, Result, resultOf, resultOn, reportOn, reportStoreOn, removeOn, compactOn, bodyNumberOn, bodyOn, bodyFormOn, nextOn, movedOn}
+use Rattle.board_rules.specs.OnRecord.{isRecord, verdictOn, Result, resultOf, resultOn, reportOn, reportStoreOn, removeOn, compactOn, bodyNumberOn, nextOn, movedOn}
 use Rattle.board_rules.proofs.Verdicts.{IsBoard, board-whole, whole-board}
 use Rattle.board_rules.proofs.Inside.{next-number}
 use Rattle.board_rules.proofs.Exact.{NoBoard, report-17-then, report-17-only, remove-17-then, remove-17-only, body-17-then, body-17-only}

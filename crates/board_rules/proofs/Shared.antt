@@ -1,12 +1,11 @@
 -- Laws of the rules that several calls share. Assumes nothing.
 use Prim.Native.Nat.{ℕ, _<_, _≤_, max}
-use mathlib.Core.Path.{_≡_, refl, sym, ap, _∙_}
+use mathlib.Core.Path.{_≡_, refl, _∙_}
 use mathlib.Core.Bool.{Bool, true, false, not, cond, _&&_}
 use mathlib.Core.List.{List}
 use lib.ListN.{getD}
 use lib.Dec.{eqb, ltb}
 use borrow.Author.Tests.{lt-ltb, le-ltb, le-leb}
-use native.Mathlib.Omega.{arith}
 use Rattle.board_record.specs.Sizes.{places, storeSize}
 use Rattle.board_record.specs.Table.{Table}
 use Rattle.board_record.specs.Search.{placeOf}

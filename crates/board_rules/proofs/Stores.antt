@@ -1,12 +1,11 @@
 -- "The body is written at the place's start, and no call here writes other octets of the store." Assumes nothing.
 use Prim.Native.Nat.{ℕ, _+_, _*_, _<_, _≤_}
 use native.Mathlib.Omega.{arith}
-use mathlib.Core.Path.{_≡_, refl, sym, ap, _∙_}
+use mathlib.Core.Path.{_≡_, ap, _∙_}
 use mathlib.Core.Bool.{true}
 use mathlib.Core.List.{List}
-use mathlib.Core.Logic.{_⊎_, inl, inr, ⊎-elim}
+use mathlib.Core.Logic.{_⊎_, ⊎-elim}
 use lib.ListN.{length, getD}
-use Rattle.answers.specs.declared.verdict.Verdict.{Verdict}
 use Rattle.answers.proofs.Kept.{kept-old, kept-new}
 use Rattle.octets.specs.Octets.{part, placed}
 use Rattle.octets.proofs.Laws.{length-placed, getD-before, getD-behind, part-placed-same}

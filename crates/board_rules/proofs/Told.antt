@@ -1,7 +1,7 @@
 -- What a call that asked whether it has a board knows. Assumes nothing.
 use Prim.Native.Nat.{ℕ, _≤_}
 use mathlib.Core.Path.{_≡_, sym, ap, _∙_}
-use mathlib.Core.Bool.{Bool, true, false, not, _&&_}
+use mathlib.Core.Bool.{Bool, true, false, not}
 use lib.Dec.{leb}
 use borrow.Author.Tests.{leb-true, not-true, not-false}
 use Rattle.answers.specs.declared.verdict.Verdict.{Verdict}

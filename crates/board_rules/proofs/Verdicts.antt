@@ -1,31 +1,30 @@
 -- When a call answers which number: the passed rules of an acceptance, and the numbers that 01 gives exactly. A call's rules are a chain of tests, so an
 -- acceptance says that each was passed (`rule-passed`), and a number that all rules before it let pass is answered exactly if its own test says so.
 -- Assumes nothing.
-use Prim.Native.Nat.{ℕ, zero, suc, _+_, _*_, _<_, _≤_, _%_, max}
+use Prim.Native.Nat.{ℕ, suc, _<_, _≤_, max}
 use native.Mathlib.Omega.{arith}
 use mathlib.Core.Path.{_≡_, refl, sym, ap, _∙_}
 use mathlib.Core.Bool.{Bool, true, false, not, cond, _&&_}
-use mathlib.Core.List.{List, []}
-use mathlib.Core.Logic.{_⊎_, inl, inr, ⊎-elim}
-use lib.ListN.{length, drop}
+use mathlib.Core.List.{List}
+use mathlib.Core.Logic.{_⊎_, ⊎-elim}
+use lib.ListN.{length}
 use lib.Dec.{eqb, ltb, leb}
 use borrow.Author.Tests.{eq-eqb, ne-eqb, eqb-true, eqb-false, lt-ltb, le-ltb, ltb-true, ltb-false, le-leb, lt-leb, leb-true, leb-false, not-true, not-false}
 use Rattle.answers.specs.declared.verdict.Verdict.{Verdict}
-use Rattle.answers.specs.Numbers.{notABoard, keyOutOfRange, bodyTooLong, versionsUsedUp, allPaths, noPath, markTooOld, markAhead}
-use Rattle.answers.specs.Verdicts.{refusedBy, acceptedWith, kept}
+use Rattle.answers.specs.Numbers.{allPaths, markTooOld}
+use Rattle.answers.specs.Verdicts.{refusedBy, acceptedWith}
 use Rattle.board_record.specs.Sizes.{places, room, storeSize, keyLeast, keyMost, versionMost}
 use Rattle.board_record.specs.Table.{Table, lengthAt, PathAt}
 use Rattle.board_record.specs.Search.{placeOf, KeyPlace, targetOf}
 use Rattle.board_record.specs.Proper.{Proper, properB}
 use Rattle.octets.proofs.Said.{both-true}
-use Rattle.board_record.proofs.Logic.{true≢false, from?}
+use Rattle.board_record.proofs.Logic.{from?}
 use Rattle.board_record.proofs.Search.{key-place-is, key-place-found, Full, full-is, is-full}
 use Rattle.board_record.proofs.Proper.{proper-is, is-proper}
 use Rattle.board_rules.specs.Rules.{isBoard, inRange, hasPath}
 use Rattle.board_rules.specs.Report.{bodyIn, reportRules, reportVerdict}
 use Rattle.board_rules.specs.Remove.{removeRules, removeVerdict}
 use Rattle.board_rules.specs.Compact.{compactRules, compactVerdict}
-use Rattle.board_rules.specs.Body.{bodyRules, bodyNumber}
 use Rattle.board_rules.specs.Next.{nextRules, nextVerdict}
 
 -- ---- a rule that was passed

@@ -1,24 +1,21 @@
 -- The answers in the paper's words: the place that a call uses is the one that the paper describes, whichever way it was found. Assumes nothing.
-use Prim.Native.Nat.{ℕ, _+_, _*_, _<_, _≤_}
+use Prim.Native.Nat.{ℕ, _<_, _≤_}
 use native.Mathlib.Omega.{arith}
-use mathlib.Core.Path.{_≡_, refl, sym, ap, _∙_}
-use mathlib.Core.Bool.{Bool, true, false, not, cond, _&&_}
-use mathlib.Core.List.{List, []}
-use mathlib.Core.Logic.{_⊎_, inl, inr, ⊎-elim}
+use mathlib.Core.Path.{_≡_}
+use mathlib.Core.Bool.{true}
+use mathlib.Core.List.{List}
+use mathlib.Core.Logic.{_⊎_, ⊎-elim}
 use lib.ListN.{length}
-use lib.Dec.{eqb, ltb, leb}
-use borrow.Author.Tests.{eq-eqb, ne-eqb, lt-ltb, le-ltb}
-use Rattle.answers.specs.declared.verdict.Verdict.{Verdict}
+use borrow.Author.Tests.{eq-eqb, lt-ltb, le-ltb}
 use Rattle.answers.specs.Verdicts.{acceptedWith}
 use Rattle.board_record.specs.Sizes.{places, keyLeast, keyMost}
-use Rattle.board_record.specs.Table.{Table, lengthAt, formAt, PathAt, bearing, changed}
+use Rattle.board_record.specs.Table.{Table, formAt, PathAt, bearing, changed}
 use Rattle.board_record.specs.Search.{KeyPlace, placeOf, ReportPlace, keeps, takes, drops, targetOf, floorAfter, Wanted, NextChange, nextOf}
 use Rattle.board_record.specs.Proper.{Proper}
 use Rattle.board_record.proofs.Logic.{from?}
 use Rattle.board_record.proofs.Search.{key-place-found, report-place-is, report-place-one, Full, full-is, next-is, next-none, next-one}
-use Rattle.board_rules.specs.declared.answer.Handed.{Handed}
 use Rattle.board_rules.specs.declared.answer.Handed.the-variants.{Level}
-use Rattle.board_rules.specs.Rules.{isBoard, inRange, hasPath}
+use Rattle.board_rules.specs.Rules.{hasPath}
 use Rattle.board_rules.specs.Report.{bodyIn, reported}
 use Rattle.board_rules.specs.Remove.{removed}
 use Rattle.board_rules.specs.Body.{bodyRules, bodyNumber, octetsAt, bodyOf, bodyForm}

@@ -9,15 +9,13 @@ use Prim.Native.Nat.{ℕ, max}
 use mathlib.Core.Bool.{Bool, not, cond}
 use mathlib.Core.List.{List}
 use lib.ListN.{length}
-use lib.Dec.{eqb, ltb, leb}
+use lib.Dec.{eqb, ltb}
 use Rattle.answers.specs.declared.verdict.Verdict.{Verdict}
 use Rattle.answers.specs.Numbers.{notABoard, markTooOld, markAhead}
 use Rattle.answers.specs.Verdicts.{refusedBy, acceptedWith}
 use Rattle.board_record.specs.Sizes.{places}
 use Rattle.board_record.specs.Table.{Table, keyAt, versionAt, lengthAt, formAt}
 use Rattle.board_record.specs.Search.{nextOf}
-use Rattle.board_rules.specs.declared.answer.Change.{Change}
-use Rattle.board_rules.specs.declared.answer.Octets.{Octets}
 use Rattle.board_rules.specs.declared.answer.Mark.{Mark}
 use Rattle.board_rules.specs.declared.answer.Handed.{Handed}
 use Rattle.board_rules.specs.declared.answer.Handed.the-variants.{Refused, Path, Removed, Level}

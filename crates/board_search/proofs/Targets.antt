@@ -1,7 +1,6 @@
 -- Where a report goes, found step by step. Assumes nothing.
 use Prim.Native.Nat.{ℕ, _<_, _≤_}
-use mathlib.Core.Path.{_≡_, refl, sym, ap, _∙_}
-use lib.Dec.{ltb}
+use mathlib.Core.Path.{_≡_}
 use borrow.Author.Tests.{lt-ltb, le-ltb}
 use Rattle.board_record.specs.Sizes.{places}
 use Rattle.board_record.specs.Table.{Table}

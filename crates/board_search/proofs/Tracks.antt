@@ -3,15 +3,15 @@
 use Prim.Native.Nat.{ℕ, zero, suc, _+_, _<_, _≤_}
 use native.Mathlib.Numerals.{add-one}
 use native.Mathlib.Omega.{arith}
-use mathlib.Core.Path.{_≡_, refl, sym, ap, _∙_}
+use mathlib.Core.Path.{_≡_, refl, sym, _∙_}
 use mathlib.Core.Bool.{Bool, true, false, not, cond, _&&_}
 use mathlib.Core.List.{List}
 use lib.ListN.{getD}
 use lib.Dec.{eqb, ltb, leb}
-use borrow.Author.Tests.{eq-eqb, ne-eqb, eqb-true, eqb-false, lt-ltb, le-ltb, ltb-true, ltb-false, lt-leb, leb-true, leb-false}
+use borrow.Author.Tests.{eq-eqb, ne-eqb, eqb-true, eqb-false, lt-ltb, leb-true}
 use Rattle.octets.proofs.Said.{and-false, and-holding}
 use Rattle.board_record.specs.Sizes.{places}
-use Rattle.board_record.specs.Table.{Table, tableOf, keyAt, versionAt, lengthAt, removalB, entryAt}
+use Rattle.board_record.specs.Table.{Table, tableOf, removalB, entryAt}
 use Rattle.board_record.specs.Search.{leastWhere, oldestOf}
 use Rattle.board_record.specs.Proper.{properB}
 use Rattle.board_record.proofs.Proper.{Sound, properB-sound, proper-is}

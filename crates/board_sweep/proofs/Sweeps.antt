@@ -1,17 +1,16 @@
 -- The sweep of a compaction, place by place: so far the first i places are swept and the others as they were (`Sweeping`), a turn takes one place more,
 -- and at the end both lists are those of the compacted table. Assumes nothing.
-use Prim.Native.Nat.{ℕ, zero, suc, _+_, _<_, _≤_, max}
+use Prim.Native.Nat.{ℕ, suc, _+_, _<_, _≤_, max}
 use native.Mathlib.Numerals.{add-one}
 use native.Mathlib.Omega.{arith}
-use mathlib.Core.Path.{_≡_, refl, sym, ap, _∙_}
+use mathlib.Core.Path.{_≡_, refl, ap, _∙_}
 use mathlib.Core.Bool.{Bool, true, false, not, cond, _&&_}
-use mathlib.Core.List.{List, [], _∷_, _++_, append-nil, append-assoc}
-use lib.ListN.{length, getD, set, drop, length-append, length-set, drop-of-length-le}
+use mathlib.Core.List.{List, [], _++_, append-nil, append-assoc}
+use lib.ListN.{length, getD, set, drop, length-set, drop-of-length-le}
 use lib.Seq.{drop-cons, set-at, getD-at, set-getD}
 use lib.Dec.{eqb, leb}
 use borrow.Author.Tests.{not-true, not-false}
-use Rattle.board_record.specs.Sizes.{places}
-use Rattle.board_record.specs.Table.{Table, tableOf, keyAt, versionAt, removalB}
+use Rattle.board_record.specs.Table.{tableOf, removalB}
 use Rattle.board_record.specs.Lists.{row}
 use Rattle.board_record.proofs.Lists.{length-row}
 use Rattle.board_rules.specs.Compact.{dropped, compacted}

@@ -1,6 +1,6 @@
 -- An answer to an OPEN that is handed out and comes back is what it was.
 use Prim.Native.Nat.{ℕ, _≤_, _<_}
-use mathlib.Core.Path.{_≡_, refl}
+use mathlib.Core.Path.{_≡_}
 use borrow.Author.Tests.{lt-ltb}
 use Rattle.msd.specs.Msd.{absent}
 use Rattle.session.specs.declared.Opened.{Opened}

@@ -1,5 +1,5 @@
 -- Sessions that are handed out and come back are what they were.
-use Prim.Native.Nat.{ℕ, _≤_}
+use Prim.Native.Nat.{_≤_}
 use mathlib.Core.Path.{_≡_, refl}
 use mathlib.Core.Bool.{Bool, true, false, cond}
 use Rattle.msd.specs.Msd.{absent}

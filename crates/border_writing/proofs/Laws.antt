@@ -1,15 +1,14 @@
 -- From the answers of the calls below to those at the border: the same answer, of a writer and an outline that came in as records. Assumes nothing.
 use Prim.Native.Nat.{ℕ, _+_, _≤_}
-use mathlib.Core.Path.{_≡_, refl, sym, ap, _∙_}
+use mathlib.Core.Path.{_≡_, refl, ap, _∙_}
 use mathlib.Core.List.{List}
-use mathlib.Core.Bool.{Bool}
 use lib.ListN.{length}
 use native.Mathlib.Omega.{arith}
 use Rattle.forms.specs.declared.Form.{Form}
 use Rattle.forms.specs.Forms.{formOf}
 use Rattle.subobject.specs.declared.segment.Outline.{Outline}
 use Rattle.subobject.specs.declared.segment.Segment.{Segment}
-use Rattle.subobject.specs.Segments.{segmentWith, subobjectOf}
+use Rattle.subobject.specs.Segments.{subobjectOf}
 use Rattle.writer_rules.specs.Refusals.{addNumber}
 use Rattle.writer_state.specs.declared.Writer.{Writer}
 use Rattle.writer_state.specs.declared.Written.{Written}
@@ -17,8 +16,6 @@ use Rattle.writer_state.specs.Answers.{answered}
 use Rattle.writer.specs.Writing.{addAnswerIn, addAnswer}
 use Rattle.border_records.specs.declared.verdict.VerdictRecord.{VerdictRecord}
 use Rattle.border_records.specs.Records.{isYes, bit, verdictOut}
-use Rattle.border_segment.specs.declared.segment.OutlineRecord.{OutlineRecord}
-use Rattle.border_segment.specs.Segments.{outlineIn}
 use Rattle.border_answers.specs.declared.writing.WriterRecord.{WriterRecord}
 use Rattle.border_answers.specs.declared.writing.WrittenRecord.{WrittenRecord}
 use Rattle.border_answers.specs.AnswersOut.{writerIn, writtenOut}

@@ -1,12 +1,12 @@
 -- What the reading of lines, the laying out of answers and the turn of a line promise determines what they do: of any two answers that fit a
 -- contract, equality, and of any two buffers, equality where the contract speaks of them.
 use Prim.Native.Nat.{ℕ}
-use mathlib.Core.Path.{_≡_, sym, _∙_, ap}
+use mathlib.Core.Path.{_≡_, sym, _∙_}
 use mathlib.Core.Bool.{Bool}
 use mathlib.Core.List.{List}
-use lib.ListN.{length, take}
+use lib.ListN.{take}
 use Rattle.octets.specs.Octets.{over}
-use Rattle.words.specs.Words.{space, wordOf}
+use Rattle.words.specs.Words.{wordOf}
 use Rattle.decimal.specs.Decimal.{decimalValue, structureOf}
 use Rattle.hexadecimal.specs.Hexadecimal.{isOctets, octetsOf}
 use Rattle.printing.specs.Text.{Behind}

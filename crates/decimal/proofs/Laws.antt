@@ -1,16 +1,14 @@
 -- The laws of numbers as words, in the order of the definitions. `Reading` says that what is left of the word, behind digits worth v, gives the whole answer; one law for each way out of a
 -- turn. Digits never make a value smaller (`worth-least`), so that a value past the largest refuses the word at once.
-use Prim.Native.Nat.{ℕ, zero, suc, _+_, _-_, _*_, _≤_, _<_}
-use mathlib.Core.Path.{_≡_, refl, sym, _∙_, ap}
+use Prim.Native.Nat.{ℕ, suc, _+_, _-_, _*_, _≤_, _<_}
+use mathlib.Core.Path.{_≡_, refl, sym, _∙_}
 use mathlib.Core.List.{List, [], _∷_}
-use mathlib.Core.Bool.{Bool, true, false, cond, not, _&&_, _||_}
+use mathlib.Core.Bool.{Bool, true, false, _&&_, _||_}
 use lib.ListN.{length, getD, drop, drop-of-length-le}
 use lib.Seq.{drop-cons}
-use lib.Dec.{eqb, ltb, leb}
 use native.Mathlib.Omega.{arith}
 use native.Mathlib.Numerals.{add-one}
-use borrow.Author.Tests.{eq-eqb, ne-eqb, lt-ltb, le-ltb, le-leb, lt-leb}
-use Rattle.decimal.specs.declared.Number.{Number}
+use borrow.Author.Tests.{lt-ltb, le-ltb, le-leb, lt-leb}
 use Rattle.octets.proofs.Said.{and-false}
 use Rattle.words.specs.Words.{digitZero, digitNine}
 use Rattle.decimal.specs.Decimal.{isDigit, allDigits, worth, numberRange, isEmpty, isNumber, decimalValue, numberOf}

@@ -6,10 +6,9 @@ use mathlib.Core.Path.{_≡_, refl, sym, ap, _∙_}
 use mathlib.Core.Bool.{Bool, true, false, not, cond, _&&_}
 use mathlib.Core.List.{List}
 use mathlib.Core.Option.{Option, none, some}
-use mathlib.Core.Logic.{_⊎_, ⊎-elim}
 use lib.ListN.{length}
 use lib.Dec.{eqb, ltb, leb}
-use borrow.Author.Tests.{eq-eqb, ne-eqb, eqb-false, le-leb, leb-true, lt-ltb, not-true}
+use borrow.Author.Tests.{ne-eqb, eqb-false, le-leb, leb-true, lt-ltb, not-true}
 use Rattle.answers.specs.declared.verdict.Verdict.{Verdict}
 use Rattle.answers.specs.Numbers.{keyOutOfRange, bodyTooLong, versionsUsedUp, allPaths, notUsable}
 use Rattle.answers.specs.Verdicts.{refusedBy}
@@ -23,10 +22,10 @@ use Rattle.board_record.specs.Sizes.{places, room, keyLeast, versionMost}
 use Rattle.board_record.specs.Lists.{countBelow}
 use Rattle.board_record.specs.Table.{Table, keyAt, lengthAt, Used}
 use Rattle.board_record.specs.Search.{placeOf, targetOf}
-use Rattle.board_record.proofs.Logic.{true≢false, from?, same?, test-is}
+use Rattle.board_record.proofs.Logic.{true≢false, test-is}
 use Rattle.board_record.proofs.Lists.{count-same, count-full, count-less, hits, hits-at, hits-where, count-hits}
 use Rattle.board_record.proofs.Proper.{proper-sound}
-use Rattle.board_record.proofs.Search.{Full, full-is, is-full, key-place-is, key-place-found}
+use Rattle.board_record.proofs.Search.{Full, full-is, is-full, key-place-is}
 use Rattle.board_rules.specs.Rules.{outcomeOf, inRange, hasPath}
 use Rattle.board_rules.proofs.Verdicts.{range-passed}
 use Rattle.board_rules.specs.Report.{bodyIn, reportRules, reportVerdict, reportWith, reportAnswer}
@@ -36,9 +35,8 @@ use Rattle.board_report_call.specs.Reported.{reportFor}
 use Rattle.follow.specs.Story.{HeldPath, Story, version, held}
 use Rattle.follow.specs.Floor.{isSome, keyEnd}
 use Rattle.follow.specs.Run.{World, start, run}
-use Rattle.follow.specs.Accepts.{heldCount, allTaken, reportSaid, removeSaid, compactSaid, VerdictsOf, VerdictsAreTheStorys}
-use Rattle.follow.proofs.Cases.{none-of, some≢none}
-use Rattle.follow.proofs.Begun.{pathIn, path-mark, path-there}
+use Rattle.follow.specs.Accepts.{heldCount, allTaken, reportSaid, removeSaid, compactSaid, VerdictsAreTheStorys}
+use Rattle.follow.proofs.Begun.{path-there}
 use Rattle.follow.proofs.Table.{StandsFor}
 use Rattle.follow.proofs.Theorem.{Good, is-board, good-run, good-start}
 use Rattle.follow.proofs.Bodies.{kept-at, no-path}

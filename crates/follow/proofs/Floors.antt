@@ -8,13 +8,13 @@ use mathlib.Core.List.{List}
 use mathlib.Core.Option.{Option, none, some}
 use mathlib.Core.Logic.{_⊎_, inl, inr, ⊎-elim}
 use lib.Dec.{eqb, ltb, leb}
-use borrow.Author.Tests.{eq-eqb, ne-eqb, eqb-true, eqb-false, lt-ltb, le-ltb, ltb-true, leb-true, leb-false, not-true}
+use borrow.Author.Tests.{eq-eqb, ne-eqb, eqb-true, lt-ltb, le-ltb, ltb-true, leb-true, leb-false, not-true}
 use borrow.Author.Count.{below-more}
 use Rattle.board_record.specs.Lists.{countBelow}
 use Rattle.board_record.specs.Table.{Table, keyAt, versionAt, lengthAt, usedB}
 use Rattle.board_record.specs.Search.{ReportPlace, keeps, takes, drops, floorAfter}
 use Rattle.octets.proofs.Said.{both-true}
-use Rattle.board_record.proofs.Logic.{true≢false, same?, test-is}
+use Rattle.board_record.proofs.Logic.{true≢false, test-is}
 use Rattle.board_record.proofs.Proper.{proper-sound}
 use Rattle.board_record.proofs.Search.{used-is, is-used, floor-keeps, floor-takes, floor-drops}
 use Rattle.board_record.proofs.Lists.{count-same, count-full, count-less, hits-at, hits-where}

@@ -12,7 +12,7 @@ use Rattle.answers.specs.declared.verdict.Verdict.{Verdict}
 use Rattle.answers.specs.Numbers.{markTooOld, markAhead}
 use Rattle.answers.specs.Verdicts.{refusedBy, acceptedWith}
 use Rattle.board_record.specs.Sizes.{places}
-use Rattle.board_record.specs.Table.{Table, keyAt, versionAt}
+use Rattle.board_record.specs.Table.{Table, keyAt}
 use Rattle.board_record.specs.Search.{MovedAt, movedIn}
 use Rattle.board_record.proofs.Logic.{true≢false, from?}
 use Rattle.board_record.proofs.Ranges.{moved-where, where-moved}
@@ -21,9 +21,7 @@ use Rattle.board_rules.proofs.Verdicts.{IsBoard}
 use Rattle.board_rules.proofs.Moves.{moved-ahead, moved-too-old, moved-yes, moved-no}
 use Rattle.follow.specs.Story.{Story, version, held, last}
 use Rattle.follow.specs.Floor.{floorOf}
-use Rattle.follow.specs.Follower.{Follower}
-use Rattle.follow.specs.Run.{World, Act, start, run}
-use Rattle.follow.specs.Promise.{Ready}
+use Rattle.follow.specs.Run.{World, start, run}
 use Rattle.follow.specs.Moved.{Changed, MovedSaid, MovedIsTheStorys}
 use Rattle.follow.proofs.Table.{StandsFor}
 use Rattle.follow.proofs.Theorem.{Good, good-run, good-start}

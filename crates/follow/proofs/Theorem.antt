@@ -40,7 +40,7 @@ use Rattle.board_report_call.specs.Reported.{reportFor, reportStoreFor}
 use Rattle.follow.specs.Story.{Deed, pathAt, sets, clears, Story, beginning, begun, did, compactedTo, version, keyOf, leaves, held, last}
 use Rattle.follow.specs.Ordered.{Ordered, beginningOf}
 use Rattle.follow.specs.Floor.{floorOf, floorPut}
-use Rattle.follow.specs.Follower.{Follower, fresh, makes, levels, Keeps}
+use Rattle.follow.specs.Follower.{Follower, fresh, levels, Keeps}
 use Rattle.follow.specs.Heard.{Heard, refusal, change, level, heardIn, does, cutOff}
 use Rattle.follow.specs.Run.{World, Act, reportedPath, report, remove, compact, begin, ask, askCut, told, answerTo, following, step, run, start, allFresh}
 use Rattle.follow.specs.Promise.{Answered, Ready, KeptBy, NoFollowerIsFooled, NumbersAreTheStorys}

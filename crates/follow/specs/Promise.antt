@@ -20,7 +20,7 @@ use Rattle.follow.specs.Story.{HeldPath, Deed, Story, keyOf, leaves, beg
 use Rattle.follow.specs.Floor.{floorOf}
 use Rattle.follow.specs.Follower.{Follower, Keeps, Lacks, Oldest}
 use Rattle.follow.specs.Heard.{Heard, refusal, change, level}
-use Rattle.follow.specs.Run.{World, Act, start, run, answerTo}
+use Rattle.follow.specs.Run.{Act, start, run, answerTo}
 
 -- a follower f that hears a, where the story is h; what it hears is a refusal, a change or that it is level, so these are all cases
 pub record Answered (h : Story) (f : Follower) (a : Heard) : Type 0 where

@@ -4,11 +4,10 @@ use Prim.Native.Nat.{ℕ}
 use mathlib.Core.Path.{_≡_, refl, sym, ap, _∙_}
 use mathlib.Core.Bool.{Bool, true, false, cond}
 use mathlib.Core.List.{List, [], _∷_}
-use mathlib.Core.Logic.{_⊎_, inl, inr, ⊎-elim}
+use mathlib.Core.Logic.{_⊎_, inl, ⊎-elim}
 use native.Mathlib.Omega.{arith}
-use Prim.Native.Nat.{_+_, _*_, _<_, _≤_}
-use lib.ListN.{length, getD, replicate, length-replicate, getD-replicate}
-use Rattle.answers.specs.declared.verdict.Verdict.{Verdict}
+use Prim.Native.Nat.{_+_, _*_, _<_}
+use lib.ListN.{getD, replicate, length-replicate, getD-replicate}
 use Rattle.session.specs.declared.Session.{Session}
 use Rattle.session.specs.declared.Sessions.{Sessions}
 use Rattle.session.specs.Sessions.{sessionUnder}
@@ -18,7 +17,7 @@ use Rattle.board_record.specs.Table.{Table, emptyTable, ListsWhole}
 use Rattle.board_record.specs.Proper.{Proper}
 use Rattle.board_record.specs.Order.{placeOn, Chained, orderOf}
 use Rattle.board_record.specs.Tops.{topsOf}
-use Rattle.board_record.specs.Record.{tableIn, withRows, recordOf, tidy, emptyBoard}
+use Rattle.board_record.specs.Record.{withRows, recordOf, tidy, emptyBoard}
 use Rattle.board_record.proofs.Logic.{same?}
 use Rattle.board_record.proofs.Lists.{zeros}
 use Rattle.board_record.proofs.Proper.{empty-sized, empty-proper}
@@ -32,7 +31,7 @@ use Rattle.route_limit.specs.FirstOff.{sessionFor}
 use Rattle.route_call.specs.Called.{rule28}
 use Rattle.board_report_call.specs.Reported.{reportFor, reportStoreFor, reportForOn, reportStoreForOn}
 use Rattle.board_rules.specs.Rules.{Outcome, outcomeOf}
-use Rattle.board_rules.specs.Report.{reportAnswer, reportStore}
+use Rattle.board_rules.specs.Report.{reportAnswer}
 use Rattle.board_rules.specs.Remove.{removeAnswer}
 use Rattle.board_rules.specs.Compact.{compactAnswer}
 use Rattle.board_rules.specs.Body.{bodyNumber, bodyOf, bodyForm}
@@ -41,7 +40,7 @@ use Rattle.board_rules.specs.Moved.{movedAnswer}
 use Rattle.board_rules.specs.OnRecord.{Result, resultOf, resultOn, reportOn, reportStoreOn, removeOn, compactOn, bodyNumberOn, bodyOn, bodyFormOn, nextOn, movedOn}
 use Rattle.board_rules.proofs.Keeps.{report-proper, remove-proper, compact-proper, report-refused-keeps, remove-refused-keeps, compact-refused-keeps}
 use Rattle.board_rules.proofs.Stores.{report-sized, remove-sized, compact-sized}
-use Rattle.follow_record.specs.Calls.{Call, report, remove, compact, body, next, moved, fresh, Reply, verdict, given, handed, mark}
+use Rattle.follow_record.specs.Calls.{Call, report, remove, compact, body, next, moved, fresh, verdict, handed}
 use Rattle.follow_record.specs.Calls.{OnTable, replyOf, leftOf, repliesOf, OnRecord, replyOn, leftOn, repliesOn, AnswersAsTheTable}
 
 -- ---- the empty record is that of the empty table

@@ -6,12 +6,11 @@ use mathlib.Core.Bool.{true, cond}
 use mathlib.Core.List.{List, [], _∷_}
 use lib.ListN.{length}
 use lib.Dec.{eqb}
-use Rattle.answers.specs.declared.verdict.Verdict.{Verdict}
 use Rattle.session.specs.declared.Sessions.{Sessions}
 use Rattle.board_record.specs.declared.record.Board.{Board}
 use Rattle.board_record.specs.Sizes.{places, groups}
 use Rattle.board_record.specs.Table.{ListsWhole}
-use Rattle.board_record.specs.Record.{tableIn, emptyBoard}
+use Rattle.board_record.specs.Record.{tableIn}
 use Rattle.board_rules.specs.OnRecord.{isRecord, removeOn, compactOn, bodyNumberOn, bodyOn, bodyFormOn, nextOn}
 use Rattle.board_report_call.specs.Reported.{reportForOn, reportStoreForOn}
 use Rattle.follow.specs.Story.{sets, clears, Story, beginning, begun, did, compactedTo, version}

@@ -1,18 +1,18 @@
 -- Laws about checks in order: those of rules in order (answers/proofs/First) for a route's checks, and the same by rank, the place in the list (`first-answer`,
 -- `answer-first`). Assumes nothing.
-use Prim.Native.Nat.{ℕ, zero, suc, _+_, _≤_, _<_}
+use Prim.Native.Nat.{ℕ, zero, suc, _+_, _<_}
 use mathlib.Core.Path.{_≡_, refl, sym, _∙_, ap}
 use mathlib.Core.List.{List, [], _∷_, _++_}
-use mathlib.Core.Bool.{Bool, true, false, cond}
+use mathlib.Core.Bool.{Bool, true, false}
 use lib.ListN.{length, getD}
 use native.Mathlib.Omega.{arith}
 use Rattle.answers.specs.declared.verdict.Verdict.{Verdict}
-use Rattle.answers.specs.Verdicts.{refusedBy, acceptedWith}
+use Rattle.answers.specs.Verdicts.{refusedBy}
 use Rattle.answers.proofs.First.{EachOf, NoneOf, each-append, each-split, first-of-append, none-first-of, first-of-none, first-of-keeps}
 use Rattle.forms.specs.declared.Form.{Form}
 use Rattle.subobject.specs.declared.head.Head.{Head}
 use Rattle.subobject.specs.Rules.{rule10, rules, subjectBy}
-use Rattle.subobject.proofs.Unbroken.{Unbroken, UnbrokenBy}
+use Rattle.subobject.proofs.Unbroken.{UnbrokenBy}
 use Rattle.frame.specs.Checks.{Check, check, firstBroken}
 use Rattle.frame.specs.RuleChecks.{checksBy}
 

@@ -1,6 +1,6 @@
 -- A frame is whole exactly if its subobjects fill it, and they stand at its places. Assumes nothing.
 use Prim.Native.Nat.{ℕ, zero, suc, pred, _+_, _-_, _<_}
-use mathlib.Core.Path.{_≡_, refl, sym, _∙_, ap}
+use mathlib.Core.Path.{_≡_, refl}
 use mathlib.Core.Bool.{Bool, true, false, cond}
 use mathlib.Core.List.{List, [], _∷_}
 use lib.Dec.{eqb}
@@ -10,7 +10,7 @@ use borrow.Author.Tests.{eq-eqb, ne-eqb, eqb-true, eqb-false}
 use Rattle.octets.specs.Octets.{octetOf}
 use Rattle.objects.specs.Objects.{header}
 use Rattle.frame.specs.Fills.{FillsFrom, stop, link}
-use Rattle.frame.specs.Frames.{Apart, fitsIn, ended, unfilled, from, apart, apartOf, placesOf}
+use Rattle.frame.specs.Frames.{fitsIn, ended, unfilled, from, apart, apartOf, placesOf}
 use Rattle.frame.proofs.Laws.{fits-true, parted}
 
 whole-from : (f : ℕ) (s : List ℕ) (at : ℕ) → apart s at f .whole ≡ true → FillsFrom s at (apart s at f .places)

@@ -1,7 +1,7 @@
 -- What is left of a walk over the frame, in the order of specs/Frames. `Over F s at whole` says that what F makes of the frame from `at` on is the whole's; one step
 -- of `apart` (`parted`) gives the ways out of a turn, and each loop has such an F: what was gathered with the rest (`Looking`), the place of a number (`Going`).
 -- Assumes nothing.
-use Prim.Native.Nat.{ℕ, zero, suc, pred, _+_, _-_, _*_, _/_, _%_, _≤_, _<_}
+use Prim.Native.Nat.{ℕ, zero, suc, pred, _+_, _-_, _/_, _%_, _≤_, _<_}
 use mathlib.Core.Path.{_≡_, refl, sym, _∙_, ap}
 use mathlib.Core.List.{List, [], _∷_}
 use mathlib.Core.Bool.{Bool, true, false, cond, not, _&&_, _||_}
@@ -9,7 +9,7 @@ use lib.Dec.{ltb, leb, eqb}
 use lib.ListN.{length, getD}
 use native.Mathlib.Nat.{zero-add}
 use native.Mathlib.Omega.{arith}
-use borrow.Author.Tests.{eq-eqb, ne-eqb, le-ltb, le-leb, lt-leb, ltb-true, ltb-false, leb-true, eqb-true, eqb-false, not-true, not-false}
+use borrow.Author.Tests.{eq-eqb, ne-eqb, le-leb, lt-leb, ltb-true, ltb-false, leb-true, eqb-true, eqb-false, not-true, not-false}
 use Rattle.octets.specs.Octets.{octetOf, be16}
 use Rattle.subobject.specs.Layout.{kindOf}
 use Rattle.octets.proofs.Said.{both-true, or-assoc, or-none}

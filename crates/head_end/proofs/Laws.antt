@@ -1,9 +1,9 @@
 -- Laws of the list of addresses: the loop, what a search answers, any two answers that fit are equal. Addresses are compared from the last to the first (`among-hit`,
 -- `among-miss`, `among-end`); that a hit is an address of the list is shown along their number.
-use Prim.Native.Nat.{ℕ, zero, suc, _+_, _-_, _*_, _/_, _≤_, _<_}
+use Prim.Native.Nat.{ℕ, zero, suc, _-_, _*_, _/_, _≤_, _<_}
 use native.Mathlib.Omega.{arith}
 use mathlib.Core.Path.{_≡_, refl, sym, ap, _∙_}
-use mathlib.Core.Logic.{_↔_, _⊎_, inl, inr}
+use mathlib.Core.Logic.{_↔_}
 use mathlib.Core.List.{List, []}
 use mathlib.Core.Bool.{Bool, true, false, _||_, false≢true}
 use lib.ListN.{length}

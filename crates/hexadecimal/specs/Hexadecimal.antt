@@ -1,12 +1,12 @@
 -- Octets as a word spells them (console.md).
-use Prim.Native.Nat.{ℕ, zero, suc, _+_, _-_, _*_, _%_}
+use Prim.Native.Nat.{ℕ, _+_, _-_, _*_, _%_}
 use mathlib.Core.Bool.{Bool, true, false, cond, not, _&&_, _||_}
 use mathlib.Core.List.{List, [], _∷_}
-use lib.Dec.{eqb, ltb, leb}
+use lib.Dec.{eqb, leb}
 use lib.ListN.{length}
 use Rattle.objects.specs.Objects.{sidSize, naiSize}
 use Rattle.words.specs.Words.{digitZero, digitNine, upperA, upperF, lowerA, lowerF, upperAbove, lowerAbove}
-use Rattle.decimal.specs.Decimal.{isNone, isEmpty}
+use Rattle.decimal.specs.Decimal.{isNone}
 
 -- what no digit is worth
 abbrev pub noDigit : ℕ

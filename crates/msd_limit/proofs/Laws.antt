@@ -6,7 +6,7 @@ use mathlib.Core.Bool.{Bool, true, false}
 use lib.Dec.{ltb}
 use borrow.Author.Tests.{ltb-true, ltb-false}
 use Rattle.session.specs.declared.Limit.{Limit}
-use Rattle.session.specs.declared.Limit.the-variants.{Free, Most}
+use Rattle.session.specs.declared.Limit.the-variants.{Most}
 use Rattle.msd.specs.Msd.{absent, depthIn}
 use Rattle.msd.proofs.Laws.{depth-octet, depth-none}
 use Rattle.msd_limit.specs.Limits.{segmentsLeftPermits, limitBy, oneMoreBy}

@@ -1,11 +1,11 @@
 -- What a reader can cite of the limit that a list of pairs sets. A pair put anywhere among others is one value more of its type and nothing to another (`more-same`,
 -- `more-other`, along the list before it); what the limit then is follows by cases of the two smallest values, there or not, by arithmetic.
-use Prim.Native.Nat.{ℕ, _+_, _≤_, min, max}
+use Prim.Native.Nat.{ℕ, _+_, max}
 use native.Mathlib.Omega.{arith}
 use mathlib.Core.Path.{_≡_, refl, ap, sym, subst, _∙_}
 use mathlib.Core.Logic.{_↔_}
 use mathlib.Core.List.{List, [], _∷_, _++_}
-use mathlib.Core.Bool.{Bool, true, false, cond, _&&_, _||_}
+use mathlib.Core.Bool.{Bool, true, false, cond, _||_}
 use mathlib.Core.Option.{Option, none, some}
 use lib.Dec.{eqb}
 use borrow.Author.Tests.{ne-eqb, eqb-true}
@@ -14,7 +14,7 @@ use Rattle.answers.proofs.Determined.{determined}
 use Rattle.session.specs.declared.Limit.{Limit}
 use Rattle.session.specs.declared.Limit.the-variants.{Free, Most}
 use Rattle.msd.specs.Msd.{maxSegmentsLeft, maxEndPop, maxHEncaps, maxEndD, Pair, smaller, withPair, smallestOf, depthIn}
-use Rattle.msd_limit.specs.Limits.{hEncapsPermits, segmentsLeftPermits, lower, limitBy, oneMoreBy, limitOfPairs, present, isEnd, onlyEnds, within}
+use Rattle.msd_limit.specs.Limits.{segmentsLeftPermits, limitBy, oneMoreBy, limitOfPairs, present, isEnd, onlyEnds, within}
 
 -- no limit -----------------------------------------------------------------------------------------------------
 

@@ -1,6 +1,6 @@
 -- Laws about lists of octets that the readers and the writers share, in the order of specs/Octets. Those of parts go octet by octet
 -- (`ext-getD`); those of `over` and `placed` rewrite take, drop and append until both sides are the same.
-use Prim.Native.Nat.{ℕ, suc, _+_, _-_, _≤_, _<_}
+use Prim.Native.Nat.{ℕ, _+_, _-_, _≤_, _<_}
 use mathlib.Core.Path.{_≡_, refl, sym, _∙_, ap}
 use mathlib.Core.List.{List, [], _++_, append-assoc, append-nil}
 use mathlib.Core.Logic.{_⊎_, ⊎-elim}

@@ -1,16 +1,15 @@
 -- Of octets made of octets: the values that an OPEN's TLVs hold are octets, and so is a smallest value of a type; its number stands for it.
-use Prim.Native.Nat.{ℕ, zero, suc, _+_, _≤_, _<_, min}
+use Prim.Native.Nat.{ℕ, zero, suc, _+_, _<_}
 use native.Mathlib.Omega.{arith}
-use mathlib.Core.Path.{_≡_, refl, sym, subst, _∙_}
+use mathlib.Core.Path.{_≡_, sym, subst}
 use mathlib.Core.List.{List, [], _∷_}
 use mathlib.Core.Bool.{Bool, true, false, cond}
 use mathlib.Core.Option.{Option, none, some}
-use lib.ListN.{length, getD, take, drop, length-take}
-use lib.Seq.{getD-take, getD-drop}
-use lib.Dec.{eqb, ltb}
-use borrow.Author.Tests.{ltb-true, ltb-false}
+use lib.ListN.{length, getD, take, drop}
+use lib.Seq.{getD-drop}
+use lib.Dec.{eqb}
 use Rattle.octets.specs.Octets.{pad4, part}
-use Rattle.msd.specs.Msd.{Pair, pairsIn, smaller, withPair, smallestOf, absent, depthNumber, depthIn}
+use Rattle.msd.specs.Msd.{pairsIn, smaller, smallestOf, absent, depthNumber, depthIn}
 use Rattle.msd.proofs.Laws.{depth-octet, depth-none}
 use Rattle.tlvs.specs.Tlvs.{Tlvs, tlvsEnd, tlvsCut, tlv, tlvHead, tlvLength, tlvBehind, tlvFits, tlvTurn, tlvsIn, tlvsOf, firstTlv}
 use Rattle.setup_types.specs.SetupTypes.{pathSetup, listSize, subsOf}

@@ -5,13 +5,13 @@ use mathlib.Core.Path.{_≡_, refl, sym, _∙_, ap, subst}
 use mathlib.Core.Bool.{Bool, true, false, cond}
 use mathlib.Core.List.{List, [], _∷_, _++_, append-assoc, append-nil}
 use lib.Dec.{ltb, leb}
-use lib.ListN.{length, getD, take, drop, length-append, length-take}
-use lib.Seq.{take-at, length-take-le, take-suc, take-all}
+use lib.ListN.{length, getD, take, drop, length-append}
+use lib.Seq.{take-at, length-take-le, take-suc}
 use native.Mathlib.Omega.{arith}
 use native.Mathlib.Numerals.{add-one}
 use native.Mathlib.Nat.{pow-succ', pow-le-pow-right}
 use borrow.Author.Tests.{lt-ltb, le-ltb, leb-true, leb-false}
-use Rattle.io.specs.Digits.{digits, glyph, Fewest}
+use Rattle.io.specs.Digits.{digits, Fewest}
 use Rattle.octets.specs.Octets.{placed, over}
 use Rattle.octets.proofs.Laws.{length-placed}
 use Rattle.printing.specs.Text.{spell, decimalOf, glyphOf, hexOf, octetsText, furtherText, listText, Behind}

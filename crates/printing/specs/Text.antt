@@ -1,7 +1,7 @@
 -- Answers as text (console.md): numbers in decimal, octets in pairs of hexadecimal digits in upper case, `-` for no octets, words separated by one space.
 use Prim.Native.Nat.{ℕ, zero, suc, _+_, _/_, _%_}
 use mathlib.Core.Path.{_≡_}
-use mathlib.Core.Bool.{Bool, true, false, cond}
+use mathlib.Core.Bool.{cond}
 use mathlib.Core.List.{List, [], _∷_, _++_}
 use lib.Dec.{ltb}
 use lib.ListN.{length, take}

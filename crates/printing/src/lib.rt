@@ -3,7 +3,6 @@
 // and hands its new end back.
 ghost use Prim.Native.Nat.{_+_, _*_, _≤_};
 ghost use mathlib.Core.Path.{_≡_};
-ghost use mathlib.Core.List.{[], _∷_};
 ghost use lib.ListN.{length};
 ghost use Rattle.printing.specs.Text.{Behind, numberSize, fieldSize, decimalOf, glyphOf, hexOf, octetsText, furtherText, listText, spaced};
 use words::COMMA;

@@ -1,9 +1,9 @@
 -- Of a segment without M and C, adding to a route that was begun under any setup type but 1 computes to SRv6's own, in document 01's numbers (specs/Alone).
 -- Assumes nothing.
 use Prim.Native.Nat.{ℕ, _+_, _*_}
-use mathlib.Core.Path.{_≡_, refl, sym, _∙_, ap}
-use mathlib.Core.Bool.{Bool, true, false, cond, not, _&&_, _||_}
-use mathlib.Core.List.{List, [], _∷_, _++_}
+use mathlib.Core.Path.{_≡_, refl, ap}
+use mathlib.Core.Bool.{Bool, false, not, _&&_, _||_}
+use mathlib.Core.List.{List}
 use lib.Dec.{eqb, ltb}
 use lib.ListN.{length}
 use native.Mathlib.Omega.{arith}
@@ -11,10 +11,8 @@ use Rattle.octets.proofs.Said.{and-false, or-none}
 use Rattle.objects.specs.Objects.{mplsSetup}
 use Rattle.answers.specs.Verdicts.{kept}
 use Rattle.octets.specs.Octets.{placed}
-use Rattle.forms.specs.declared.Form.{Form}
-use Rattle.forms.specs.Forms.{srv6Form, formOf, naiLength}
+use Rattle.forms.specs.Forms.{srv6Form}
 use Rattle.forms.proofs.Laws.{form-srv6, srv6-nais}
-use Rattle.subobject.specs.declared.head.Head.{Head}
 use Rattle.subobject.specs.declared.segment.Segment.{Segment}
 use Rattle.subobject.specs.Layout.{expectedLength}
 use Rattle.subobject.specs.Rules.{rule8, rule9, malformed, rule11, hasStructure, hasLabel, sumAt, labelAt, timeAt, rule29, rule30}
@@ -25,8 +23,8 @@ use Rattle.writer_rules.proofs.Checks.{seven-written}
 use Rattle.writer_state.specs.declared.Writer.{Writer}
 use Rattle.writer_state.specs.Answers.{answered}
 use Rattle.writer.specs.Writing.{addAnswerIn, addBufferIn, addAnswer, addBuffer}
-use Rattle.route.specs.Alone.{lengthAlone, structured, fourFrom}
-use Rattle.route.proofs.Alone.{knows-alone, or-false}
+use Rattle.route.specs.Alone.{structured, fourFrom}
+use Rattle.route.proofs.Alone.{knows-alone}
 use Rattle.readback.specs.Alone.{sOf, tOf, fOf, octetsAlone, tidyAlone, unfitAlone, numberAlone}
 
 flags-alone : (v t f s c m : ℕ) → v * 8 + t * 4 + f * 2 + s * 1 + c * 0 + m * 0 ≡ v * 8 + t * 4 + f * 2 + s

@@ -1,9 +1,9 @@
 -- A route of one segment written by hand: document 01's object E, in a buffer of 28 octets and in one octet less; and one of MPLS.
 use Prim.Native.Nat.{ℕ}
 use mathlib.Core.Path.{_≡_, refl}
-use mathlib.Core.Bool.{Bool, true, false}
+use mathlib.Core.Bool.{true, false}
 use mathlib.Core.List.{List, [], _∷_}
-use lib.ListN.{replicate, getD, take, drop}
+use lib.ListN.{replicate}
 use Rattle.octets.specs.Octets.{octetOf, over, placed}
 use Rattle.forms.specs.Forms.{flagIn, naiLength, knows}
 use Rattle.subobject.specs.declared.segment.Segment.{Segment}

@@ -1,27 +1,24 @@
 -- What a run that was accepted leaves: every segment was fit, and the object is the one of the segments. By induction over the segments still to add, with what has been added so far as a
 -- body behind the header (`Under`, `adds`); an acceptance of each call gives the next step (`add-onward`). The second theorem follows: the object hangs on kind, form and segments alone.
-use Prim.Native.Nat.{ℕ, suc, _+_, _-_, _*_, _%_, _≤_, _<_}
-use mathlib.Core.Path.{_≡_, refl, sym, _∙_, ap, subst}
-use mathlib.Core.Bool.{Bool, true, false, cond, not, _&&_, _||_}
+use Prim.Native.Nat.{ℕ, suc, _+_, _-_, _%_, _≤_}
+use mathlib.Core.Path.{_≡_, refl, sym, _∙_, subst}
+use mathlib.Core.Bool.{Bool}
 use mathlib.Core.List.{List, [], _∷_, _++_, append-assoc, append-nil}
 use lib.ListN.{length, take, drop, length-append}
 use lib.Seq.{take-at, drop-at}
-use native.Mathlib.Nat.{add-assoc}
 use native.Mathlib.Omega.{arith}
-use Rattle.answers.specs.Verdicts.{kept}
-use Rattle.octets.specs.Octets.{hi, lo, over, placed}
+use Rattle.octets.specs.Octets.{over, placed}
 use Rattle.forms.specs.declared.Form.{Form}
 use Rattle.forms.specs.Forms.{formOf}
 use Rattle.subobject.specs.declared.segment.Segment.{Segment}
 use Rattle.subobject.specs.Segments.{subobjectOf}
 use Rattle.writer_layout.proofs.Forms.{readable-by}
 use Rattle.writer_state.specs.declared.Writer.{Writer}
-use Rattle.writer_state.specs.declared.Written.{Written}
 use Rattle.writer_rules.specs.Refusals.{mostOctets, addNumber, finishNumber}
-use Rattle.writer_rules.proofs.Laws.{Fit, PlaceFine, Taken, taken, Done, done}
-use Rattle.writer_state.specs.Answers.{answered, refusedAs, acceptedAs}
+use Rattle.writer_rules.proofs.Laws.{Fit, Taken, taken, done}
+use Rattle.writer_state.specs.Answers.{answered}
 use Rattle.writer_begin_finish.specs.Ends.{headerOf, beginNumber, beginAnswer, beginBuffer, finishAnswer, finishBuffer}
-use Rattle.writer.specs.Writing.{addAnswerIn, addBufferIn, addAnswer, addBuffer}
+use Rattle.writer.specs.Writing.{addAnswerIn, addBufferIn, addAnswer}
 use Rattle.readback.specs.Runs.{Run, onward, beginRun, addRun, finishRun, addsRun, writeRun, Accepted, objectIn, writtenBody, objectOf}
 
 -- Segments that adding takes, but for the room.

@@ -15,8 +15,8 @@ use Rattle.writer_state.specs.declared.Writer.{Writer}
 use Rattle.writer_rules.specs.Refusals.{addNumber, finishNumber}
 use Rattle.writer_rules.proofs.Laws.{taken}
 use Rattle.writer_begin_finish.specs.Ends.{headerOf, beginNumber, beginAnswer, beginBuffer, finishAnswer, finishBuffer}
-use Rattle.writer.specs.Writing.{addAnswerIn, addBufferIn, addAnswer, addBuffer}
-use Rattle.readback.specs.Runs.{Run, WriterCall, onward, beginRun, finishRun, addsRun, writeRun, actsRun, anyRun, takenFrom, takenIn, Accepted}
+use Rattle.writer.specs.Writing.{addAnswerIn, addBufferIn}
+use Rattle.readback.specs.Runs.{WriterCall, beginRun, finishRun, addsRun, writeRun, actsRun, anyRun, takenFrom, takenIn, Accepted}
 use Rattle.readback.specs.Runs.WriterCall.{adding, finishing}
 use Rattle.readback.proofs.Images.{went-on, begin-number, finish-number, add-onward, begin-onward}
 

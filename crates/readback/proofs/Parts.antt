@@ -1,15 +1,15 @@
 -- Laws about parts of octet strings, and about octets that are all 0.
-use Prim.Native.Nat.{ℕ, suc, _+_, _-_, _*_, _/_, _%_, _≤_, _<_}
+use Prim.Native.Nat.{ℕ, suc, _+_, _-_, _≤_, _<_}
 use mathlib.Core.Path.{_≡_, refl, sym, _∙_, ap}
-use mathlib.Core.Bool.{Bool, true, false, cond, _&&_}
-use mathlib.Core.List.{List, [], _∷_, _++_, append-assoc}
+use mathlib.Core.Bool.{true}
+use mathlib.Core.List.{List, [], _∷_, _++_}
 use lib.Dec.{eqb}
-use lib.ListN.{length, getD, take, drop, replicate, length-append, length-drop, length-replicate}
-use lib.Seq.{length-take-le, take-at, drop-at, take-add, drop-drop, take-all}
+use lib.ListN.{length, take, drop, replicate, length-replicate}
+use lib.Seq.{take-at, drop-at, take-add, drop-drop}
 use native.Mathlib.Omega.{arith}
 use borrow.Author.Tests.{eqb-true, eq-eqb}
 use Rattle.octets.specs.Octets.{octetOf, part, over, partOf}
-use Rattle.octets.proofs.Laws.{length-part, length-over, getD-part}
+use Rattle.octets.proofs.Laws.{length-part, length-over}
 use Rattle.writer_spare.specs.Spare.{zeros}
 use Rattle.writer_spare.proofs.Laws.{zeros-both}
 use Rattle.readback.specs.Ignored.{EachOctet}

@@ -1,33 +1,33 @@
 -- The first theorem: what was written is read back. The body splits at the lengths that its second octets say (`body-chain`), each subobject stands at its place and reads as its segment
 -- (`reads`, from Segments), and so no check of the whole object finds anything (`checks-all`); which object that is, Images says.
-use Prim.Native.Nat.{ℕ, zero, suc, _+_, _-_, _*_, _/_, _%_, _≤_, _<_}
+use Prim.Native.Nat.{ℕ, zero, suc, _+_, _-_, _%_, _≤_, _<_}
 use mathlib.Core.Path.{_≡_, refl, sym, _∙_, ap}
-use mathlib.Core.Bool.{Bool, true, false, cond, not, _&&_, _||_}
+use mathlib.Core.Bool.{Bool, true, false, cond, not, _&&_}
 use mathlib.Core.List.{List, [], _∷_, _++_, append-assoc, append-nil}
-use lib.Dec.{eqb, ltb, leb}
+use lib.Dec.{eqb}
 use lib.Seq.{getD-take, length-take-le}
 use lib.ListN.{length, getD, take, drop, replicate, length-append, List·getD-append}
 use native.Mathlib.Nat.{add-zero}
 use native.Mathlib.Omega.{arith}
 use borrow.Author.Tests.{eq-eqb, ne-eqb, eqb-true, eqb-false, not-false, lt-ltb}
-use Rattle.octets.specs.Octets.{octetOf, be16, hi, lo, part, over, partOf}
+use Rattle.octets.specs.Octets.{octetOf, be16, part, over, partOf}
 use Rattle.octets.proofs.Laws.{length-part, getD-part}
 use Rattle.octets.proofs.Said.{both-true, and-false, and-no, cases}
 use Rattle.answers.specs.Verdicts.{acceptedWith, carryingBoth}
 use Rattle.forms.specs.declared.Form.{Form}
-use Rattle.forms.specs.Forms.{srv6Form, mplsForm, formOf, naiLength}
+use Rattle.forms.specs.Forms.{srv6Form, mplsForm, formOf}
 use Rattle.forms.specs.Sized.{Sized}
 use Rattle.session.specs.declared.Session.{Session}
 use Rattle.session.specs.declared.Limit.the-variants.{Free}
 use Rattle.subobject.specs.declared.head.Head.{Head}
 use Rattle.subobject.specs.declared.segment.Segment.{Segment}
-use Rattle.subobject.specs.Layout.{sidLength, structureThere, structureLength, kindOf, headOf, headAt}
+use Rattle.subobject.specs.Layout.{sidLength, structureThere, headOf, headAt}
 use Rattle.subobject.specs.Rules.{rule10, rule11, hasStructure, sumAt, bitsAt, labelAt, timeAt, hasLabel, rule29, rule30}
-use Rattle.subobject.specs.Segments.{segmentAt, noSegment, headOfSegment, fixedOctets, structureOctets, subobjectOf, bitsOf}
+use Rattle.subobject.specs.Segments.{segmentAt, noSegment, headOfSegment, subobjectOf, bitsOf}
 use Rattle.subobject.proofs.Unbroken.{UnbrokenBy}
 use Rattle.subobject_strays.specs.Strays.{straysAt, noStrays, strayIn}
-use Rattle.frame.specs.Checks.{Check, check, firstBroken}
-use Rattle.frame.specs.Frames.{classOf, headed, fitsIn, Apart, apart, apartOf, placesOf, kindAt, anyIs, rule4, rule5, rule14, frameChecks}
+use Rattle.frame.specs.Checks.{check}
+use Rattle.frame.specs.Frames.{headed, fitsIn, Apart, apartOf, placesOf, kindAt, anyIs, rule4, rule5, rule14}
 use Rattle.frame.specs.Fills.{FillsFrom, stop, link}
 use Rattle.frame.proofs.Fills.{fills-whole}
 use Rattle.frame.proofs.Checks.{None, none-first, none-append, unbroken-none}
@@ -35,7 +35,6 @@ use Rattle.frame.proofs.Laws.{fits-made}
 use Rattle.frame.proofs.OneKind.{AllKind, kind-present, kinds-unmixed, kinds-present}
 use Rattle.frame.proofs.OneKind.AllKind.{none as kind-none, next as kind-next}
 use Rattle.frame_rules.proofs.Laws.{headed-last}
-use Rattle.route.specs.declared.picking.Picked.{Picked}
 use Rattle.route_walk.specs.Walk.{checksAt, subobjectChecks}
 use Rattle.route.specs.Routes.{rule12, rule13, rule15, wholeChecks, lastChecks, checksOf, countOf, strayCount, acceptanceOf, judgeAs, pickOf, segmentAs, judgeOf, segmentOf}
 use Rattle.route.proofs.Answer.{accepted-none}
@@ -47,17 +46,17 @@ use Rattle.writer_layout.proofs.Laws.{length-subobject}
 use Rattle.forms.proofs.Laws.{sized-by}
 use Rattle.writer_layout.proofs.Forms.{readable-by}
 use Rattle.writer_state.specs.declared.Writer.{Writer}
-use Rattle.writer_rules.specs.Refusals.{mostOctets, unfit}
+use Rattle.writer_rules.specs.Refusals.{mostOctets}
 use Rattle.writer_rules.proofs.Laws.{Fit, size-subobject}
 use Rattle.writer_begin_finish.specs.Ends.{headerOf}
-use Rattle.readback.specs.Runs.{Run, writeRun, Accepted, objectIn, writtenBody, objectOf, AllTyped, openSession}
+use Rattle.readback.specs.Runs.{writeRun, Accepted, objectIn, writtenBody, objectOf, AllTyped, openSession}
 use Rattle.readback.specs.Runs.AllTyped.{more}
 use Rattle.readback.specs.Ignored.{ignoredAt, ignoredIn, ignoredOf}
 use Rattle.readback.proofs.Parts.{zeros-append, zeros-cons}
 use Rattle.readback.proofs.Images.AllFit.{also}
 use Rattle.readback.proofs.Images.{AllFit, Image, image, length-object}
 use Rattle.readback.proofs.Stands.{StandsAt, stands-octet, stands-first}
-use Rattle.readback.proofs.Segments.{Plain, plain, there, stands-four, stands-sid, stands-bits, head-back, segment-back, strays-back, ignored-back}
+use Rattle.readback.proofs.Segments.{plain, there, stands-four, stands-sid, stands-bits, head-back, segment-back, strays-back, ignored-back}
 
 -- the octets of a segment --------------------------------------------------------------------------------------
 

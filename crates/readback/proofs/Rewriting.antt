@@ -1,27 +1,24 @@
 -- The third theorem: rewriting what was read gives the same octets exactly if all ignored bits were 0. An acceptance says that the subobjects fill the object (`whole-fills`), all of
 -- the form's type and sound (`all-sound`); then each run of octets, header and subobjects, is compared with the written one by itself (`header-same`, `header-back`; Subobjects).
-use Prim.Native.Nat.{ℕ, zero, suc, _+_, _-_, _*_, _/_, _%_, _≤_, _<_}
+use Prim.Native.Nat.{ℕ, zero, suc, _+_, _-_, _/_, _%_, _≤_, _<_}
 use mathlib.Core.Path.{_≡_, refl, sym, _∙_, ap}
-use mathlib.Core.Bool.{Bool, true, false, not, _&&_, _||_}
-use mathlib.Core.List.{List, [], _∷_, _++_, append-assoc, append-nil}
+use mathlib.Core.Bool.{Bool, true, false, not}
+use mathlib.Core.List.{List, [], _∷_, _++_}
 use lib.Dec.{eqb, ltb}
-use lib.ListN.{length, getD, take, drop, length-append, length-drop, take-append-drop, drop-of-length-le}
-use lib.Seq.{drop-cons, drop-drop, take-at, drop-at, length-take-le}
+use lib.ListN.{length, getD, take, drop, length-append, take-append-drop, drop-of-length-le}
+use lib.Seq.{drop-cons, drop-drop, length-take-le}
 use native.Mathlib.Omega.{arith}
-use borrow.Author.Tests.{eqb-true, eqb-false, eq-eqb, ne-eqb, le-ltb, lt-ltb, not-true}
+use borrow.Author.Tests.{eqb-true, eqb-false, eq-eqb, ne-eqb, le-ltb, lt-ltb}
 use Rattle.octets.specs.Octets.{octetOf, be16, part, hi, lo, over, placed}
-use Rattle.octets.proofs.Laws.{length-part, getD-part, length-over, length-placed}
+use Rattle.octets.proofs.Laws.{length-part, length-over, length-placed}
 use Rattle.forms.specs.declared.Form.{Form}
 use Rattle.forms.specs.Forms.{formOf}
 use Rattle.forms.specs.Sized.{Sized}
 use Rattle.session.specs.declared.Session.{Session}
-use Rattle.subobject.specs.declared.head.Head.{Head}
 use Rattle.subobject.specs.declared.segment.Segment.{Segment}
-use Rattle.subobject.specs.Layout.{headAt}
-use Rattle.subobject.specs.Rules.{rule7, rule8, rule9, rule11, bitsAt}
-use Rattle.subobject.specs.Segments.{segmentAt, noSegment, subobjectOf}
-use Rattle.frame.specs.Checks.{check, firstBroken}
-use Rattle.frame.specs.Frames.{classOf, headed, fitsIn, placesOf, kindAt, rule4, rule5}
+use Rattle.subobject.specs.Segments.{segmentAt, subobjectOf}
+use Rattle.frame.specs.Checks.{check}
+use Rattle.frame.specs.Frames.{classOf, headed, fitsIn, placesOf, kindAt, rule5}
 use Rattle.frame.specs.Fills.{FillsFrom, stop, link}
 use Rattle.frame.proofs.Fills.{whole-fills}
 use Rattle.frame.proofs.OneKind.{AllKind, frame-kinds}
@@ -31,19 +28,18 @@ use Rattle.frame.proofs.Laws.{fits-true, headed-sized}
 use Rattle.route_walk.specs.Walk.{checksAt, subobjectChecks}
 use Rattle.route.specs.Routes.{lastChecks, checksOf, countOf, acceptanceOf, judgeAs, pickOf, segmentAs, judgeOf, segmentOf, rule15}
 use Rattle.route.proofs.Answer.{accepted-none, accepted-count, accepted-frame}
-use Rattle.writer_spare.specs.Typed.{Typed}
 use Rattle.writer_spare.specs.Spare.{zeros}
 use Rattle.writer_layout.specs.Readable.{Readable}
 use Rattle.forms.proofs.Laws.{sized-by}
 use Rattle.writer_layout.proofs.Forms.{readable-by}
 use Rattle.writer_state.specs.declared.Writer.{Writer}
-use Rattle.writer_rules.specs.Refusals.{mostOctets, addNumber, finishNumber, unfit, noRoom, badPlace, passes}
+use Rattle.writer_rules.specs.Refusals.{mostOctets, addNumber, finishNumber, noRoom, badPlace, passes}
 use Rattle.writer_begin_finish.specs.Ends.{headerOf, beginNumber}
-use Rattle.readback.specs.Runs.{Run, onward, beginRun, addRun, finishRun, addsRun, writeRun, Accepted, objectIn, writtenBody, objectOf, AllTyped}
+use Rattle.readback.specs.Runs.{addsRun, writeRun, Accepted, objectIn, writtenBody, objectOf, AllTyped}
 use Rattle.readback.specs.Runs.AllTyped.{none as typed-none, more}
 use Rattle.readback.specs.Ignored.{EachOctet, ignoredAt, ignoredIn, ignoredOf, askedFrom, segmentsRead}
 use Rattle.writer_rules.proofs.Laws.{Fit}
-use Rattle.readback.proofs.Images.{AllFit, Image, image, length-object, finish-number, add-number, begin-number, add-onward, begin-onward}
+use Rattle.readback.proofs.Images.{AllFit, image, finish-number, add-onward, begin-onward}
 use Rattle.readback.proofs.Images.AllFit.{none as fit-none, also}
 use Rattle.octets.proofs.Said.{both-true}
 use Rattle.readback.proofs.Reading.{sub-fours}

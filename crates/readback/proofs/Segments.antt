@@ -1,31 +1,30 @@
 -- A segment is read back from its octets. A fit segment keeps to what `Plain` lists; where its subobject stands in a string, so does each part, at a place that the lengths before it give
 -- (`stands-fixed` to `stands-last`), and from each part one field of the segment comes back; then the strays, and the ignored bits, are 0.
-use Prim.Native.Nat.{ℕ, _+_, _-_, _*_, _/_, _%_, _≤_, _<_}
+use Prim.Native.Nat.{ℕ, _+_, _-_, _*_, _/_, _%_, _<_}
 use mathlib.Core.Path.{_≡_, refl, sym, _∙_, ap}
 use mathlib.Core.Bool.{Bool, true, false, cond, not, _&&_, _||_}
-use mathlib.Core.List.{List, [], _∷_, _++_, append-assoc}
+use mathlib.Core.List.{List, [], _∷_, _++_}
 use lib.Dec.{eqb}
-use lib.ListN.{length, getD, take, drop, replicate, length-append}
-use lib.Seq.{length-take-le, take-at, take-all}
+use lib.ListN.{length, take, drop}
+use lib.Seq.{length-take-le, take-all}
 use native.Mathlib.Nat.{add-assoc}
 use native.Mathlib.Omega.{arith}
-use borrow.Author.Tests.{eqb-true, eq-eqb, ne-eqb, not-false}
-use Rattle.octets.specs.Octets.{octetOf, be16, part, over, partOf, hi, lo}
+use borrow.Author.Tests.{eqb-true, eq-eqb, not-false}
+use Rattle.octets.specs.Octets.{octetOf, be16, part, partOf, hi, lo}
 use Rattle.octets.proofs.Laws.{part-none}
 use Rattle.forms.specs.declared.Form.{Form}
 use Rattle.forms.specs.Forms.{flagIn, naiLength}
 use Rattle.forms.specs.Sized.{Sized}
 use Rattle.forms.proofs.Laws.{nai-most}
-use Rattle.subobject.specs.declared.head.Head.{Head}
 use Rattle.subobject.specs.declared.segment.Segment.{Segment}
-use Rattle.subobject.specs.Layout.{sidLength, structureThere, structureLength, expectedLength, kindOf, headOf, headAt}
-use Rattle.subobject.specs.Rules.{rule7, rule8, rule9, malformed, rule11, flagF, hasStructure, sumAt, bitsAt}
-use Rattle.subobject.specs.Segments.{segmentBy, segmentAt, outlineOf, headOfSegment, flagsOctet, fixedOctets, structureOctets, subobjectOf, bitsOf, bit}
+use Rattle.subobject.specs.Layout.{sidLength, kindOf, headOf, headAt}
+use Rattle.subobject.specs.Rules.{rule7, malformed, flagF, hasStructure}
+use Rattle.subobject.specs.Segments.{segmentBy, segmentAt, outlineOf, headOfSegment, flagsOctet, fixedOctets, structureOctets, subobjectOf, bit}
 use Rattle.subobject_strays.specs.Strays.{strayFlags, structureFlags, reservedOctets, anySet, straysBy, straysAt, noStrays}
 use Rattle.writer_spare.specs.Typed.{Typed}
 use Rattle.writer_spare.specs.Spare.{zeros, tidyOf}
 use Rattle.writer_layout.specs.Readable.{together, Marks, FlagsApart, Readable}
-use Rattle.writer_layout.proofs.Laws.{length-fixed, length-sid, length-nai, length-subobject, length-structure, flags-small, bit-most, four}
+use Rattle.writer_layout.proofs.Laws.{length-fixed, length-sid, length-nai, flags-small, bit-most}
 use Rattle.octets.proofs.Said.{both-true, either-false, cond-most}
 use Rattle.writer_rules.specs.Refusals.{foreign, unfit}
 use Rattle.writer_rules.proofs.Checks.{seven-written}

@@ -1,15 +1,15 @@
 -- Octets that stand at a place of an octet string.
 use Prim.Native.Nat.{ℕ, _+_, _-_, _≤_, _<_}
 use mathlib.Core.Path.{_≡_, refl, sym, _∙_, ap}
-use mathlib.Core.Bool.{Bool, true, false, cond, _&&_}
+use mathlib.Core.Bool.{true}
 use mathlib.Core.List.{List, [], _∷_, _++_, append-assoc}
 use lib.Dec.{eqb}
 use lib.ListN.{length, getD, take, drop, replicate, length-append, length-drop, take-append-drop, List·getD-append, length-replicate, replicate-append-replicate}
-use lib.Seq.{length-take-le, take-at, drop-at, getD-append-add, drop-append-add, drop-drop, take-all}
-use native.Mathlib.Nat.{add-assoc, add-zero}
+use lib.Seq.{length-take-le, take-at, drop-at, getD-append-add}
+use native.Mathlib.Nat.{add-zero}
 use native.Mathlib.Omega.{arith}
 use borrow.Author.Tests.{eqb-true}
-use Rattle.octets.specs.Octets.{octetOf, be16, part, over, partOf}
+use Rattle.octets.specs.Octets.{octetOf, part, over}
 use Rattle.octets.proofs.Said.{both-true}
 use Rattle.writer_spare.specs.Spare.{zeros}
 

@@ -8,7 +8,7 @@ use lib.Dec.{eqb}
 use lib.ListN.{getD}
 use native.Mathlib.Nat.{add-assoc, zero-add, suc-mul}
 use native.Mathlib.Omega.{arith}
-use borrow.Author.Tests.{eqb-true, eq-eqb, ne-eqb}
+use borrow.Author.Tests.{eq-eqb, ne-eqb}
 use Rattle.octets.specs.Octets.{octetOf, be16, part}
 use Rattle.forms.specs.declared.Form.{Form}
 use Rattle.forms.specs.Sized.{Sized}
@@ -19,7 +19,7 @@ use Rattle.frame.specs.Frames.{placesOf}
 use Rattle.writer_spare.specs.Spare.{zeros}
 use Rattle.writer_spare.proofs.Laws.{zeros-both, part-zero}
 use Rattle.writer_layout.specs.Readable.{Readable}
-use Rattle.readback.specs.Ignored.{EachOctet, unassignedAt, endingAt, assignedAt, ignoredAt, strayBitsAt, ignoredIn, strayBitsIn, assignedIn, ignoredOf}
+use Rattle.readback.specs.Ignored.{EachOctet, unassignedAt, endingAt, assignedAt, strayBitsAt, ignoredIn, strayBitsIn, assignedIn, ignoredOf}
 use Rattle.readback.proofs.Parts.{octet-small}
 
 -- one subobject ------------------------------------------------------------------------------------------------

@@ -3,13 +3,13 @@
 use Prim.Native.Nat.{ℕ, zero, suc, _+_, _-_, _*_, _/_, _%_, _≤_, _<_}
 use mathlib.Core.Path.{_≡_, refl, sym, _∙_, ap}
 use mathlib.Core.Bool.{Bool, true, false, cond, not, _&&_, _||_}
-use mathlib.Core.List.{List, [], _∷_, _++_, append-assoc}
-use lib.Dec.{eqb, ltb}
-use lib.ListN.{length, getD, take, drop, replicate, length-append, length-drop, take-append-drop}
+use mathlib.Core.List.{List, [], _∷_, _++_}
+use lib.Dec.{eqb}
+use lib.ListN.{length, getD, take, drop, replicate, take-append-drop}
 use lib.Seq.{length-take-le, take-all}
 use native.Mathlib.Omega.{arith}
 use native.Mathlib.Nat.{add-zero, add-assoc, add-mul, suc-mul}
-use borrow.Author.Tests.{eqb-true, eq-eqb, ne-eqb, not-false}
+use borrow.Author.Tests.{eqb-true, eq-eqb, not-false}
 use Rattle.octets.specs.Octets.{octetOf, be16, end16, part, over, partOf, hi, lo}
 use Rattle.octets.proofs.Laws.{length-part, getD-part, part-none}
 use Rattle.forms.specs.declared.Form.{Form}
@@ -17,18 +17,17 @@ use Rattle.forms.specs.Forms.{flagIn, naiLength}
 use Rattle.forms.specs.Sized.{Sized}
 use Rattle.forms.proofs.Laws.{flag-most, nai-most}
 use Rattle.subobject.specs.declared.head.Head.{Head}
-use Rattle.subobject.specs.declared.segment.Segment.{Segment}
 use Rattle.subobject.specs.Layout.{sidLength, structureThere, structureLength, expectedLength, kindOf, headOf, headAt}
-use Rattle.subobject.specs.Rules.{rule7, rule8, rule9, malformed, rule11, flagF, hasStructure, sumAt, labelAt, timeAt, hasLabel, rule29, rule30}
+use Rattle.subobject.specs.Rules.{rule7, rule8, rule9, malformed, rule11, flagF, hasStructure, labelAt, timeAt, hasLabel, rule29, rule30}
 use Rattle.subobject.specs.Segments.{segmentBy, segmentAt, outlineOf, headOfSegment, flagsOctet, fixedOctets, structureOctets, subobjectOf, bitsOf, bit}
 use Rattle.subobject.proofs.Unbroken.{UnbrokenAt}
 use Rattle.frame.specs.Frames.{kindAt}
 use Rattle.writer_fixed.specs.Small.{Bits}
 use Rattle.writer_spare.specs.Typed.{Typed}
 use Rattle.writer_spare.specs.Spare.{zeros, tidyOf}
-use Rattle.writer_layout.specs.Readable.{together, Readable}
+use Rattle.writer_layout.specs.Readable.{Readable}
 use Rattle.writer_layout.proofs.Laws.{length-fixed, four}
-use Rattle.octets.proofs.Said.{both-true, either-false, cond-most}
+use Rattle.octets.proofs.Said.{either-false, cond-most}
 use Rattle.writer_rules.specs.Refusals.{foreign, unfit}
 use Rattle.writer_rules.proofs.Checks.{seven-written}
 use Rattle.writer_rules.proofs.Laws.{Fit, size-subobject}

@@ -1,20 +1,19 @@
 -- Under every setup type but 1 judging and picking compute to SRv6's own, in document 01's numbers (specs/Alone). Each rule of SRv6's form is rewritten into the
 -- paper's words (`r7` to `r30`; 29 and 30 never hold), then along the subobjects the checks give the same answer (`all-alone`). Assumes nothing.
-use Prim.Native.Nat.{ℕ, _+_, _/_, _%_}
+use Prim.Native.Nat.{ℕ, _+_}
 use mathlib.Core.Path.{_≡_, refl, sym, _∙_, ap}
 use mathlib.Core.List.{List, [], _∷_, _++_, append-nil}
 use mathlib.Core.Bool.{Bool, true, false, cond, not, _&&_, _||_}
 use lib.ListN.{length, getD}
 use lib.Dec.{eqb, ltb}
 use native.Mathlib.Nat.{div-one}
-use borrow.Author.Tests.{eqb-true}
 use Rattle.octets.proofs.Said.{and-false}
 use Rattle.answers.specs.declared.verdict.Verdict.{Verdict}
 use Rattle.answers.specs.Verdicts.{carryingBoth}
 use Rattle.octets.specs.Octets.{octetOf}
 use Rattle.objects.specs.Objects.{mplsSetup}
 use Rattle.forms.specs.declared.Form.{Form}
-use Rattle.forms.specs.Forms.{srv6Form, flagIn, naiLength, knows}
+use Rattle.forms.specs.Forms.{srv6Form, flagIn, knows}
 use Rattle.forms.proofs.Laws.{form-srv6, srv6-nais}
 use Rattle.session.specs.declared.Session.{Session}
 use Rattle.subobject.specs.declared.head.Head.{Head}
@@ -23,10 +22,9 @@ use Rattle.subobject.specs.Rules.{rule7, rule8, rule9, malformed, rule10, rule1
 use Rattle.subobject.specs.Segments.{segmentAt}
 use Rattle.subobject_strays.specs.Strays.{strayFlags, structureFlags, reservedOctets, straysAt, strayIn}
 use Rattle.frame.specs.Checks.{Check, check, firstBroken}
-use Rattle.frame.specs.Frames.{placesOf, frameChecks}
+use Rattle.frame.specs.Frames.{placesOf}
 use Rattle.frame.proofs.Checks.{first-append}
 use Rattle.route_walk.specs.Walk.{checksAt, subobjectChecks}
-use Rattle.route.specs.declared.picking.Picked.{Picked}
 use Rattle.route.specs.Routes.{rule13, lastChecks, acceptanceOf, judgeAs, rule15, pickOf, segmentAs, judgeOf, segmentOf}
 use Rattle.route.specs.Alone.{
   structured,

@@ -3,45 +3,42 @@
 -- place in the frame (`place-fits`) it follows where its parts lie. Assumes nothing.
 use Prim.Native.Nat.{ℕ, zero, suc, _+_, _-_, _%_, _≤_, _<_}
 use mathlib.Core.Path.{_≡_, refl, sym, _∙_, ap}
-use mathlib.Core.List.{List, [], _∷_, _++_}
-use mathlib.Core.Bool.{Bool, true, false, cond, not, _&&_}
-use lib.Dec.{ltb, eqb}
+use mathlib.Core.List.{List, [], _∷_}
+use mathlib.Core.Bool.{Bool, true, false, cond}
+use lib.Dec.{eqb}
 use lib.ListN.{length, getD, drop, length-drop}
 use native.Mathlib.Omega.{arith}
-use borrow.Author.Tests.{eq-eqb, ne-eqb, lt-ltb, le-ltb, eqb-true, eqb-false, not-false}
+use borrow.Author.Tests.{ne-eqb, lt-ltb, le-ltb, eqb-false}
 use Rattle.forms.specs.declared.Form.{Form}
 use Rattle.forms.specs.Sized.{Shortest}
 use Rattle.forms.proofs.Laws.{flag-most}
 use Rattle.answers.specs.declared.verdict.Verdict.{Verdict}
-use Rattle.answers.specs.Numbers.{notAgreed, noSuchSegment}
-use Rattle.answers.specs.Verdicts.{refusedBy, acceptedWith, carryingBoth}
-use Rattle.session.specs.declared.Limit.{Limit}
+use Rattle.answers.specs.Numbers.{noSuchSegment}
+use Rattle.answers.specs.Verdicts.{refusedBy, acceptedWith}
 use Rattle.session.specs.declared.Session.{Session}
-use Rattle.octets.specs.Octets.{octetOf, be16}
-use Rattle.subobject.specs.declared.head.Head.{Head}
+use Rattle.octets.specs.Octets.{octetOf}
 use Rattle.subobject.specs.declared.segment.Segment.{Segment}
 use Rattle.objects.specs.Objects.{header, unit}
 use Rattle.subobject.specs.Layout.{headOf, headAt, expectedAt}
 use Rattle.subobject.specs.Rules.{rule7, rule8, rule9}
-use Rattle.subobject.specs.Segments.{segmentAt, noSegment}
+use Rattle.subobject.specs.Segments.{segmentAt}
 use Rattle.subobject_strays.specs.declared.Strays.{Strays}
-use Rattle.subobject_strays.specs.Strays.{straysAt, noStrays}
+use Rattle.subobject_strays.specs.Strays.{straysAt}
 use Rattle.subobject_read.specs.declared.answer.Reading.{Reading}
 use Rattle.subobject_read.specs.declared.answer.Reading.the-variants.{Whole, Refused}
 use Rattle.subobject_read.specs.Reader.{readOf}
-use Rattle.octets.proofs.Said.{both-true}
 use Rattle.subobject.proofs.Laws.{sound-length, sound-least}
-use Rattle.frame.specs.Checks.{Check, check, firstBroken}
-use Rattle.frame.specs.Frames.{headed, fitsIn, Apart, ended, unfilled, from, apart, apartOf, placesOf, rule4, rule5, frameChecks}
+use Rattle.frame.specs.Checks.{check, firstBroken}
+use Rattle.frame.specs.Frames.{headed, fitsIn, ended, unfilled, from, apart, apartOf, placesOf, rule5, frameChecks}
 use Rattle.frame.specs.Gathered.{frameOf}
-use Rattle.frame.proofs.Checks.{first-append, None, AllNumbered, none-first, none-append, none-split, numbered-append, first-none, first-some}
-use Rattle.frame.proofs.Laws.{SoundLength, headed-sized, fits-true}
+use Rattle.frame.proofs.Checks.{first-append, None, none-first, none-split, first-none, first-some}
+use Rattle.frame.proofs.Laws.{headed-sized, fits-true}
 use Rattle.route.specs.declared.picking.Picked.{Picked}
 use Rattle.route_walk.specs.Walk.{checksAt, subobjectChecks}
 use Rattle.route_walk.proofs.Laws.{head-size}
 use Rattle.route_pass.specs.Settled.{Settled}
 use Rattle.route.specs.Parts.{nothingWith}
-use Rattle.route.specs.Routes.{rule13, wholeChecks, lastChecks, checksOf, countOf, strayCount, acceptanceOf, judgeAs, rule15, pickOf, segmentAs}
+use Rattle.route.specs.Routes.{lastChecks, checksOf, countOf, acceptanceOf, judgeAs, rule15, pickOf, segmentAs}
 pub use Rattle.route_ordered.proofs.Ordered.{numbered-subobjects, numbered-frame, numbered-all, frame-sound, frame-bounds, frame-stops, frame-none, frame-count}
 pub use Rattle.route_ordered.proofs.Ordered.{agreed-stops, after-whole, walk-then-limit}
 

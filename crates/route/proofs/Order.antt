@@ -1,7 +1,7 @@
 -- Document 01's order of checks is the order of the list. A check's rank is how many stand before it; an earlier check has a lower rank and every rank
 -- below the list's length is that of a check, so that what holds of the list by rank holds of document 01's order. Assumes nothing.
-use Prim.Native.Nat.{ℕ, zero, suc, _+_, _*_, _/_, _%_, _≤_, _<_}
-use mathlib.Core.Path.{_≡_, refl, sym, _∙_, ap}
+use Prim.Native.Nat.{ℕ, zero, suc, _+_, _*_, _/_, _%_, _<_}
+use mathlib.Core.Path.{_≡_, refl, _∙_, ap}
 use mathlib.Core.List.{List, [], _∷_, _++_}
 use mathlib.Core.Bool.{Bool, true, false}
 use mathlib.Core.Logic.{_⊎_, inl, inr}
@@ -16,7 +16,7 @@ use Rattle.frame.specs.Frames.{placesOf}
 use Rattle.frame.proofs.Checks.{checkOf}
 use Rattle.subobject.specs.Rules.{ruleCount}
 use Rattle.route_walk.specs.Walk.{checksAt, subobjectChecks}
-use Rattle.route.specs.Routes.{lastChecks, wholeChecks, checksOf, countOf}
+use Rattle.route.specs.Routes.{lastChecks, checksOf, countOf}
 use Rattle.route.specs.Order.{Where, whole, inside, last, wholeCount, Among, Before, checkAt}
 
 -- ranks --------------------------------------------------------------------------------------------------------

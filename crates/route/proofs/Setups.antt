@@ -1,13 +1,13 @@
 -- The judgement by setup type: the PST names the form, SRv6's if it names none. Accepted is only 1 with MPLS agreed, and 3 with SRv6 agreed: an acceptance leaves 13
 -- unbroken, and 13 is taken apart. The rest is the law of any form, taken to the form named (`by-named`). Assumes nothing.
-use Prim.Native.Nat.{ℕ, _%_, _≤_, _<_}
+use Prim.Native.Nat.{ℕ, _%_, _≤_}
 use mathlib.Core.Path.{_≡_, refl, sym, _∙_, ap, subst}
 use mathlib.Core.List.{List}
 use mathlib.Core.Logic.{_⊎_, inl, inr}
-use mathlib.Core.Bool.{Bool, true, false, cond, not, _&&_}
+use mathlib.Core.Bool.{Bool, true, false, cond, _&&_}
 use lib.Dec.{eqb}
 use lib.ListN.{length, drop}
-use borrow.Author.Tests.{eqb-true, eqb-false, le-ltb, not-false}
+use borrow.Author.Tests.{eqb-true, le-ltb, not-false}
 use Rattle.octets.proofs.Said.{both-true}
 use Rattle.objects.specs.Objects.{header, unit, mplsSetup, srv6Setup}
 use Rattle.forms.specs.declared.Form.{Form}

@@ -1,10 +1,10 @@
 -- What a verdict means. Accepted exactly if no rule is broken; refused by n at p exactly if n is broken at p and nothing before it in document 01's order is. The
 -- answer is the first broken check of a list (frame/proofs/Checks, by rank), and a place in the order is a rank in that list (`rank-check`, `standing`: proofs/Order).
 -- Assumes nothing.
-use Prim.Native.Nat.{ℕ, _+_, _*_, _<_}
+use Prim.Native.Nat.{ℕ, _<_}
 use mathlib.Core.Path.{_≡_, refl, sym, _∙_, ap}
 use mathlib.Core.List.{List, [], _∷_}
-use mathlib.Core.Bool.{Bool, true, false}
+use mathlib.Core.Bool.{Bool, false}
 use lib.ListN.{length}
 use native.Mathlib.Omega.{arith}
 use Rattle.forms.specs.declared.Form.{Form}
@@ -18,14 +18,14 @@ use Rattle.subobject.specs.Layout.{sidPlace, headOf, headAt}
 use Rattle.subobject.specs.Rules.{rule7, rule8, rule9, rule10, rule11, rule29, rule30, bitsAt, labelAt, timeAt}
 use Rattle.subobject.specs.Segments.{segmentAt}
 use Rattle.frame.specs.Checks.{Check, check}
-use Rattle.frame.proofs.Checks.{checkOf, First, Found, none-all, all-none, none-first, first-answer, answer-first}
+use Rattle.frame.proofs.Checks.{checkOf, none-all, all-none, none-first, first-answer, answer-first}
 use Rattle.route.specs.declared.picking.Picked.{Picked}
 use Rattle.route_walk.specs.Walk.{checksAt}
 use Rattle.route.specs.Parts.{sessionBy}
 use Rattle.route.specs.Routes.{wholeChecks, rule12, checksOf, countOf, acceptanceOf, judgeAs, segmentAs, judgeOf, segmentOf}
-use Rattle.route.specs.Order.{Where, wholeCount, Among, Before, checkAt, FirstBroken}
+use Rattle.route.specs.Order.{Where, wholeCount, Among, checkAt, FirstBroken}
 use Rattle.route.proofs.Answer.{accepted-none}
-use Rattle.route.proofs.Order.{rank, rank-within, before-lower, lower-before, Standing, standing, checks-length, rank-check}
+use Rattle.route.proofs.Order.{rank, rank-within, before-lower, lower-before, standing, checks-length, rank-check}
 
 -- of any form --------------------------------------------------------------------------------------------------
 

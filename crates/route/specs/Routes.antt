@@ -11,7 +11,6 @@ use Rattle.forms.specs.Forms.{formOf}
 use Rattle.answers.specs.declared.verdict.Verdict.{Verdict}
 use Rattle.answers.specs.Numbers.{noSuchSegment}
 use Rattle.session.specs.declared.Session.{Session}
-use Rattle.subobject.specs.declared.segment.Segment.{Segment}
 use Rattle.subobject.specs.Segments.{segmentAt, noSegment}
 use Rattle.subobject_strays.specs.Strays.{straysAt, noStrays}
 use Rattle.frame.specs.Checks.{check, firstBroken}

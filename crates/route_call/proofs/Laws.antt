@@ -1,6 +1,6 @@
 -- The two ways out of each call: 28, or what the inner call answers under the limit for this route.
 use Prim.Native.Nat.{ℕ}
-use mathlib.Core.Path.{_≡_, refl, sym, ap, _∙_}
+use mathlib.Core.Path.{_≡_, sym, ap, _∙_}
 use mathlib.Core.List.{List}
 use mathlib.Core.Bool.{Bool, true, false, _||_}
 use Rattle.answers.specs.declared.verdict.Verdict.{Verdict}

@@ -3,13 +3,13 @@
 -- before all others. A flag turned on never turns an accepted path into a refused one: what it changes is the limit, which it never lowers
 -- (`raised-keeps`), and an acceptance under a limit stays under any that permits as much (`limit-keeps`). Without flags, and without addresses, the
 -- answer is that of the inner judgement under the session's own limit.
-use Prim.Native.Nat.{ℕ, _≤_, _<_}
+use Prim.Native.Nat.{ℕ, _<_}
 use native.Mathlib.Omega.{arith}
 use mathlib.Core.Path.{_≡_, refl, sym, ap, subst, _∙_}
-use mathlib.Core.Logic.{_↔_, _⊎_, inl, inr, ⊎-elim}
+use mathlib.Core.Logic.{_↔_, _⊎_, ⊎-elim}
 use mathlib.Core.List.{List, []}
-use mathlib.Core.Bool.{Bool, true, false, cond, not, _&&_, _||_, false≢true}
-use lib.Dec.{eqb, ltb}
+use mathlib.Core.Bool.{Bool, true, false, cond, _&&_, _||_, false≢true}
+use lib.Dec.{eqb}
 use borrow.Author.Tests.{le-ltb, ltb-false}
 use Rattle.forms.specs.Forms.{formOf}
 use Rattle.answers.specs.declared.verdict.Verdict.{Verdict}

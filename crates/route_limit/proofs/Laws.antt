@@ -1,11 +1,11 @@
 -- Laws of the limit that an ERO is judged by: the first segment in the code's words, and what the limit is. Each way out of the code is one law: the tests that led
 -- there are rewritten into the definition, and it computes to what is returned.
-use Prim.Native.Nat.{ℕ, _+_, _/_, _%_, _≤_, _<_}
+use Prim.Native.Nat.{ℕ, _+_, _/_, _≤_, _<_}
 use native.Mathlib.Omega.{arith}
 use mathlib.Core.Path.{_≡_, refl, sym, ap, _∙_}
 use mathlib.Core.List.{List, []}
-use mathlib.Core.Bool.{Bool, true, false, cond, _&&_, _||_}
-use lib.ListN.{length, take, drop, length-take, length-drop}
+use mathlib.Core.Bool.{Bool, true, false, cond}
+use lib.ListN.{length, drop, length-take, length-drop}
 use lib.Dec.{eqb}
 use Rattle.octets.proofs.Said.{and-false, or-true}
 use Rattle.answers.proofs.Determined.{determined}
@@ -13,9 +13,8 @@ use Rattle.octets.specs.Octets.{octetOf, part}
 use Rattle.objects.specs.Objects.{header}
 use Rattle.session.specs.declared.Limit.{Limit}
 use Rattle.session.specs.declared.Session.{Session}
-use Rattle.msd.specs.Msd.{absent, depthIn}
+use Rattle.msd.specs.Msd.{absent}
 use Rattle.msd.proofs.Laws.{depth-none}
-use Rattle.msd_limit.specs.Limits.{oneMoreBy}
 use Rattle.forms.specs.declared.Form.{Form}
 use Rattle.forms.specs.Forms.{srv6Form, flagIn}
 use Rattle.subobject.specs.Layout.{naiPlace, worthNT, headOf, headAt}

@@ -4,7 +4,7 @@
 -- All of it is defined for any octets: of an object that is refused before the limit is asked for, no answer shows which limit it was.
 use Prim.Native.Nat.{ℕ}
 use mathlib.Core.List.{List}
-use mathlib.Core.Bool.{Bool, true, false, cond, _&&_, _||_}
+use mathlib.Core.Bool.{Bool, true, cond, _&&_, _||_}
 use lib.Dec.{eqb}
 use Rattle.octets.specs.Octets.{part}
 use Rattle.objects.specs.Objects.{header}

@@ -1,10 +1,10 @@
 -- The labels alone that a route begins with: each is a subobject of MPLS's type that breaks no rule and is not stray, whatever is asked, so the pass stands behind them.
 -- The head of each is the same one, and its rules are computed. Assumes nothing.
-use Prim.Native.Nat.{ℕ, zero, suc, _+_, _*_, _-_, _%_, _≤_, _<_}
-use mathlib.Core.Path.{_≡_, refl, sym, _∙_, ap, subst}
+use Prim.Native.Nat.{ℕ, zero, suc, _+_, _*_, _-_, _≤_}
+use mathlib.Core.Path.{_≡_, refl}
 use mathlib.Core.List.{List}
 use mathlib.Core.Bool.{Bool, true, false}
-use lib.ListN.{length, getD}
+use lib.ListN.{length}
 use native.Mathlib.Omega.{arith}
 use Rattle.octets.specs.Octets.{octetOf, be16}
 use Rattle.objects.specs.Objects.{header}

@@ -1,22 +1,20 @@
 -- The pass: the places that it has gone over, the last first, with the frame from `at` on behind them, are the whole frame; each of them is a subobject of the
 -- form's type that breaks no rule. At the object's end that settles the rules on the frame and those of the subobjects. Assumes nothing.
-use Prim.Native.Nat.{ℕ, suc, _+_, _-_, _*_, _/_, _%_, _≤_, _<_}
+use Prim.Native.Nat.{ℕ, _+_, _-_, _*_, _/_, _%_, _≤_, _<_}
 use mathlib.Core.Path.{_≡_, refl, sym, _∙_, ap, subst}
 use mathlib.Core.List.{List, [], _∷_}
-use mathlib.Core.Bool.{Bool, true, false, cond}
-use lib.Dec.{eqb}
+use mathlib.Core.Bool.{Bool, true, false}
 use lib.ListN.{length}
 use native.Mathlib.Omega.{arith}
-use borrow.Author.Tests.{ne-eqb, le-ltb}
+use borrow.Author.Tests.{ne-eqb}
 use Rattle.answers.specs.Verdicts.{acceptedWith, carryingBoth}
 use Rattle.octets.specs.Octets.{octetOf}
 use Rattle.objects.specs.Objects.{header}
 use Rattle.forms.specs.declared.Form.{Form}
 use Rattle.subobject.specs.declared.head.Head.{Head}
-use Rattle.subobject.specs.Layout.{headOf, headAt, kindOf, sidPlace}
+use Rattle.subobject.specs.Layout.{headOf, headAt, sidPlace}
 use Rattle.subobject.specs.Rules.{rule7, rule8, rule9, rule10, rule11, rule29, rule30, bitsAt, labelAt, timeAt, rules, subjectBy}
 use Rattle.subobject_strays.specs.Strays.{straysBy, straysAt, strayOne, strayIn}
-use Rattle.frame.specs.Checks.{Check, firstBroken}
 use Rattle.frame.specs.Frames.{Apart, ended, headed, fitsIn, apartOf, placesOf, kindAt, rule4, rule5}
 use Rattle.frame.specs.Gathered.{frameOf}
 use Rattle.frame.proofs.Checks.{None, none-first, none-append, unbroken-none}

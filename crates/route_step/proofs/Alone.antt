@@ -1,7 +1,7 @@
 -- Under every setup type but 1 a step computes to SRv6's own, in document 01's numbers (specs/Alone): each rule of SRv6's form is rewritten into the paper's words by the
 -- laws of route/proofs/Alone, and so is the segment handed out. Assumes nothing.
 use Prim.Native.Nat.{ℕ}
-use mathlib.Core.Path.{_≡_, refl, sym, _∙_, ap}
+use mathlib.Core.Path.{_≡_, sym, _∙_, ap}
 use mathlib.Core.List.{List}
 use mathlib.Core.Bool.{Bool}
 use Rattle.objects.specs.Objects.{mplsSetup}

@@ -5,15 +5,13 @@ use native.Mathlib.Omega.{arith}
 use mathlib.Core.Path.{_≡_, refl, sym, ap, _∙_}
 use mathlib.Core.List.{List, [], _∷_}
 use mathlib.Core.Bool.{Bool, true, false, not, _||_}
-use lib.Dec.{eqb, ltb, leb}
+use lib.Dec.{eqb, ltb}
 use lib.ListN.{length, getD}
 use borrow.Author.Tests.{le-leb}
-use Rattle.answers.specs.declared.verdict.Verdict.{Verdict}
 use Rattle.answers.specs.Numbers.{noSuchSegment}
 use Rattle.answers.specs.Verdicts.{refusedBy, acceptedWith}
 use Rattle.octets.specs.Octets.{octetOf}
 use Rattle.objects.specs.Objects.{header, unit}
-use Rattle.forms.specs.declared.Form.{Form}
 use Rattle.forms.specs.Forms.{formOf}
 use Rattle.session.specs.declared.Session.{Session}
 use Rattle.subobject.specs.Layout.{headOf, headAt}
@@ -30,7 +28,6 @@ use Rattle.route.specs.Routes.{judgeAs, judgeOf, segmentOf, countOf}
 use Rattle.route.proofs.Answer.{accepted-none, accepted-count, accepted-frame, accepted-subobject, pick-there}
 use Rattle.route_step.specs.declared.stepping.Stepped.{Stepped}
 use Rattle.route_step_tests.specs.Places.{outside}
-use Rattle.route_step_rules.specs.StepRules.{stepVerdict}
 use Rattle.route_step_rules.proofs.Laws.{stops-15}
 use Rattle.route_step.specs.Steps.{stepAs, stepOf, stepsFrom}
 use Rattle.route_step.proofs.Laws.{Sound, sound-accepted}

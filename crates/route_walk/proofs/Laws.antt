@@ -4,7 +4,7 @@
 use Prim.Native.Nat.{ℕ, _+_, _-_, _%_, _≤_, _<_}
 use mathlib.Core.Path.{_≡_, refl, sym, _∙_, ap}
 use mathlib.Core.List.{List, [], _∷_, _++_}
-use mathlib.Core.Bool.{Bool, true, false, cond}
+use mathlib.Core.Bool.{Bool, true, false}
 use lib.ListN.{length, getD, drop}
 use lib.Seq.{drop-cons}
 use lib.Dec.{eqb}
@@ -21,11 +21,9 @@ use Rattle.subobject.specs.declared.head.Head.{Head}
 use Rattle.subobject.specs.Layout.{headOf, headAt, expectedLength}
 use Rattle.subobject.specs.Rules.{subjectBy, subjectAt, RuleRow, rules, ruleCount, brokenBy, placeBy}
 use Rattle.subobject_strays.specs.Strays.{straysBy, straysAt, strayOne, strayIn}
-use Rattle.subobject_strays.specs.Four.{markedAt, endingMarked}
 use Rattle.subobject.proofs.Laws.{sound-length}
-use Rattle.subobject_strays.proofs.Laws.{unmarked-none}
 use Rattle.frame.specs.Checks.{Check, check, firstBroken}
-use Rattle.frame.specs.Frames.{Apart, apartOf, placesOf}
+use Rattle.frame.specs.Frames.{apartOf, placesOf}
 use Rattle.frame.proofs.Laws.{Over, over-starts, over-ends, over-as, sound-starts, sound-room, sound-next, next-by}
 use Rattle.route_walk.specs.Walk.{checksAt, subobjectChecks, walkOf}
 

@@ -1,6 +1,6 @@
 -- Laws of the session of two answers, in the order of specs/Sessions.
 use Prim.Native.Nat.{ℕ}
-use mathlib.Core.Path.{_≡_, refl}
+use mathlib.Core.Path.{_≡_}
 use mathlib.Core.Bool.{Bool, true, false}
 use borrow.Author.Tests.{ne-eqb}
 use lib.Dec.{eqb}

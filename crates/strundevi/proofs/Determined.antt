@@ -13,7 +13,6 @@ use Rattle.writer_begin_finish.specs.Ends.{beginAnswer, beginBuffer, finishAnsw
 use Rattle.writer.specs.Writing.{addAnswer, addBuffer}
 use Rattle.board_rules.specs.OnRecord.{removeOn, compactOn, nextOn, movedOn}
 use Rattle.board_report_call.specs.Reported.{reportForOn, reportStoreForOn}
-use Rattle.border_records.specs.declared.verdict.VerdictRecord.{VerdictRecord}
 use Rattle.border_opened.specs.declared.opened.OpenedRecord.{OpenedRecord}
 use Rattle.border_session.specs.declared.SessionRecord.{SessionRecord}
 use Rattle.border_opened.specs.declared.positions.PositionsRecord.{PositionsRecord}
@@ -23,12 +22,7 @@ use Rattle.border_opened.specs.Opens.{openedIn, openedOut, positionsIn}
 use Rattle.border_session.specs.Agreed.{sessionsIn, sessionsOut}
 use Rattle.route_step.specs.Steps.{stepOf}
 use Rattle.border_segment.specs.Segments.{outlineIn, pickedOut, steppedOut}
-use Rattle.border_segment.specs.declared.picking.PickedRecord.{PickedRecord}
 use Rattle.border_answers.specs.declared.writing.WriterRecord.{WriterRecord}
-use Rattle.border_answers.specs.declared.writing.WrittenRecord.{WrittenRecord}
-use Rattle.border_looks.specs.declared.PartRecord.{PartRecord}
-use Rattle.border_answers.specs.declared.change.ChangeRecord.{ChangeRecord}
-use Rattle.border_looks.specs.declared.MarkRecord.{MarkRecord}
 use Rattle.border_answers.specs.AnswersOut.{writerIn, writtenOut, changeOut}
 use Rattle.border_looks.specs.Looks.{partOut, freshOut}
 

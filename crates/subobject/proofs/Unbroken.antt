@@ -1,16 +1,15 @@
 -- A sound subobject: it breaks none of the rules that hang on no session, in their order 8, 9, 7, 11, 29, 30. That it has no check broken is the same but for 10
 -- (`none-unbroken`, `unbroken-none` in frame/proofs/Checks). Assumes nothing.
 use Prim.Native.Nat.{ℕ}
-use mathlib.Core.Path.{_≡_, refl}
-use mathlib.Core.Bool.{Bool, true, false, not}
+use mathlib.Core.Path.{_≡_}
+use mathlib.Core.Bool.{Bool, false}
 use mathlib.Core.List.{List}
-use borrow.Author.Tests.{eq-eqb}
 use Rattle.forms.specs.declared.Form.{Form}
 use Rattle.subobject.specs.declared.head.Head.{Head}
 use Rattle.subobject.specs.declared.segment.Segment.{Segment}
-use Rattle.subobject.specs.Layout.{sidPlace, expectedLength, headAt}
-use Rattle.subobject.specs.Rules.{rule7, rule8, rule9, malformed, flagF, rule11, rule29, rule30, bitsAt, labelAt, timeAt}
-use Rattle.subobject.specs.Segments.{headOfSegment, bitsOf, bit}
+use Rattle.subobject.specs.Layout.{sidPlace, headAt}
+use Rattle.subobject.specs.Rules.{rule7, rule8, rule9, rule11, rule29, rule30, bitsAt, labelAt, timeAt}
+use Rattle.subobject.specs.Segments.{headOfSegment, bitsOf}
 
 -- By its head, the sum of its bit lengths, its label and TTL.
 pub record Unbroken (form : Form) (h : Head) (bits label time : ℕ) : Type 0 where

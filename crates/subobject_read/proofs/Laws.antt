@@ -12,7 +12,6 @@ use Rattle.forms.specs.declared.Form.{Form}
 use Rattle.subobject.specs.Layout.{expectedLength, headAt, expectedAt}
 use Rattle.subobject_strays.specs.declared.Strays.{Strays}
 use Rattle.subobject_strays.specs.Strays.{straysBy, straysAt}
-use Rattle.subobject_read.specs.declared.answer.Reading.{Reading}
 use Rattle.subobject_read.specs.declared.answer.Reading.the-variants.{Whole, Refused}
 use Rattle.subobject_read.specs.Reader.{readOf}
 

@@ -2,14 +2,13 @@
 use Prim.Native.Nat.{ℕ, zero, suc, _+_, _*_, _/_, _%_, _^_, _≤_, _<_}
 use mathlib.Core.Path.{_≡_, refl, sym, _∙_, ap, subst}
 use mathlib.Core.List.{List}
-use mathlib.Core.Bool.{Bool, true, false, false≢true, cond, not, _&&_, _||_}
+use mathlib.Core.Bool.{Bool, true, false, false≢true, not, _&&_, _||_}
 use lib.Dec.{eqb, leb}
 use lib.ListN.{getD}
 use native.Mathlib.Omega.{arith}
 use borrow.Author.Tests.{eq-eqb, eqb-true, eqb-false, leb-true, not-true}
 use Rattle.octets.specs.Octets.{octetOf}
 use Rattle.octets.proofs.Said.{both-true}
-use Rattle.forms.specs.declared.Form.{Form}
 use Rattle.forms.specs.Forms.{mplsForm, flagIn, naiLength, knows}
 use Rattle.subobject.specs.declared.head.Head.{Head}
 use Rattle.subobject.specs.Layout.{expectedLength, headOf, headAt}

@@ -1,18 +1,18 @@
 -- The label of an MPLS subobject that breaks no rule before 29. Assumes nothing.
-use Prim.Native.Nat.{ℕ, _+_, _*_, _/_, _≤_}
-use mathlib.Core.Path.{_≡_, refl, sym, _∙_, ap}
+use Prim.Native.Nat.{ℕ, _+_, _≤_}
+use mathlib.Core.Path.{_≡_, refl, sym, _∙_}
 use mathlib.Core.List.{List}
 use mathlib.Core.Bool.{Bool, true, false, not, _&&_, _||_}
 use lib.Dec.{eqb, ltb}
 use lib.ListN.{getD}
 use native.Mathlib.Omega.{arith}
-use borrow.Author.Tests.{eq-eqb, ne-eqb, eqb-true, eqb-false, le-ltb, not-true}
-use Rattle.octets.specs.Octets.{octetOf, be16}
+use borrow.Author.Tests.{eq-eqb, ne-eqb, eqb-false, not-true}
+use Rattle.octets.specs.Octets.{octetOf}
 use Rattle.octets.proofs.Said.{either-false, and-no}
 use Rattle.forms.specs.Forms.{mplsForm}
 use Rattle.subobject.specs.declared.head.Head.{Head}
 use Rattle.subobject.specs.Layout.{expectedLength}
-use Rattle.subobject.specs.Rules.{rule7, rule29, rule30, flagF, malformed, hasLabel, labelAt, timeAt, firstFree, goodLabel}
+use Rattle.subobject.specs.Rules.{rule7, rule29, rule30, flagF, malformed, hasLabel, timeAt, firstFree, goodLabel}
 use Rattle.subobject_sound.proofs.Laws.{label-room}
 
 -- Where M is 1 there is a SID, and so are its four octets.

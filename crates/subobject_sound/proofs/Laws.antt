@@ -1,18 +1,18 @@
 -- What the tests of one subobject say of its rules. Assumes nothing.
-use Prim.Native.Nat.{ℕ, _+_, _-_, _%_, _≤_, _<_}
-use mathlib.Core.Path.{_≡_, refl, sym, _∙_, ap}
+use Prim.Native.Nat.{ℕ, _+_, _-_, _≤_}
+use mathlib.Core.Path.{_≡_, refl, sym, _∙_}
 use mathlib.Core.List.{List}
 use mathlib.Core.Bool.{Bool, true, false, false≢true, cond, not, _&&_, _||_}
-use lib.Dec.{eqb, ltb, leb}
-use lib.ListN.{length, getD}
+use lib.Dec.{eqb, leb}
+use lib.ListN.{getD}
 use native.Mathlib.Omega.{arith}
-use borrow.Author.Tests.{eq-eqb, eqb-true, le-ltb, leb-true, not-true}
+use borrow.Author.Tests.{eq-eqb, le-ltb, leb-true, not-true}
 use Rattle.octets.specs.Octets.{octetOf}
 use Rattle.octets.proofs.Said.{both-true, and-false}
 use Rattle.forms.specs.declared.Form.{Form}
 use Rattle.forms.specs.Forms.{noNai, naiLength, knows}
 use Rattle.subobject.specs.declared.head.Head.{Head}
-use Rattle.subobject.specs.Layout.{sidLength, structureThere, structureLength, expectedLength, structurePlace, sidPlace}
+use Rattle.subobject.specs.Layout.{structureThere, structureLength, expectedLength, structurePlace, sidPlace}
 use Rattle.subobject.specs.Rules.{rule7, rule8, rule11, rule29, rule30, flagF, malformed, mostBits, hasStructure, hasLabel, sumAt, bitsAt, labelAt, timeAt}
 
 -- 8: an NT other than 0 has an NAI.

@@ -5,7 +5,6 @@ use mathlib.Core.Path.{_≡_, refl, sym, _∙_, ap}
 use mathlib.Core.Bool.{Bool, true, false, false≢true, cond, not, _&&_, _||_}
 use mathlib.Core.List.{List, [], _∷_, _++_}
 use lib.Dec.{eqb}
-use lib.ListN.{length}
 use native.Mathlib.Nat.{zero-add, le-refl, le-div-iff-mul-le}
 use native.Mathlib.Omega.{arith}
 use borrow.Author.Tests.{eq-eqb, ne-eqb, eqb-true, eqb-false}
@@ -15,9 +14,9 @@ use Rattle.forms.specs.declared.Form.{Form}
 use Rattle.forms.specs.Forms.{naiLength}
 use Rattle.subobject.specs.declared.head.Head.{Head}
 use Rattle.subobject_strays.specs.declared.Strays.{Strays}
-use Rattle.subobject.specs.Layout.{structureSize, bitLengths, expectedLength}
+use Rattle.subobject.specs.Layout.{structureSize, expectedLength}
 use Rattle.subobject.specs.Rules.{hasStructure}
-use Rattle.subobject_strays.specs.Strays.{reservedPlace, strayFlags, structureReserved, structureFlags, reservedOctets, anySet, straysBy, isStray, strayOne}
+use Rattle.subobject_strays.specs.Strays.{reservedPlace, strayFlags, structureReserved, structureFlags, reservedOctets, anySet, straysBy, strayOne}
 use Rattle.octet_sums.specs.Sums.{sumThree, fourOf, fourAt}
 use Rattle.subobject_strays.specs.Four.{straysWith, markedAt, endingMarked}
 use Rattle.subobject.proofs.Laws.{there-sid}

@@ -1,8 +1,8 @@
 -- Octets 2 to 5 of an SRv6 subobject as one number: its unassigned flags and its reserved octets are the bits of a mask. Masking leaves the number below 16 and the
 -- one above 4095 (`masked`, by blocks of bits), and these are 0 exactly if the flags and both octets are (`set-fixed`, by arithmetic). Assumes nothing.
-use Prim.Native.Nat.{ℕ, zero, suc, _+_, _-_, _*_, _/_, _%_, _≤_, _<_}
-use mathlib.Core.Path.{_≡_, refl, sym, _∙_, ap}
-use mathlib.Core.Bool.{Bool, true, false, cond, not, _&&_, _||_}
+use Prim.Native.Nat.{ℕ, _+_, _-_, _*_, _/_, _%_, _<_}
+use mathlib.Core.Path.{_≡_, refl, _∙_, ap}
+use mathlib.Core.Bool.{Bool, true, false, not, _||_}
 use mathlib.Core.List.{List, [], _∷_}
 use lib.Bits.{bitAnd, and-mask, and-block}
 use lib.Dec.{eqb}

@@ -1,15 +1,15 @@
 -- The TLVs of an octet string are whole exactly if TLVs fill it, and are these; only the last one's padding may be missing or cut. Assumes nothing.
 use Prim.Native.Nat.{ℕ, zero, suc, _+_, _-_, _≤_, _<_}
 use native.Mathlib.Omega.{arith}
-use mathlib.Core.Path.{_≡_, refl, sym, _∙_, ap}
+use mathlib.Core.Path.{_≡_, refl}
 use mathlib.Core.Bool.{Bool, true, false, false≢true}
 use mathlib.Core.List.{List, []}
 use lib.Dec.{eqb, leb}
-use lib.ListN.{length, drop, length-drop, drop-of-length-le}
-use borrow.Author.Tests.{eq-eqb, ne-eqb, eqb-true, eqb-false, leb-true, leb-false}
+use lib.ListN.{length, length-drop, drop-of-length-le}
+use borrow.Author.Tests.{eq-eqb, ne-eqb, eqb-true, eqb-false, leb-false}
 use Rattle.octets.specs.Octets.{pad4}
 use Rattle.octets.proofs.Said.{both-true}
-use Rattle.tlvs.specs.Tlvs.{Tlvs, tlvsEnd, tlvsCut, tlv, tlvHead, tlvKind, tlvLength, tlvValue, tlvBehind, tlvFits, tlvTurn, tlvsIn, tlvsOf, tlvsWhole}
+use Rattle.tlvs.specs.Tlvs.{Tlvs, tlvsEnd, tlv, tlvHead, tlvLength, tlvBehind, tlvFits, tlvTurn, tlvsIn, tlvsOf, tlvsWhole}
 use Rattle.tlvs.specs.Filled.{Filled, none-left, one-more}
 
 -- Behind a TLV there is less than there was.

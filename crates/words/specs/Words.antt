@@ -1,8 +1,8 @@
 -- The words of a line: "words are separated by one space, with none in front or behind" (console.md). The numbers of a structure are words too, with
 -- commas between them.
 use Prim.Native.Nat.{ℕ, zero, suc}
-use mathlib.Core.Bool.{Bool, true, false, cond, _&&_}
-use mathlib.Core.List.{List, [], _∷_, _++_}
+use mathlib.Core.Bool.{cond}
+use mathlib.Core.List.{List, [], _∷_}
 use lib.Dec.{eqb}
 use Prim.Native.Char.{code}
 use Prim.Native.String.{String}

@@ -1,7 +1,7 @@
 -- What is barred before its NAI, and what a call for any form answers and leaves. An acceptance says that the place is good and the segment fits (`taken`),
 -- so that the rest of the buffer can be lent; `placed-back` puts it back. Assumes nothing.
 use Prim.Native.Nat.{ℕ, _+_, _-_, _≤_}
-use mathlib.Core.Path.{_≡_, refl, sym, _∙_, ap}
+use mathlib.Core.Path.{_≡_, refl, _∙_, ap}
 use mathlib.Core.Bool.{Bool, true, false, cond}
 use mathlib.Core.List.{List}
 use lib.ListN.{length, take, drop, length-drop}

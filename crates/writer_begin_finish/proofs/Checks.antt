@@ -1,7 +1,6 @@
 -- Begin and finish answer by the first broken check of their lists (writer_rules/specs/Checks): they refuse with n exactly if a check of that number is broken and none before it is, at
 -- place 0, and accept exactly if none is broken. Assumes nothing.
 use Prim.Native.Nat.{ℕ}
-use mathlib.Core.Path.{_≡_}
 use mathlib.Core.Bool.{Bool}
 use mathlib.Core.List.{List}
 use lib.ListN.{length}

@@ -1,16 +1,15 @@
 -- Both forms can be read again when they are written. For each form the numbers are known, so that flags in an octet are linear arithmetic (`omega`); an octet is put together again bit by
 -- bit (`by-four`). Assumes nothing.
-use Prim.Native.Nat.{ℕ, _+_, _*_, _/_, _%_, _≤_, _<_}
+use Prim.Native.Nat.{ℕ, _+_, _*_, _/_, _%_, _<_}
 use mathlib.Core.Path.{_≡_, refl, sym}
 use mathlib.Core.Bool.{Bool, true, false, cond}
 use lib.Dec.{eqb}
 use native.Mathlib.Nat.{div-one}
 use native.Mathlib.Omega.{arith}
-use Rattle.forms.specs.declared.Form.{Form}
 use Rattle.forms.specs.Forms.{srv6Form, mplsForm, formOf, flagIn, naiLength}
 use Rattle.forms.proofs.Laws.{of-both, srv6-fours, mpls-fours}
 use Rattle.writer_spare.specs.NaiSizes.{NaiOctets}
-use Rattle.writer_layout.specs.Readable.{together, Marks, FlagsApart, Readable}
+use Rattle.writer_layout.specs.Readable.{Marks, FlagsApart, Readable}
 
 srv6-apart : (v t f s c m : ℕ) → Marks srv6Form v t f s c m → FlagsApart srv6Form v t f s c m
 unfolding flagIn

@@ -2,7 +2,7 @@
 -- one behind the other are the subobject (`written`, by `over-at` from run to run).
 use Prim.Native.Nat.{ℕ, suc, _+_, _*_, _≤_, _<_}
 use mathlib.Core.Path.{_≡_, refl, sym, _∙_, ap}
-use mathlib.Core.Bool.{Bool, true, false, cond, not, _&&_, _||_}
+use mathlib.Core.Bool.{Bool, true, false, cond, not, _||_}
 use mathlib.Core.List.{List, [], _∷_, _++_, append-assoc}
 use borrow.Author.Tests.{ne-eqb, ltb-true, ltb-false, not-false}
 use lib.Dec.{eqb, ltb}
@@ -19,7 +19,7 @@ use Rattle.forms.proofs.Laws.{fixed-most, nai-most}
 use Rattle.subobject.specs.declared.segment.Segment.{Segment}
 use Rattle.subobject.specs.declared.head.Head.{Head}
 use Rattle.subobject.specs.Layout.{sidLength, structureLength, expectedLength, structureThere}
-use Rattle.subobject.specs.Rules.{rule8, hasStructure, flagF}
+use Rattle.subobject.specs.Rules.{rule8, hasStructure}
 use Rattle.subobject.specs.Segments.{headOfSegment, flagsOctet, fixedOctets, structureOctets, subobjectOf, bit}
 use Rattle.writer_spare.specs.Typed.{Typed}
 use Rattle.writer_layout.specs.Readable.{Readable}

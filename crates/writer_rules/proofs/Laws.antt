@@ -18,7 +18,7 @@ use Rattle.forms.proofs.Laws.{fixed-least, fixed-most, nai-most, nai-none}
 use Rattle.subobject.specs.declared.head.Head.{Head}
 use Rattle.subobject.specs.declared.segment.Outline.{Outline}
 use Rattle.subobject.specs.declared.segment.Segment.{Segment}
-use Rattle.subobject.specs.Layout.{bitLengths, structureSize, sidLength, structureThere, expectedLength}
+use Rattle.subobject.specs.Layout.{structureSize, sidLength, structureThere, expectedLength}
 use Rattle.subobject.specs.Rules.{rule7, rule8, flagF, rule9, malformed, hasStructure, mostBits, sumAt, rule11, labelAt, timeAt, hasLabel, rule29, rule30}
 use Rattle.subobject.specs.Segments.{outlineOf, headOfOutline, headOfSegment, subobjectOf, bitsOf, bit}
 use Rattle.subobject.proofs.Laws.{no-label as unlabelled}

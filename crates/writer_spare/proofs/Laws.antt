@@ -1,6 +1,6 @@
 -- Octets that are all 0, four at a time and run by run; which form it is. Four octets make a number that is 0 only if each is (`four-blank`); two runs one behind the other are 0 if both are
 -- (`zeros-both`), and so the looks of the code join to what stands behind an NAI of each length. Assumes nothing.
-use Prim.Native.Nat.{ℕ, _+_, _*_, _≤_, _<_}
+use Prim.Native.Nat.{ℕ, _+_, _≤_}
 use mathlib.Core.Path.{_≡_, refl, sym, _∙_, ap}
 use mathlib.Core.Bool.{Bool, true, false, cond, _&&_, _||_}
 use mathlib.Core.List.{List, [], _∷_, _++_}

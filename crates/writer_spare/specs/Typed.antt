@@ -1,5 +1,5 @@
 -- A segment as the code holds it: each number in its type, each array of its length.
-use Prim.Native.Nat.{ℕ, _<_}
+use Prim.Native.Nat.{_<_}
 use mathlib.Core.Path.{_≡_}
 use lib.ListN.{length}
 use Rattle.octets.specs.Octets.{end16}

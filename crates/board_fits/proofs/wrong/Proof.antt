@@ -1,5 +1,5 @@
 use borrow.Author.Needs.{needs}
-use mathlib.Core.Path.{_≡_, sym, ap, _∙_}
+use mathlib.Core.Path.{sym, ap, _∙_}
 use mathlib.Core.Bool.{Bool, not, cond}
 use Rattle.board_fits.proofs.wrong.Statement.{statement}
 use Rattle.board_fits.proofs.wrong.Tie as tie

@@ -1,4 +1,4 @@
-use mathlib.Core.Path.{_≡_, sym, _∙_, ap}
+use mathlib.Core.Path.{sym, _∙_, ap}
 use Rattle.session.specs.declared.Session.{Session}
 use Rattle.route_call.specs.Called.{judgedIn}
 use Rattle.border_routes.proofs.Laws.{mpls-judged, srv6-judged}

@@ -1,5 +1,4 @@
 use Rattle.command.proofs.Laws.{skipped-empty, skipped-first}
-use Rattle.command.specs.Commands.{skipped}
 use borrow.Author.Needs.{needs}
 use Rattle.command.proofs.is_skipped.Statement.{statement}
 use Rattle.command.proofs.is_skipped.Tie as tie

@@ -3,12 +3,12 @@ use Rattle.command.proofs.Laws.{made}
 use Prim.Native.Nat.{ℕ}
 use mathlib.Core.List.{List}
 use Rattle.same_octets.specs.Same.{sameOctets}
-use Rattle.command_forms.specs.Forms.{rows, verbOf, theEro}
+use Rattle.command_forms.specs.Forms.{rows, theEro}
 use Rattle.command_forms.specs.Rows.{placeNamed, verbAt}
 use Rattle.command_forms.proofs.Laws.{verb-named}
 use Rattle.command.proofs.Laws.{read-skipped, read-long, read-out-of-form, read-in-form}
 use borrow.Author.Tests.{not-true, not-false}
-use mathlib.Core.Path.{_≡_, refl, sym, _∙_, ap}
+use mathlib.Core.Path.{sym, _∙_, ap}
 use borrow.Author.Needs.{needs}
 use Rattle.command.proofs.parse.Statement.{statement}
 use Rattle.command.proofs.parse.Tie as tie

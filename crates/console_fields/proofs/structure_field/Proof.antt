@@ -1,4 +1,3 @@
-use Rattle.printing.proofs.Laws.{then}
 use native.Mathlib.Omega.{arith}
 use borrow.Author.Needs.{needs}
 use Rattle.console_fields.proofs.structure_field.Statement.{statement}

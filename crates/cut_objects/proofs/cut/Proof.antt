@@ -1,5 +1,5 @@
 use Rattle.cut_objects.proofs.Laws.{cut-short, cut-under, cut-missing, cut-whole}
-use mathlib.Core.Path.{_≡_, refl, sym, _∙_, ap}
+use mathlib.Core.Path.{_∙_}
 use native.Mathlib.Omega.{arith}
 use borrow.Author.Needs.{needs}
 use Rattle.cut_objects.proofs.cut.Statement.{statement}

@@ -1,6 +1,5 @@
 use lib.Seq.{length-take-le}
-use mathlib.Core.Path.{_≡_, refl, sym, _∙_, ap}
-use native.Mathlib.Omega.{arith}
+use mathlib.Core.Path.{sym}
 use borrow.Author.Needs.{needs}
 use Rattle.cut_objects.proofs.first.Statement.{statement}
 use Rattle.cut_objects.proofs.first.Tie as tie

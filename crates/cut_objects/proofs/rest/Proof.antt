@@ -1,5 +1,5 @@
 use Rattle.octets.proofs.Laws.{rest-lent}
-use mathlib.Core.Path.{_≡_, refl, sym, _∙_, ap}
+use mathlib.Core.Path.{_∙_}
 use borrow.Author.Needs.{needs}
 use Rattle.cut_objects.proofs.rest.Statement.{statement}
 use Rattle.cut_objects.proofs.rest.Tie as tie

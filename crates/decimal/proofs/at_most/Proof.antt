@@ -1,6 +1,6 @@
 use borrow.Author.Needs.{needs}
 use mathlib.Core.Path.{_∙_}
-use Rattle.decimal.specs.Decimal.{numberOf, isNumber, decimalValue, isAtMost}
+use Rattle.decimal.specs.Decimal.{numberOf, isAtMost}
 use Rattle.decimal.proofs.at_most.Statement.{statement}
 use Rattle.decimal.proofs.at_most.Tie as tie
 

@@ -1,7 +1,7 @@
 use Rattle.decimal.specs.Decimal.{isAtMost}
 use Rattle.decimal.proofs.Laws.{and, or}
 use mathlib.Core.List.{List}
-use mathlib.Core.Path.{_≡_, refl, sym, _∙_, ap}
+use mathlib.Core.Path.{_∙_, ap}
 use lib.Dec.{eqb}
 use Prim.Native.Nat.{ℕ}
 use borrow.Author.Needs.{needs}

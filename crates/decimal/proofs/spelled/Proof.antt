@@ -1,7 +1,7 @@
 use Rattle.decimal.proofs.Laws.{Reading, digit-is, digit-low, digit-high, some-there, empty-refused, nondigit-refused, overflow-refused, one-more, all-read}
 use lib.ListN.{length}
-use Prim.Native.Nat.{ℕ, suc, _+_, _-_, _≤_, _<_}
-use mathlib.Core.Path.{_≡_, refl, sym, _∙_, ap}
+use Prim.Native.Nat.{_-_}
+use mathlib.Core.Path.{refl}
 use native.Mathlib.Omega.{arith}
 use borrow.Author.Needs.{needs}
 use Rattle.decimal.proofs.spelled.Statement.{statement}

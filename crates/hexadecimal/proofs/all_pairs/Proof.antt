@@ -1,7 +1,7 @@
 use Rattle.hexadecimal.proofs.Laws.{allHex, pairs-even, pairs-odd, hex-miss, hex-hit, hex-end}
 use lib.ListN.{length, drop}
-use Prim.Native.Nat.{ℕ, suc, _+_, _-_, _*_, _/_, _≤_, _<_}
-use mathlib.Core.Path.{_≡_, refl, sym, _∙_, ap}
+use Prim.Native.Nat.{_-_, _≤_}
+use mathlib.Core.Path.{_≡_, refl, sym, _∙_}
 use native.Mathlib.Omega.{arith}
 use borrow.Author.Needs.{needs}
 use Rattle.hexadecimal.proofs.all_pairs.Statement.{statement}

@@ -1,9 +1,9 @@
 use Rattle.hexadecimal.proofs.Laws.{length-octets, octets-at, copied-all}
 use Rattle.hexadecimal.specs.Hexadecimal.{octetsOf}
 use Rattle.octets.proofs.Laws.{copied, copied-more}
-use lib.ListN.{length, drop, length-set}
-use Prim.Native.Nat.{ℕ, suc, _+_, _-_, _*_, _/_, _≤_, _<_}
-use mathlib.Core.Path.{_≡_, refl, sym, _∙_, ap}
+use lib.ListN.{length, length-set}
+use Prim.Native.Nat.{_-_, _*_, _/_, _≤_}
+use mathlib.Core.Path.{_≡_, refl, _∙_}
 use native.Mathlib.Omega.{arith}
 use borrow.Author.Needs.{needs}
 use Rattle.hexadecimal.proofs.decode.Statement.{statement}

@@ -1,6 +1,5 @@
 use Rattle.hexadecimal.proofs.Laws.{hex-figure, hex-upper, hex-lower, hex-before, hex-between, hex-amid, hex-behind}
-use Prim.Native.Nat.{ℕ, suc, _+_, _-_, _*_, _/_, _≤_, _<_}
-use mathlib.Core.Path.{_≡_, refl, sym, _∙_, ap}
+use Prim.Native.Nat.{_-_}
 use native.Mathlib.Omega.{arith}
 use borrow.Author.Needs.{needs}
 use Rattle.hexadecimal.proofs.hex_code.Statement.{statement}

@@ -1,8 +1,6 @@
 use Rattle.hexadecimal.proofs.Laws.{length-octets}
-use Prim.Native.Nat.{ℕ, suc, _+_, _-_, _*_, _/_, _≤_, _<_}
-use mathlib.Core.Path.{_≡_, refl, sym, _∙_, ap}
-use native.Mathlib.Omega.{arith}
-use borrow.Author.Needs.{needs}
+use Prim.Native.Nat.{_-_}
+use mathlib.Core.Path.{sym}
 use Rattle.hexadecimal.proofs.octets_in.Statement.{statement}
 use Rattle.hexadecimal.proofs.octets_in.Tie as tie
 

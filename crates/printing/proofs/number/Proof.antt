@@ -1,8 +1,7 @@
 use Rattle.printing.proofs.Laws.{digits-decimal, fewest-20}
-use Rattle.printing.specs.Text.{Behind, decimalOf}
-use lib.ListN.{length, length-take}
-use Prim.Native.Nat.{ℕ, suc, _+_, _-_, _*_, _/_, _≤_, _<_}
-use mathlib.Core.Path.{_≡_, refl, sym, _∙_, ap}
+use lib.ListN.{length-take}
+use Prim.Native.Nat.{_-_}
+use mathlib.Core.Path.{_∙_}
 use native.Mathlib.Omega.{arith}
 use borrow.Author.Needs.{needs}
 use Rattle.printing.proofs.number.Statement.{statement}

@@ -1,6 +1,5 @@
 use Rattle.printing.proofs.Laws.{dash-for-none, digits-for-some, hex-length}
-use Prim.Native.Nat.{ℕ, suc, _+_, _-_, _*_, _/_, _≤_, _<_}
-use mathlib.Core.Path.{_≡_, refl, sym, _∙_, ap}
+use Prim.Native.Nat.{_-_}
 use native.Mathlib.Omega.{arith}
 use borrow.Author.Needs.{needs}
 use Rattle.printing.proofs.octets.Statement.{statement}

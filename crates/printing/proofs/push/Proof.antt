@@ -1,7 +1,5 @@
 use Rattle.printing.proofs.Laws.{behind-placed}
-use Prim.Native.Nat.{ℕ, suc, _+_, _-_, _*_, _/_, _≤_, _<_}
-use mathlib.Core.Path.{_≡_, refl, sym, _∙_, ap}
-use native.Mathlib.Omega.{arith}
+use Prim.Native.Nat.{_-_}
 use borrow.Author.Needs.{needs}
 use Rattle.printing.proofs.push.Statement.{statement}
 use Rattle.printing.proofs.push.Tie as tie

@@ -2,8 +2,8 @@
 use Rattle.same_octets.proofs.Laws.{same-lengths, same-miss, same-hit, same-end}
 use Rattle.same_octets.specs.Same.{sameOctets}
 use lib.ListN.{length, drop}
-use Prim.Native.Nat.{ℕ, suc, _+_, _-_, _≤_, _<_}
-use mathlib.Core.Path.{_≡_, refl, sym, _∙_, ap}
+use Prim.Native.Nat.{_-_, _≤_}
+use mathlib.Core.Path.{_≡_, refl, sym, _∙_}
 use native.Mathlib.Omega.{arith}
 use borrow.Author.Needs.{needs}
 use Rattle.same_octets.proofs.same.Statement.{statement}

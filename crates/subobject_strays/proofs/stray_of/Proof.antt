@@ -1,7 +1,6 @@
 use native.Mathlib.Omega.{arith}
-use mathlib.Core.Path.{_≡_, sym, _∙_}
+use mathlib.Core.Path.{sym, _∙_}
 use Rattle.subobject_strays.proofs.Laws.{unmarked-none, marked-one, ending-one}
-use borrow.Author.Needs.{needs}
 use Rattle.subobject_strays.proofs.stray_of.Statement.{statement}
 use Rattle.subobject_strays.proofs.stray_of.Tie as tie
 

@@ -1,5 +1,5 @@
 use native.Mathlib.Omega.{arith}
-use mathlib.Core.Path.{_≡_, sym, _∙_}
+use mathlib.Core.Path.{sym, _∙_}
 use Rattle.forms.specs.Forms.{srv6Form}
 use Rattle.subobject_strays.proofs.Laws.{unmarked-none, marked-one, ending-one}
 use borrow.Author.Needs.{needs}

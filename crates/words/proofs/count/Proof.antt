@@ -2,8 +2,8 @@ use Rattle.words.proofs.Laws.{words-hit, words-miss, words-end}
 use Rattle.words.specs.Words.{wordsIn}
 use mathlib.Core.Logic.{⊎-elim}
 use lib.ListN.{length, drop}
-use Prim.Native.Nat.{ℕ, suc, _+_, _-_, _≤_, _<_}
-use mathlib.Core.Path.{_≡_, refl, sym, _∙_, ap}
+use Prim.Native.Nat.{_+_, _-_, _≤_}
+use mathlib.Core.Path.{_≡_, refl}
 use native.Mathlib.Omega.{arith}
 use borrow.Author.Needs.{needs}
 use Rattle.words.proofs.count.Statement.{statement}

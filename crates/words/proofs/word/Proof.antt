@@ -1,12 +1,12 @@
 -- A walk from word to word: `k` words are still to be passed, and the word asked for is word `k` of what lies behind `from` (`word-next`); at the
 -- line's end there is none (`word-past`), and at `k` = 0 it is what lies before the next mark (`word-last`).
 use lib.Seq.{take-nil}
-use lib.ListN.{length, drop, take, length-take, length-drop, drop-of-length-le}
+use lib.ListN.{length, drop, length-take, length-drop, drop-of-length-le}
 use Rattle.words.proofs.Laws.{word-next, word-past, word-last}
 use Rattle.words.specs.Words.{wordOf}
 use lib.ListN.{length, drop}
-use Prim.Native.Nat.{ℕ, suc, _+_, _-_, _≤_, _<_}
-use mathlib.Core.Path.{_≡_, refl, sym, _∙_, ap}
+use Prim.Native.Nat.{_-_, _≤_}
+use mathlib.Core.Path.{_≡_, refl, sym, _∙_}
 use native.Mathlib.Omega.{arith}
 use borrow.Author.Needs.{needs}
 use Rattle.words.proofs.word.Statement.{statement}

@@ -1,8 +1,8 @@
 -- 17 and 24 refuse and leave all as it was. Else what the sweep leaves is the compacted table, the order is that table's without the emptied places, the largest versions are worked out anew, and the
 -- three are the record of the answer.
-use mathlib.Core.Path.{refl, sym, ap, _∙_, subst}
+use mathlib.Core.Path.{refl, sym}
 use mathlib.Core.Bool.{true, false}
-use Rattle.board_record.specs.Table.{Table, tableOf}
+use Rattle.board_record.specs.Table.{tableOf}
 use Rattle.board_record.specs.Record.{withRows}
 use Rattle.board_rules.proofs.Told.{board-proper}
 use Rattle.board_rules.proofs.OnRecord.{record-is, tidy-order, tidy-tops, result-not, result-refused, result-accepted}

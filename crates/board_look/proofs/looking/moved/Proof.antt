@@ -1,4 +1,4 @@
-use mathlib.Core.Path.{refl, sym, _∙_}
+use mathlib.Core.Path.{sym, _∙_}
 use Rattle.board_record.specs.Table.{tableOf}
 use Rattle.board_record.specs.Record.{withRows}
 use Rattle.board_rules.proofs.OnRecord.{record-is, tidy-tops, moved-not, moved-on}

@@ -1,5 +1,4 @@
 -- One law for each way out: no board, a refused mark, level, a removal, a path.
-use native.Mathlib.Omega.{arith}
 use Rattle.board_record.specs.Table.{tableOf}
 use mathlib.Core.Path.{refl, sym, ap}
 use mathlib.Core.Bool.{true, false}

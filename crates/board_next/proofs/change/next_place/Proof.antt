@@ -1,14 +1,9 @@
 -- The invariant: no place before number i is wanted. A way out is a wanted place, or the end of the places.
-use Prim.Native.Nat.{ℕ, _≤_, _<_, _-_}
+use Prim.Native.Nat.{_-_}
 use native.Mathlib.Omega.{arith}
 use borrow.Author.Needs.{needs}
-use mathlib.Core.Path.{_≡_, refl, sym, _∙_}
-use mathlib.Core.Bool.{true}
-use lib.ListN.{getD, length}
 use Rattle.board_record.specs.Sizes.{places}
-use Rattle.board_record.specs.Table.{tableOf, versionAt, lengthAt}
-use Rattle.board_record.specs.Search.{Wanted}
-use Rattle.board_order.specs.Above.{firstAbove}
+use Rattle.board_record.specs.Table.{tableOf}
 use Rattle.board_next.proofs.Along.{Along, on-chain, along-start, along-more, found-newer, found-path, none-here, none-left}
 use Rattle.board_next.proofs.change.next_place.Statement.{statement}
 use Rattle.board_next.proofs.change.next_place.Tie as tie

@@ -1,9 +1,9 @@
 -- The first loop sifts the order (`Sifting`): a number that names no place, one of an empty place, one that is kept. The second fills it up with 0 (`Filling`).
-use Prim.Native.Nat.{ℕ, _≤_, _-_}
+use Prim.Native.Nat.{ℕ, _-_}
 use native.Mathlib.Omega.{arith}
 use borrow.Author.Needs.{needs}
 use borrow.Author.Tests.{not-true}
-use mathlib.Core.Path.{_≡_, refl, sym, ap, _∙_}
+use mathlib.Core.Path.{refl, sym, ap, _∙_}
 use lib.ListN.{getD}
 use Rattle.board_record.specs.Sizes.{places}
 use Rattle.board_record.specs.Table.{tableOf}

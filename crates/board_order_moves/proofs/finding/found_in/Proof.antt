@@ -1,8 +1,7 @@
-use Prim.Native.Nat.{ℕ, _≤_, _-_}
+use Prim.Native.Nat.{_≤_, _-_}
 use native.Mathlib.Omega.{arith}
 use borrow.Author.Needs.{needs}
 use mathlib.Core.Path.{_≡_, _∙_}
-use mathlib.Core.Bool.{not}
 use lib.ListN.{length, getD}
 use lib.Dec.{eqb}
 use Rattle.board_record.specs.Sizes.{places}

@@ -1,4 +1,3 @@
-use native.Mathlib.Omega.{arith}
 use borrow.Author.Needs.{needs}
 use Rattle.board_record.specs.Table.{tableOf}
 use Rattle.board_record.proofs.Proper.{proper-is}

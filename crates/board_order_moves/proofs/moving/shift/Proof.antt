@@ -1,7 +1,6 @@
-use Prim.Native.Nat.{ℕ, _≤_, _-_}
+use Prim.Native.Nat.{_≤_, _-_}
 use native.Mathlib.Omega.{arith}
-use borrow.Author.Needs.{needs}
-use mathlib.Core.Path.{_≡_, refl, sym, _∙_}
+use mathlib.Core.Path.{sym, _∙_}
 use lib.ListN.{length-set}
 use Rattle.board_order_moves.proofs.Moves.{Shifting, shifting-none, shifting-more, shift-done}
 use Rattle.board_order_moves.proofs.moving.shift.Statement.{statement}

@@ -1,6 +1,6 @@
 use native.Mathlib.Omega.{arith}
 use borrow.Author.Needs.{needs}
-use mathlib.Core.Path.{_≡_, sym}
+use mathlib.Core.Path.{sym}
 use Rattle.board_record.proofs.Logic.{true≢false}
 use Rattle.board_order_numbers.specs.Buckets.{along}
 use Rattle.board_order_numbers.proofs.Laws.{walk-from, joined, no-key, key-before, key-new}

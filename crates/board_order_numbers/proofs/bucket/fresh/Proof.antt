@@ -1,8 +1,8 @@
 -- The invariant: the walk of the key's bucket has come to p, and no number from p on has the key (`Walking`). A link and each way out is a law of `Laws`.
-use Prim.Native.Nat.{ℕ, _≤_, _-_, _<_}
+use Prim.Native.Nat.{ℕ, _-_}
 use native.Mathlib.Omega.{arith}
 use borrow.Author.Needs.{needs}
-use mathlib.Core.Path.{_≡_, refl, sym, ap, _∙_}
+use mathlib.Core.Path.{sym, ap, _∙_}
 use lib.ListN.{getD}
 use Rattle.board_order_numbers.specs.Buckets.{along, Walking}
 use Rattle.board_order_numbers.proofs.Laws.{along-at, walk-on, walk-hit, walk-ends}

@@ -1,9 +1,9 @@
 -- The invariant: the numbers of the order so far name places that are sound (`Along`), the buckets of the hash hold all their keys (`Hashed`), the largest versions
 -- met are those so far (`Topped`), and the bound is the larger of the last version and the floor (`Bounded`). Each way out is a law of `Passing` or `Tops`.
-use Prim.Native.Nat.{ℕ, _≤_, _-_, _<_}
+use Prim.Native.Nat.{_≤_, _-_}
 use native.Mathlib.Omega.{arith}
 use borrow.Author.Needs.{needs}
-use mathlib.Core.Path.{_≡_, refl}
+use mathlib.Core.Path.{refl}
 use borrow.Author.Tests.{not-false}
 use lib.ListN.{getD}
 use Rattle.board_record.specs.Sizes.{places}

@@ -3,7 +3,7 @@
 use borrow.Author.Needs.{needs}
 use native.Mathlib.Omega.{arith}
 use Prim.Native.Nat.{_≤_, _-_}
-use mathlib.Core.Path.{_≡_, refl, sym}
+use mathlib.Core.Path.{_≡_, refl}
 use mathlib.Core.Bool.{false}
 use Rattle.board_record.proofs.Logic.{true≢false}
 use Rattle.board_sweep.proofs.Sweeps.{Sweeping, sweep-none, sweep-take, sweep-skip, sweep-keys, sweep-versions}

@@ -1,6 +1,5 @@
 use Rattle.command_forms.proofs.Laws.{table, count, name-in, Looking, looking-start, looking-hit, looking-miss, looking-end}
 use Rattle.command_forms.specs.Forms.{rows}
-use Rattle.words.specs.Words.{newline, wordOf}
 use Rattle.same_octets.specs.Same.{sameOctets}
 use Prim.Native.Nat.{ℕ, _-_, _<_}
 use mathlib.Core.List.{List}

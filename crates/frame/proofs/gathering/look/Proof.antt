@@ -1,9 +1,9 @@
 -- The invariant `Looking`: what was gathered up to `at`, with what the rest of the frame gives, is what the whole frame gives.
-use Prim.Native.Nat.{ℕ, _≤_, _-_, _<_, _+_, _%_}
+use Prim.Native.Nat.{_≤_, _-_, _%_}
 use native.Mathlib.Omega.{arith}
 use borrow.Author.Needs.{needs}
-use mathlib.Core.Path.{_≡_, refl, sym, _∙_}
-use lib.ListN.{getD, length}
+use mathlib.Core.Path.{_≡_}
+use lib.ListN.{length}
 use Rattle.frame.specs.Gathered.{factsOf}
 use Rattle.frame.proofs.Laws.{Looking, look-starts, look-ends, look-cut, look-next, now-fits, seen-count}
 use Rattle.frame.proofs.gathering.look.Statement.{statement}

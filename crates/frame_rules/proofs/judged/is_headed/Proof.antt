@@ -1,5 +1,5 @@
 use Rattle.frame_rules.proofs.Laws.{headed-last}
-use mathlib.Core.Path.{_≡_, sym, _∙_}
+use mathlib.Core.Path.{sym, _∙_}
 use Rattle.frame.specs.Frames.{headed}
 use Rattle.octets.specs.Octets.{octetOf}
 use borrow.Author.Tests.{eq-eqb, ne-eqb, lt-ltb, le-ltb}

@@ -1,7 +1,6 @@
-use Prim.Native.Nat.{_+_, _*_, _-_, _/_, _≤_}
+use Prim.Native.Nat.{_-_, _≤_}
 use native.Mathlib.Omega.{arith}
 use borrow.Author.Tests.{not-false}
-use lib.ListN.{length}
 use Rattle.label_run.specs.Alone.{AloneTo}
 use Rattle.label_run.proofs.Laws.{none-yet, one-more}
 use Rattle.label_run.proofs.alone.labels.Statement.{statement}

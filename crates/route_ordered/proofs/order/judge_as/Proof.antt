@@ -1,4 +1,4 @@
-use mathlib.Core.Path.{_≡_, sym, _∙_}
+use mathlib.Core.Path.{sym, _∙_}
 use native.Mathlib.Omega.{arith}
 use Rattle.route_ordered.proofs.Ordered.{frame-stops, frame-none, frame-count, frame-bounds, agreed-stops, walk-then-limit}
 use borrow.Author.Needs.{needs}

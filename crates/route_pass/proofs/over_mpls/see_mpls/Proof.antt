@@ -1,16 +1,14 @@
 -- The invariant `Gone`: the places gone over are of subobjects of the form's type that break no rule, and the frame from `at` on stands behind them. A turn tests one
 -- subobject more; at the object's end all is settled.
-use Prim.Native.Nat.{ℕ, _≤_, _-_, _<_, _+_, _%_, _*_}
+use Prim.Native.Nat.{_≤_, _-_, _+_, _%_, _*_}
 use native.Mathlib.Omega.{arith}
 use borrow.Author.Needs.{needs}
 use borrow.Author.Tests.{not-false}
-use mathlib.Core.Path.{_≡_, refl, sym, _∙_, ap, subst}
+use mathlib.Core.Path.{_≡_, refl, _∙_, subst}
 use lib.ListN.{length}
 use Rattle.forms.specs.declared.Form.{Form}
 use Rattle.forms.specs.Forms.{mplsForm}
 use Rattle.forms.proofs.Laws.{mpls-sized, mpls-fours}
-use Rattle.subobject.specs.Layout.{expectedLength}
-use Rattle.subobject_strays.specs.Strays.{strayOne, straysBy}
 use Rattle.subobject.proofs.Laws.{sound-length}
 use Rattle.frame.proofs.Laws.{headed-sized, fits-made}
 use Rattle.route_pass.specs.Settled.{SettledBy, strayWorth}

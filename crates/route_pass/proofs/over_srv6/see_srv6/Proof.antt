@@ -1,6 +1,6 @@
 -- The invariant `Gone`: the places gone over are of subobjects of the form's type that break no rule, and the frame from `at` on stands behind them. A turn tests one
 -- subobject more; at the object's end all is settled.
-use Prim.Native.Nat.{ℕ, _≤_, _-_, _<_, _+_, _%_, _*_}
+use Prim.Native.Nat.{_≤_, _-_, _+_, _%_, _*_}
 use native.Mathlib.Omega.{arith}
 use borrow.Author.Needs.{needs}
 use borrow.Author.Tests.{not-false}
@@ -8,7 +8,7 @@ use mathlib.Core.Path.{_≡_, refl, sym, _∙_, ap, subst}
 use lib.ListN.{length}
 use Rattle.forms.specs.declared.Form.{Form}
 use Rattle.forms.specs.Forms.{srv6Form}
-use Rattle.forms.proofs.Laws.{srv6-sized, srv6-fours}
+use Rattle.forms.proofs.Laws.{srv6-fours}
 use Rattle.subobject.specs.Layout.{expectedLength}
 use Rattle.subobject_strays.specs.Strays.{strayOne, straysBy}
 use Rattle.subobject.proofs.Laws.{sound-length}

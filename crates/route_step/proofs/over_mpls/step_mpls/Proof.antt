@@ -1,4 +1,4 @@
-use mathlib.Core.Path.{_≡_, _∙_, ap}
+use mathlib.Core.Path.{_∙_, ap}
 use native.Mathlib.Omega.{arith}
 use Rattle.forms.specs.declared.Form.{Form}
 use Rattle.forms.specs.Forms.{mplsForm}

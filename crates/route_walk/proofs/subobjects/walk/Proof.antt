@@ -1,9 +1,9 @@
 -- Two loops, two invariants: outside `Left`, what is left of the subobjects answers the whole; inside `Checking`, what is left of one's checks does.
 -- Behind the checks the subobject is known to be of its expected length, so its strays are there to be looked at.
-use Prim.Native.Nat.{ℕ, _≤_, _-_, _<_, _+_}
+use Prim.Native.Nat.{_≤_, _-_}
 use native.Mathlib.Omega.{arith}
 use borrow.Author.Needs.{needs}
-use mathlib.Core.Path.{_≡_, refl, sym, _∙_, ap}
+use mathlib.Core.Path.{_∙_}
 use lib.ListN.{length}
 use Rattle.subobject.specs.Layout.{expectedLength}
 use Rattle.subobject.specs.Rules.{subjectAt, ruleCount, brokenBy}

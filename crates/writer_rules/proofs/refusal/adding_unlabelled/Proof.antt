@@ -1,7 +1,7 @@
 -- Each return rewrites `addNumber` by the tests made before it; the head is the one that the segment is written with. What the tests find is what the rules say
 -- (`neither`, `seven`, `eleven`); the octets handed in are those of the subobject where the segment is not unfit (`fit`).
 use Prim.Native.Nat.{ℕ}
-use mathlib.Core.Path.{_≡_, refl, sym, _∙_, ap}
+use mathlib.Core.Path.{_≡_, refl, sym, _∙_}
 use mathlib.Core.Bool.{Bool, false, cond, not, _&&_, _||_}
 use lib.Dec.{eqb, ltb}
 use lib.ListN.{drop}

@@ -14,7 +14,6 @@ use Rattle.subobject.specs.Segments.{headOfSegment, segmentWith, bitsOf}
 use Rattle.writer_spare.specs.Spare.{zeros}
 use Rattle.writer_rules.specs.Refusals.{addNumber, noRoom, unfit}
 use Rattle.writer_rules.proofs.Laws.{nameless-first, nameless-none, misfit-unfit, Fits, fits-by, looked-most, no-structure-11}
-use borrow.Author.Needs.{needs}
 use Rattle.writer_rules.proofs.refusal.adding_unstructured.Statement.{statement}
 use Rattle.writer_rules.proofs.refusal.adding_unstructured.Tie as tie
 
