@@ -4,7 +4,7 @@ ghost use Rattle.std.specs.Prelude.{◌≡◌};
 ghost use Rattle.answers.specs.Verdicts.{refused_by, accepted_with, carrying_both};
 
 // The counts do not stand side by side: the compiler would copy both at once, and such a load waits for the two stores before it.
-#[derive(Drop)]
+#[derive(Clone, Copy)]
 pub struct Verdict {
     pub number: usize,
     pub count: usize,

@@ -2,7 +2,7 @@
 use answers::Verdict;
 use board_record::Board;
 
-#[derive(Drop)]
+#[derive(Clone, Copy)]
 pub struct Answer {
     pub verdict: Verdict,
     pub board: Board,

@@ -8,7 +8,7 @@ ghost use Rattle.board_record.specs.Record.{empty_board};
 
 use super::size::{GROUPS, PLACES};
 
-#[derive(Drop)]
+#[derive(Clone, Copy)]
 pub struct Board {
     pub keys: [u32; 128],
     pub versions: [u64; 128],

@@ -2,7 +2,7 @@
 use answers::Verdict;
 
 // A change comes with its key and version.
-#[derive(Drop)]
+#[derive(Clone, Copy)]
 pub struct Change {
     pub key: u64,
     pub version: u64,
@@ -10,7 +10,7 @@ pub struct Change {
 
 // A path's octets are named by place and length: place i, from 0, starts at octet 384 times i of the store. The form is the
 // setup type that they were reported under (objects::SRV6_SETUP or MPLS_SETUP).
-#[derive(Drop)]
+#[derive(Clone, Copy)]
 pub struct Octets {
     pub place: usize,
     pub length: usize,
@@ -18,7 +18,7 @@ pub struct Octets {
 }
 
 // Next hands out a path, or a removal, or says that the follower is level with the board's version.
-#[derive(Drop)]
+#[derive(Clone, Copy)]
 pub enum Handed {
     Refused(Verdict),
     Path(Change, Octets),
@@ -27,7 +27,7 @@ pub enum Handed {
 }
 
 // A follower's mark.
-#[derive(Drop)]
+#[derive(Clone, Copy)]
 pub struct Mark {
     pub s: u64,
     pub w: u64,

@@ -8,7 +8,7 @@ use board_record::{PLACES, VERSION_MOST};
 // above every board's version, which is at most 2^64-2
 const NO_VERSION: u64 = VERSION_MOST + 1;
 
-#[derive(Drop)]
+#[derive(Clone, Copy)]
 pub struct Best {
     pub at: usize,
     pub version: u64,

@@ -6,7 +6,7 @@ use board_rules::Handed;
 
 // Its kind, then what comes with it; the form is a path's.
 #[repr(C)]
-#[derive(Drop)]
+#[derive(Clone, Copy)]
 pub struct ChangeRecord {
     pub number: usize,
     pub kind: usize,

@@ -7,7 +7,7 @@ use writer_state::{Writer, Written};
 
 // Of which kind and form the route is, and the present place.
 #[repr(C)]
-#[derive(Drop)]
+#[derive(Clone, Copy)]
 pub struct WriterRecord {
     pub ero: u8,
     pub form: u8,
@@ -15,7 +15,7 @@ pub struct WriterRecord {
 }
 
 #[repr(C)]
-#[derive(Drop)]
+#[derive(Clone, Copy)]
 pub struct WrittenRecord {
     pub verdict: VerdictRecord,
     pub writer: WriterRecord,

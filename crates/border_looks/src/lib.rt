@@ -13,7 +13,7 @@ use border_records::VerdictRecord;
 
 // Where a path's octets lie in the store, and the path's form; a refusal has none.
 #[repr(C)]
-#[derive(Drop)]
+#[derive(Clone, Copy)]
 pub struct PartRecord {
     pub number: usize,
     pub start: usize,
@@ -23,7 +23,7 @@ pub struct PartRecord {
 
 // A follower's mark.
 #[repr(C)]
-#[derive(Drop)]
+#[derive(Clone, Copy)]
 pub struct MarkRecord {
     pub s: u64,
     pub w: u64,

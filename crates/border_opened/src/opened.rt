@@ -5,7 +5,7 @@ ghost use Rattle.border_opened.specs.Opens.{form_out, opened_in, opened_out};
 use session::Opened;
 
 #[repr(C)]
-#[derive(Drop)]
+#[derive(Clone, Copy)]
 pub struct OpenedRecord {
     pub number: usize,
     pub srv6: u8,

@@ -5,7 +5,7 @@ ghost use Rattle.border_opened.specs.Opens.{positions_in};
 use flag_positions::Positions;
 
 #[repr(C)]
-#[derive(Drop)]
+#[derive(Clone, Copy)]
 pub struct PositionsRecord {
     pub a: u64,
     pub r: u64,

@@ -5,7 +5,7 @@ ghost use Rattle.border_records.specs.Records.{verdict_out};
 use answers::Verdict;
 
 #[repr(C)]
-#[derive(Drop)]
+#[derive(Clone, Copy)]
 pub struct VerdictRecord {
     pub number: usize,
     pub place: usize,

@@ -8,7 +8,7 @@ use border_records::VerdictRecord;
 // The verdict, with the segment and what is set in its octets that ought to be 0 if it is an acceptance, else with zeros: the 12 flag bits with the
 // assigned ones 0, the flag octet of the structure, and a flag that is 1 if a reserved octet was not 0.
 #[repr(C)]
-#[derive(Drop)]
+#[derive(Clone, Copy)]
 pub struct PickedRecord {
     pub verdict: VerdictRecord,
     pub segment: segment::SegmentRecord,

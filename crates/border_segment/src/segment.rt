@@ -7,7 +7,7 @@ ghost use Rattle.border_segment.specs.Segments.{outline_in, segment_out};
 use subobject::{Outline, Segment};
 
 #[repr(C)]
-#[derive(Drop)]
+#[derive(Clone, Copy)]
 pub struct SegmentRecord {
     pub loose: u8,
     pub verify: u8,
@@ -24,7 +24,7 @@ pub struct SegmentRecord {
 
 // M and C are one octet, in which M is worth 1 and C 2, so that an outline has 8 octets and crosses as one number.
 #[repr(C)]
-#[derive(Drop)]
+#[derive(Clone, Copy)]
 pub struct OutlineRecord {
     pub loose: u8,
     pub verify: u8,

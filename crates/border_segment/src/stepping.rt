@@ -7,7 +7,7 @@ use border_records::VerdictRecord;
 
 // The verdict; accepted, the segment and the place behind it; refused, a segment of zeros and the place asked for.
 #[repr(C)]
-#[derive(Drop)]
+#[derive(Clone, Copy)]
 pub struct SteppedRecord {
     pub verdict: VerdictRecord,
     pub segment: segment::SegmentRecord,

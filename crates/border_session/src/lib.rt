@@ -9,7 +9,7 @@ use msd::ABSENT;
 use session::{Session, Sessions};
 
 #[repr(C)]
-#[derive(Drop)]
+#[derive(Clone, Copy)]
 pub struct SessionRecord {
     pub agreed: u8,
     pub n: u8,

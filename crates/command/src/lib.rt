@@ -21,7 +21,7 @@ pub const LONGEST_LINE: usize = 131200;
 
 // What the first four words behind the name say as numbers, 0 where they say none, and whether the first is
 // `ero`.
-#[derive(Drop)]
+#[derive(Clone, Copy)]
 pub struct Command {
     pub verb: Verb,
     pub ero: bool,

@@ -6,7 +6,7 @@ ghost use Rattle.command_forms.specs.Rows.{place_named, verb_at};
 use same_octets::same;
 use words::{NEWLINE, SPACE, count, word};
 
-#[derive(Drop)]
+#[derive(Clone, Copy)]
 pub enum Verb {
     // an empty line or a comment: answered by nothing
     Skip,

@@ -6,7 +6,7 @@ ghost use Rattle.command_rows.specs.Rows.{row_verb};
 use command_forms::Verb;
 
 // about a route under the session
-#[derive(Drop)]
+#[derive(Clone, Copy)]
 pub enum Asking {
     Ero,
     Rro,
@@ -15,7 +15,7 @@ pub enum Asking {
 }
 
 // what later lines are read under
-#[derive(Drop)]
+#[derive(Clone, Copy)]
 pub enum Setting {
     Pcc,
     Pce,
@@ -24,7 +24,7 @@ pub enum Setting {
 }
 
 // about the writer
-#[derive(Drop)]
+#[derive(Clone, Copy)]
 pub enum Writing {
     Begin,
     Add,
@@ -33,7 +33,7 @@ pub enum Writing {
 }
 
 // what may change the board
-#[derive(Drop)]
+#[derive(Clone, Copy)]
 pub enum Changing {
     Report,
     Remove,
@@ -41,7 +41,7 @@ pub enum Changing {
 }
 
 // what the board says
-#[derive(Drop)]
+#[derive(Clone, Copy)]
 pub enum Looking {
     Body,
     Next,
@@ -51,7 +51,7 @@ pub enum Looking {
     Chain,
 }
 
-#[derive(Drop)]
+#[derive(Clone, Copy)]
 pub enum Row {
     Skip,
     Bad,

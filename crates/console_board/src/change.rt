@@ -11,7 +11,7 @@ use console_state::listed;
 use session::Sessions;
 
 // The board after a command, and the end of the line in the buffer.
-#[derive(Drop)]
+#[derive(Clone, Copy)]
 pub struct Boarded {
     pub board: Board,
     pub end: usize,

@@ -8,7 +8,7 @@ use console_input_parts::numbered;
 use console_state::State;
 
 // The console's state, how many octets of a line have been kept, and the lines before it.
-#[derive(Drop)]
+#[derive(Clone, Copy)]
 pub struct Hearing {
     pub state: State,
     pub kept: usize,
@@ -16,7 +16,7 @@ pub struct Hearing {
 }
 
 // What has been heard, and the end of the answer in `out`.
-#[derive(Drop)]
+#[derive(Clone, Copy)]
 pub struct Said {
     pub hearing: Hearing,
     pub end: usize,

@@ -53,7 +53,7 @@ fn take_all(
 }
 
 // What has been heard, and whether the input goes on.
-#[derive(Drop)]
+#[derive(Clone, Copy)]
 struct Listened {
     hearing: Hearing,
     more: bool,

@@ -7,7 +7,7 @@ use crate::line::keep;
 use console_input_parts::part as part_of;
 
 // What has been heard, the end of the answer in `out`, and where to go on in what was read.
-#[derive(Drop)]
+#[derive(Clone, Copy)]
 pub struct Onward {
     pub hearing: Hearing,
     pub end: usize,

@@ -6,7 +6,7 @@ use console_board::Boarded;
 use console_state::{State, with_board, with_writer};
 use console_writer::Composed;
 
-#[derive(Drop)]
+#[derive(Clone, Copy)]
 pub struct Turn {
     pub state: State,
     pub end: usize,

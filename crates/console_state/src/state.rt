@@ -7,7 +7,7 @@ use flag_positions::Positions;
 use session::Opened;
 use writer_state::Writer;
 
-#[derive(Drop)]
+#[derive(Clone, Copy)]
 pub struct State {
     pub board: Board,
     pub pcc: Opened,

@@ -10,7 +10,7 @@ use console_state::fit;
 use writer_state::Writer;
 
 // The writer after a finish, and the end of the line.
-#[derive(Drop)]
+#[derive(Clone, Copy)]
 struct Closed {
     writer: Writer,
     end: usize,

@@ -7,7 +7,7 @@ ghost use Rattle.console_writer.specs.WriterLines.{place_line};
 use writer_state::{Writer, Written};
 
 // The writer, the octets of its buffer, and the end of the line in `out`.
-#[derive(Drop)]
+#[derive(Clone, Copy)]
 pub struct Composed {
     pub writer: Writer,
     pub size: usize,

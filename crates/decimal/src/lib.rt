@@ -18,7 +18,7 @@ pub const MOST_OCTET: u64 = 255;
 
 pub const MOST_TWO_OCTETS: u64 = (octets::END16 - 1) as u64;
 
-#[derive(Drop)]
+#[derive(Clone, Copy)]
 pub struct Number {
     pub good: bool,
     pub value: u64,

@@ -12,7 +12,7 @@ const LAST_POSITION: u64 = 13;
 const LOWEST_POSITION: u64 = 15;
 
 // Where A and R stand.
-#[derive(Drop)]
+#[derive(Clone, Copy)]
 pub struct Positions {
     pub a: u64,
     pub r: u64,

@@ -80,7 +80,7 @@ pub const ENTRY_SIZE: usize = 4;
 const LAST_NT: usize = LINK_LOCAL;
 
 // A form in numbers. A flag worth 0 is one that the form has not; an NAI of no octets belongs to an NT that it does not know.
-#[derive(Drop)]
+#[derive(Clone, Copy)]
 pub struct Form {
     // the setup type that names it, and the type of its subobjects
     pub setup: u8,

@@ -6,7 +6,7 @@ ghost use Rattle.frame.specs.Frames.{fits_in, kind_at};
 ghost use Rattle.frame.specs.Gathered.{facts_of, seen_of};
 
 // What a frame holds. A broken one holds nothing.
-#[derive(Drop)]
+#[derive(Clone, Copy)]
 pub struct Facts {
     pub whole: bool,
     pub count: usize,

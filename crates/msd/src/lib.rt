@@ -19,7 +19,7 @@ const MAX_END_D: usize = 45;
 pub const ABSENT: usize = 256;
 
 // What the pairs come to: whether a type is none of the four; and else H.Encaps' v and Segments Left's m.
-#[derive(Drop)]
+#[derive(Clone, Copy)]
 pub struct Gathered {
     pub wrong: bool,
     pub encaps: usize,

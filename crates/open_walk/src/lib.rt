@@ -11,7 +11,7 @@ use setup_types::PATH_SETUP;
 use tlvs::{Item, NOWHERE, Span};
 
 // What a walk found: the value of the first TLV 34, and that of the first wanted sub-TLV in it.
-#[derive(Drop)]
+#[derive(Clone, Copy)]
 pub enum Found {
     Cut,
     Values(Span, Span),

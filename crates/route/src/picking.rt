@@ -14,7 +14,7 @@ use subobject_read::Reading;
 use subobject_strays::Strays;
 
 // The verdict, with the segment and its strays if it is an acceptance, else with the segment of zeros and no strays.
-#[derive(Drop)]
+#[derive(Clone, Copy)]
 pub struct Picked {
     pub verdict: Verdict,
     pub segment: Segment,

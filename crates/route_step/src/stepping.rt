@@ -7,7 +7,7 @@ use answers::Verdict;
 use subobject::Segment;
 
 // The verdict; accepted, the segment and the place behind it; refused, the segment of zeros and the place asked for.
-#[derive(Drop)]
+#[derive(Clone, Copy)]
 pub struct Stepped {
     pub verdict: Verdict,
     pub segment: Segment,

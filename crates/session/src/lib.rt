@@ -10,7 +10,7 @@ use msd::ABSENT;
 use objects::MPLS_SETUP;
 
 // How many segments a route may have.
-#[derive(Drop)]
+#[derive(Clone, Copy)]
 pub enum Limit {
     Free,
     Most(usize),
@@ -18,7 +18,7 @@ pub enum Limit {
 
 // The answer to an OPEN object: number 0 and what it carries, or the refusal's number and the form at fault. v and m are each a value or ABSENT.
 // The form at fault is its setup type, 0 where no sub-TLV is at fault. The last three are what it carries of MPLS.
-#[derive(Drop)]
+#[derive(Clone, Copy)]
 pub struct Opened {
     pub number: usize,
     pub srv6: bool,
@@ -35,7 +35,7 @@ pub struct Opened {
 }
 
 // The session of a form: agreed or not, the PCC's N and limit; A and R agreed or not, the PCC's v and m. Of MPLS the last four are not there.
-#[derive(Drop)]
+#[derive(Clone, Copy)]
 pub struct Session {
     pub agreed: bool,
     pub n: bool,
@@ -47,7 +47,7 @@ pub struct Session {
 }
 
 // The sessions of the two forms.
-#[derive(Drop)]
+#[derive(Clone, Copy)]
 pub struct Sessions {
     pub srv6: Session,
     pub mpls: Session,

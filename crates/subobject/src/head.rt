@@ -9,7 +9,7 @@ use super::parts;
 use super::segment::Outline;
 use forms::Form;
 
-#[derive(Drop)]
+#[derive(Clone, Copy)]
 pub struct Head {
     pub kind: usize,
     pub size: usize,

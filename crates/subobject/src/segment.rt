@@ -5,7 +5,7 @@ ghost use Rattle.octets.specs.Octets.{end16};
 ghost use Rattle.subobject.specs.Segments.{outline_of};
 
 // A type takes no named length: 16 is SID_SIZE, 40 NAI_SIZE, 4 BIT_LENGTHS, here and wherever an array of them is made.
-#[derive(Drop)]
+#[derive(Clone, Copy)]
 pub struct Segment {
     pub loose: bool,
     pub verify: bool,
@@ -21,7 +21,7 @@ pub struct Segment {
 }
 
 // What a segment names beside its octets. The behaviour is a wide number, so that the compiler keeps the parts apart.
-#[derive(Drop)]
+#[derive(Clone, Copy)]
 pub struct Outline {
     pub loose: bool,
     pub verify: bool,

@@ -8,7 +8,7 @@ use subobject_strays::Strays;
 
 // A subobject that is there whole, with what is set in it that ought to be 0, or the number and the place of a refusal.
 // An enum holds no array, so the octets of the segment are read by `segment_at`, once the answer is that they are there.
-#[derive(Drop)]
+#[derive(Clone, Copy)]
 pub enum Reading {
     Whole(Strays),
     Refused(usize, usize),

@@ -26,7 +26,7 @@ const STRUCTURE_RESERVED_SIZE: usize = 3;
 
 const STRUCTURE_ENDING: usize = subobject::STRUCTURE_SIZE - subobject::BIT_LENGTHS;
 
-#[derive(Drop)]
+#[derive(Clone, Copy)]
 pub struct Strays {
     pub flags: u16,
     pub structure: u8,

@@ -17,7 +17,7 @@ pub const TLV_HEAD: usize = 4;
 const TLV_LENGTH_PLACE: usize = 2;
 
 // One TLV: its type, where its value starts, its length, and where the next one starts.
-#[derive(Drop)]
+#[derive(Clone, Copy)]
 pub enum Item {
     One {
         kind: usize,

@@ -6,7 +6,7 @@ ghost use Rattle.tlvs.specs.Places.{keep_of};
 pub const NOWHERE: usize = 0;
 
 // The start and the length of a value.
-#[derive(Drop)]
+#[derive(Clone, Copy)]
 pub struct Span {
     pub from: usize,
     pub len: usize,

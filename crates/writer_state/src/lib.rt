@@ -8,7 +8,7 @@ pub const MPLS_SETUP: u8 = objects::MPLS_SETUP as u8;
 pub const SRV6_SETUP: u8 = objects::SRV6_SETUP as u8;
 
 // Whether the object is an ERO or an RRO, the present place in the lent buffer, and the setup type that names the form: 1 is MPLS, any other SRv6.
-#[derive(Drop)]
+#[derive(Clone, Copy)]
 pub struct Writer {
     pub ero: bool,
     pub at: usize,
@@ -16,7 +16,7 @@ pub struct Writer {
 }
 
 // The verdict, and the state for the next call.
-#[derive(Drop)]
+#[derive(Clone, Copy)]
 pub struct Written {
     pub verdict: answers::Verdict,
     pub writer: Writer,
