@@ -1,6 +1,7 @@
 // The board's calls that only look at it, with the record by value (document 01, "The board"): body hands back a part of the lent store,
 // and its form by a call of its own; next hands out a change, moved says if a key of a range changed. Each lends the record's arrays
 // to the call of board_body or board_look.
+#![tactic(auto)]
 mod path;
 
 ghost use Rattle.std.specs.Prelude.{◌≡◌};

@@ -1,4 +1,5 @@
 // What the calls of writing and next hand back, as records that cross the border (include/strundevi.h).
+#![tactic(auto)]
 mod change;
 mod writing;
 

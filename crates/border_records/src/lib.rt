@@ -3,6 +3,7 @@
 // A flag is an octet there: 0 is no, every other number is yes, and an answer has 0 or 1, so no record can hold a
 // value that is out of range. A limit is a flag and a number: without the flag the number does not count, and an
 // answer has 0 there; so are v and m.
+#![tactic(auto)]
 mod depth;
 mod flag;
 mod limit;

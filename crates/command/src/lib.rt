@@ -1,6 +1,7 @@
 // A line of the console read into a command: the name, the form of the words behind it, and the numbers
 // that they say (console.md). A line out of form is `Bad`, whatever its words mean; empty lines and lines
 // that begin with `#` are `Skip`.
+#![tactic(auto)]
 ghost use Rattle.std.specs.Prelude.{◌≡◌, ◌*◌, ◌≤◌, length};
 ghost use Rattle.io.specs.Counts.{IsPrefixLen};
 ghost use Rattle.octets.specs.Octets.{over};

@@ -1,6 +1,7 @@
 // The console: drives the whole library, one call to a line (console.md). Its stored run is the console's own
 // edges: lines out of form, numbers and octets at their bounds, lines that are too long, a last line without a
 // newline.
+#![tactic(auto)]
 fn main() {
     let end = console_dialogue::converse();
 }

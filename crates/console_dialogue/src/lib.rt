@@ -8,6 +8,7 @@
 // What is read and what is written no contract can say. Proved is that the console stands at every time as some input leaves it (`Reached`), and, in `take_in`, that
 // the octets handed to be written are, one answer behind the other, what the console says to the octets that were read (`say_all`). Not proved: that these are the
 // octets of standard input, that a write reaches standard output, and that the reading goes on to the input's end.
+#![tactic(auto)]
 mod heard;
 mod line;
 mod listening;

@@ -1,1 +1,2 @@
 // The worked history of a board and its followers: a computation, no code.
+#![tactic(auto)]

@@ -1,6 +1,7 @@
 // The head end's addresses (document 02, C-15): a lent list, 16 octets to an address, one behind the other.
 //
 // A list that isn't a multiple of 16 octets: 28.
+#![tactic(auto)]
 ghost use Rattle.std.specs.Prelude.{◌≡◌};
 ghost use Rattle.head_end.specs.Addresses.{usable_list, has_address};
 

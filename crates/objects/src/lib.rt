@@ -1,6 +1,7 @@
 // The numbers that objects have in common (document 01, "The OPEN object" and "The route object"). An object
 // starts with class (1 octet), type in the high 4 bits of the next octet (the low 4 are ignored), and a 2-octet
 // length that counts the 4 header octets. No code: each reader, writer and caller takes its numbers from here.
+#![tactic(auto)]
 
 // octets of an object's header
 pub const HEADER: usize = 4;

@@ -1,5 +1,6 @@
 // Octets: reading them as numbers, padding, and copying them into a lent buffer.
 // All numbers are big-endian (document 01, "The OPEN object").
+#![tactic(auto)]
 mod logic;
 mod put;
 mod take;

@@ -6,6 +6,7 @@
 // object's start; for 12, that of the first segment too many; otherwise 0. Acceptance carries the number of segments, and
 // of those in which something is set that ought to be 0 (document 02, C-18).
 // Segment i, from 0, is asked for with the same object, session and PST: the same checks, then 15.
+#![tactic(auto)]
 mod judgement;
 mod picking;
 

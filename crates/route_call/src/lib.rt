@@ -1,6 +1,7 @@
 // A route judged for a head end whose addresses are lent (document 02, C-15 and C-16): 28, then the checks of document 01 in the session of
 // the form that the setup type names, under the limit that holds for this route. In an RRO, and for MPLS, too a list that isn't a multiple
 // of 16 octets is 28. Only SRv6's session has flags that raise the limit.
+#![tactic(auto)]
 ghost use Rattle.std.specs.Prelude.{◌≡◌};
 ghost use Rattle.route.specs.Parts.{session_by};
 ghost use Rattle.route_call.specs.Called.{judged_in, judged_for, segment_in, segment_for};

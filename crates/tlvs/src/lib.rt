@@ -3,6 +3,7 @@
 // A TLV is type (2), length (2), value, then padding to a multiple of 4 that the length doesn't count.
 // A sub-TLV is laid out as a TLV is; only the padding of the last sub-TLV may be missing or cut.
 // What is too short for that is no TLV: Broken.
+#![tactic(auto)]
 mod span;
 
 ghost use Rattle.std.specs.Prelude.{◌≡◌, cond, ◌≤◌, ◌<◌, length};

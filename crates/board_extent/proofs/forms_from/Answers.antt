@@ -1,0 +1,25 @@
+use Prim.Native.Nat.{◌≤◌, ◌-◌}
+use native.Mathlib.Omega.{arith}
+use borrow.Author.Tests.{eqb-true}
+use Rattle.board_record.specs.Sizes.{places}
+use Rattle.board_extent.proofs.Reached.{Met, met_none, met_more, met_all}
+use borrow.Author.Rules.{rules}
+use Rattle.board_extent.proofs.forms_from.Goals as goal
+
+pub loop-i-init : goal.loop-i-init
+loop-i-init c = (c.requires, met_none c.args.forms.now _ _)
+
+pub bounds-forms-i : goal.bounds-forms-i
+bounds-forms-i c = omega arith
+
+pub overflow_add-i : goal.overflow_add-i
+overflow_add-i c = omega arith
+
+pub loop-i-smaller : goal.loop-i-smaller
+loop-i-smaller c = omega arith
+
+pub loop-i-preserved : goal.loop-i-preserved
+loop-i-preserved c = (omega (arith, c.loop-i-test.true), met_more c.args.forms.now _ _ _ c.loop-i.invariant.1)
+
+pub returns : goal.returns
+returns c e = record { none = met_all c.args.forms.now _ _ _ c.loop-i.invariant.1 c.loop-i-test.false (eqb-true _ 0 e) }

@@ -1,0 +1,14 @@
+use Prim.Native.Nat.{◌≤◌, ◌-◌, ◌*◌}
+use native.Mathlib.Omega.{arith}
+use mathlib.Core.Path.{◌≡◌}
+use mathlib.Core.Bool.{true}
+use Rattle.board_record.specs.Sizes.{group, groups}
+use Rattle.board_record.specs.Tops.{in_tops}
+use Rattle.board_moved.proofs.Ranges.{Still, still_none, still_looked, still_passed, moved_here, none_moved}
+use Rattle.board_moved.proofs.range.any_moved.Given as goal
+
+abbrev pub invariant-loop-g : goal.invariant-loop-g
+invariant-loop-g l = (l.g ≤ groups) × (in_tops l.versions l.tops ≡ true) × Still l.keys l.versions l.from l.to l.v (group * l.g)
+
+abbrev pub decreases-loop-g : goal.decreases-loop-g
+decreases-loop-g l = groups - l.g

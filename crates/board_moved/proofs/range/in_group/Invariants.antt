@@ -1,0 +1,16 @@
+use Prim.Native.Nat.{◌≤◌, ◌<◌, ◌-◌, ◌+◌, ◌*◌}
+use native.Mathlib.Omega.{arith}
+use mathlib.Core.Path.{◌≡◌, refl, sym, ap, ◌∙◌}
+use mathlib.Core.Bool.{false}
+use Rattle.board_record.specs.Sizes.{group, groups}
+use Rattle.board_record.specs.Lists.{any_below}
+use Rattle.board_record.specs.Search.{moved_b}
+use Rattle.board_record.proofs.Looks.{any_none, any_more, any_of}
+use Rattle.board_moved.proofs.Ranges.{place_moved}
+use Rattle.board_moved.proofs.range.in_group.Given as goal
+
+abbrev pub invariant-loop-j : goal.invariant-loop-j
+invariant-loop-j l = (l.g < groups) × (l.j ≤ group) × (any_below (λ k. moved_b l.keys l.versions l.from l.to l.v (group * l.g + k)) l.j ≡ false)
+
+abbrev pub decreases-loop-j : goal.decreases-loop-j
+decreases-loop-j l = group - l.j

@@ -1,0 +1,30 @@
+use Rattle.octets.proofs.Tests.{tests}
+use mathlib.Core.Path.{◌∙◌}
+use Rattle.board_rules.specs.Remove.{remove_rules}
+use Rattle.board_rules.specs.Rules.{in_range}
+use borrow.Author.Rules.{rules}
+use Rattle.board_refusals.proofs.rule.remove_rules.Goals as goal
+
+pub returns-then-key-lt-KEY_LEAST : goal.returns-then-key-lt-KEY_LEAST
+unfolding remove_rules in_range
+returns-then-key-lt-KEY_LEAST c = record { first = c.refused.ensures.refused ∙ search tests }
+
+pub returns-then-key-gt-KEY_MOST : goal.returns-then-key-gt-KEY_MOST
+unfolding remove_rules in_range
+returns-then-key-gt-KEY_MOST c = record { first = c.refused-then-key-gt-KEY_MOST.ensures.refused ∙ search tests }
+
+pub returns-then-at-ge-PLACES : goal.returns-then-at-ge-PLACES
+unfolding remove_rules in_range
+returns-then-at-ge-PLACES c = record { first = c.refused-then-at-ge-PLACES.ensures.refused ∙ search tests }
+
+pub returns-then-n-eq0 : goal.returns-then-n-eq0
+unfolding remove_rules in_range
+returns-then-n-eq0 c = record { first = c.refused-then-n-eq0.ensures.refused ∙ search tests }
+
+pub returns-then-version-eq-VERSION_MOST : goal.returns-then-version-eq-VERSION_MOST
+unfolding remove_rules in_range
+returns-then-version-eq-VERSION_MOST c = record { first = c.refused-then-version-eq-VERSION_MOST.ensures.refused ∙ search tests }
+
+pub returns : goal.returns
+unfolding remove_rules in_range
+returns c = record { first = c.accepted.ensures.accepted ∙ search tests }

@@ -1,0 +1,15 @@
+-- The invariant: the first i places are swept, the others as they were, and nothing changed so far if nothing was dropped. A turn empties a place (`sweep_take`) or
+-- passes it (`sweep_skip`).
+use native.Mathlib.Omega.{arith}
+use Prim.Native.Nat.{◌≤◌, ◌-◌}
+use mathlib.Core.Path.{◌≡◌, refl}
+use mathlib.Core.Bool.{false}
+use Rattle.board_record.proofs.Logic.{true≢false}
+use Rattle.board_sweep.proofs.Sweeps.{Sweeping, sweep_none, sweep_take, sweep_skip, sweep_keys, sweep_versions}
+use Rattle.board_sweep.proofs.sweeping.sweep.Given as goal
+
+abbrev pub invariant-loop-i : goal.invariant-loop-i
+invariant-loop-i l = (l.i ≤ 128) × Sweeping l.initial.keys l.initial.versions l.lengths l.c l.i l.keys l.versions × (l.dropped ≡ false → (l.keys ≡ l.initial.keys) × (l.versions ≡ l.initial.versions))
+
+abbrev pub decreases-loop-i : goal.decreases-loop-i
+decreases-loop-i l = 128 - l.i

@@ -1,0 +1,12 @@
+use mathlib.Core.Path.{◌≡◌, refl}
+use mathlib.Core.Bool.{Bool, true, false, cond}
+use mir.Val.{bool_byte}
+use borrow.Author.Rules.{rules}
+use Rattle.border_records.proofs.flag.flag_of.Goals as goal
+
+as_number : (t : Bool) → bool_byte t ≡ cond t 1 0
+as_number true = refl
+as_number false = refl
+
+pub returns : goal.returns
+returns c = record { flag = as_number c.args.b }

@@ -1,0 +1,16 @@
+use Rattle.writer_state.specs.declared.Writer.{Writer}
+use Rattle.writer_begin_finish.specs.Ends.{begin_answer, begin_buffer}
+use Rattle.border_records.specs.Records.{is_yes}
+use Rattle.border_writing.proofs.Laws.{by_writer}
+use borrow.Author.Rules.{rules}
+use Rattle.border_writing.proofs.begin.Goals as goal
+
+pub returns : goal.returns
+returns c =
+    let e = c.begin-w.ensures in
+        let args = c.args in
+        let b = args.buffer.now in
+        let kind = is_yes args.ero in
+        let f = rw c.yes.ensures.yes at e in
+        by_writer (λ (w : Writer). begin_answer b w kind args.pst) (λ (w : Writer). begin_buffer b w kind) _ _ _ _ args.writer
+        c.writer_in.ensures.writer f.0 f.1 c.handed.ensures.handed

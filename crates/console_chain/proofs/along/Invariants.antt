@@ -1,0 +1,13 @@
+use Prim.Native.Nat.{◌≤◌, ◌-◌}
+use native.Mathlib.Omega.{arith}
+use mathlib.Core.Path.{◌≡◌, refl, sym, ◌∙◌}
+use lib.ListN.{length}
+use Rattle.board_record.specs.Sizes.{places}
+use Rattle.console_chain.proofs.Laws.{Along, along_none, along_more, along_stop, along_end}
+use Rattle.console_chain.proofs.along.Given as goal
+
+abbrev pub invariant-loop-i : goal.invariant-loop-i
+invariant-loop-i l = (length l.order ≡ places) × (l.i ≤ places) × Along l.order l.laid l.i
+
+abbrev pub decreases-loop-i : goal.decreases-loop-i
+decreases-loop-i l = places - l.i

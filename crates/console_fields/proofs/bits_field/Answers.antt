@@ -1,0 +1,50 @@
+-- Seven pieces are laid one behind the other: `then` joins what each call ensures, and the end of each is bounded by that of the one before.
+use Rattle.printing.proofs.Laws.{then}
+use native.Mathlib.Omega.{arith}
+use borrow.Author.Rules.{rules}
+use Rattle.console_fields.proofs.bits_field.Goals as goal
+
+pub number-requires : goal.number-requires
+number-requires c =
+    omega (
+          arith,
+          c.field-end.ensures.1,
+          c.field-end.ensures.0.room,
+          c.push-end.ensures.behind.ends,
+          c.push-end.ensures.behind.room,
+          c.number-end.ensures.1,
+          c.number-end.ensures.0.room,
+          c.push-end-2.ensures.behind.ends,
+          c.push-end-2.ensures.behind.room,
+          c.number-end-2.ensures.1,
+          c.number-end-2.ensures.0.room,
+          c.push-end-3.ensures.behind.ends,
+          c.push-end-3.ensures.behind.room,
+          c.requires,
+        )
+
+pub returns : goal.returns
+returns c =
+    record { behind = (then (rw c.wide-a.ensures.same at c.field-end.ensures.0)
+              (then c.push-end.ensures.behind
+              (then (rw c.wide-b.ensures.same at c.number-end.ensures.0)
+              (then c.push-end-2.ensures.behind
+              (then (rw c.wide-c.ensures.same at c.number-end-2.ensures.0)
+              (then c.push-end-3.ensures.behind
+              (rw c.wide-d.ensures.same at c.number.ensures.0))))))); short = omega (
+            arith,
+            c.field-end.ensures.1,
+            c.field-end.ensures.0.room,
+            c.push-end.ensures.behind.ends,
+            c.push-end.ensures.behind.room,
+            c.number-end.ensures.1,
+            c.number-end.ensures.0.room,
+            c.push-end-2.ensures.behind.ends,
+            c.push-end-2.ensures.behind.room,
+            c.number-end-2.ensures.1,
+            c.number-end-2.ensures.0.room,
+            c.push-end-3.ensures.behind.ends,
+            c.push-end-3.ensures.behind.room,
+            c.number.ensures.1,
+            c.number.ensures.0.room,
+          ) }

@@ -1,0 +1,5 @@
+use borrow.Author.Rules.{rules}
+use Rattle.console_state.proofs.state.start.Goals as goal
+
+pub returns : goal.returns
+returns c = record { start = cc }

@@ -1,0 +1,7 @@
+use Rattle.decimal.specs.Decimal.{structure_of}
+use borrow.Author.Rules.{rules}
+use Rattle.decimal.proofs.structure.Goals as goal
+
+pub returns : goal.returns
+unfolding structure_of
+returns c = record { structure = cc }

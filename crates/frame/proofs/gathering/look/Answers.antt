@@ -1,0 +1,56 @@
+use Prim.Native.Nat.{◌≤◌, ◌-◌, ◌%◌}
+use native.Mathlib.Omega.{arith}
+use mathlib.Core.Path.{◌≡◌}
+use lib.ListN.{length}
+use Rattle.frame.specs.Gathered.{facts_of}
+use Rattle.frame.proofs.Laws.{Looking, look_starts, look_ends, look_cut, look_next, now_fits, seen_count}
+use borrow.Author.Rules.{rules}
+use Rattle.frame.proofs.gathering.look.Goals as goal
+
+pub loop-at-init : goal.loop-at-init
+loop-at-init c = (omega arith, omega arith, omega arith, omega arith, look_starts _ _ _ _ _ c.both.ensures.both c.requires.3)
+
+pub overflow_add-at : goal.overflow_add-at
+overflow_add-at c = omega arith
+
+pub bounds-s-at : goal.bounds-s-at
+bounds-s-at c = omega (arith, c.requires.1, c.loop-at.invariant.2)
+
+pub overflow_sub-end : goal.overflow_sub-end
+overflow_sub-end c = omega arith
+
+pub returns-then-not-fits : goal.returns-then-not-fits
+returns-then-not-fits c =
+    record { facts = look_cut c.loop-at.invariant.4
+        c.loop-at-test.true c.wide-len.ensures.same.0
+        c.fits.ensures.fits c.if-not-fits.true }
+
+pub bounds-s-at-in-loop-at : goal.bounds-s-at-in-loop-at
+bounds-s-at-in-loop-at c = omega arith
+
+pub seen-g-requires : goal.seen-g-requires
+seen-g-requires c = omega (arith, c.loop-at.invariant.3, c.loop-at.invariant.1, c.requires.2)
+
+pub overflow_add-at-in-loop-at : goal.overflow_add-at-in-loop-at
+overflow_add-at-in-loop-at c = let h = now_fits _ _ _ c.fits.ensures.fits c.if-not-fits.false in omega arith
+
+pub loop-at-smaller : goal.loop-at-smaller
+loop-at-smaller c = let h = now_fits _ _ _ c.fits.ensures.fits c.if-not-fits.false in omega arith
+
+pub loop-at-preserved : goal.loop-at-preserved
+loop-at-preserved c =
+    let loop = c.loop-at in
+        let h = now_fits _ _ _ c.fits.ensures.fits c.if-not-fits.false in
+        let q = seen_count loop.g c.seen-g.result _ _ _ _ c.seen-g.ensures.seen in (
+          omega (arith, loop.invariant.0),
+          omega (arith, loop.invariant.1),
+          omega (arith, loop.invariant.2),
+          omega (arith, loop.invariant.3),
+          look_next loop.invariant.4 (omega (arith, loop.invariant.0))
+              (omega (arith, loop.invariant.1, c.loop-at-test.true))
+              c.wide-len.ensures.same.0 c.fits.ensures.fits c.if-not-fits.false
+              c.wide.ensures.same.0 c.kind.ensures.kind c.seen-g.ensures.seen,
+        )
+
+pub returns : goal.returns
+returns c = record { facts = look_ends c.loop-at.invariant.4 (omega arith) }

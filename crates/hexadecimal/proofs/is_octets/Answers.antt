@@ -1,0 +1,7 @@
+use Rattle.hexadecimal.specs.Hexadecimal.{is_octets}
+use borrow.Author.Rules.{rules}
+use Rattle.hexadecimal.proofs.is_octets.Goals as goal
+
+pub returns : goal.returns
+unfolding is_octets
+returns c = record { octets = cc }

@@ -1,0 +1,7 @@
+use Rattle.hexadecimal.specs.Hexadecimal.{is_sid}
+use borrow.Author.Rules.{rules}
+use Rattle.hexadecimal.proofs.is_sid.Goals as goal
+
+pub returns : goal.returns
+unfolding is_sid
+returns c = record { sid = cc }

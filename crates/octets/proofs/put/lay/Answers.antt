@@ -1,0 +1,6 @@
+use Rattle.octets.proofs.Laws.{placed_back}
+use borrow.Author.Rules.{rules}
+use Rattle.octets.proofs.put.lay.Goals as goal
+
+pub returns : goal.returns
+returns c = let a = c.args in record { laid = placed_back a.out.now _ a.src.now a.at c.copy.ensures.copied }

@@ -1,0 +1,6 @@
+use Rattle.octets.proofs.Laws.{part_taken}
+use borrow.Author.Rules.{rules}
+use Rattle.octets.proofs.take.part16.Goals as goal
+
+pub returns : goal.returns
+returns c = let a = c.args in record { part = part_taken a.s.now _ a.at a.n _ c.copy.ensures.copied }

@@ -1,0 +1,5 @@
+use borrow.Author.Rules.{rules}
+use Rattle.route.proofs.picking.nothing.Goals as goal
+
+pub returns : goal.returns
+returns c = record { nothing = cc }

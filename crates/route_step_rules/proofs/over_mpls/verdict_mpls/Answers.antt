@@ -1,0 +1,34 @@
+use mathlib.Core.Path.{sym, ◌∙◌}
+use Rattle.route_step_tests.proofs.Laws.{inside}
+use Rattle.route_step_rules.proofs.Laws.{room, size_room, stops_15, stops_4, goes_on}
+use borrow.Author.Rules.{rules}
+use Rattle.route_step_rules.proofs.over_mpls.verdict_mpls.Goals as goal
+
+pub returns-then-is_outside : goal.returns-then-is_outside
+returns-then-is_outside c = record { verdict = stops_15 _ _ _ _ (sym c.is_outside.ensures.outside ∙ c.if-is_outside.true) c.refused.ensures.refused }
+
+pub is_unfit-requires : goal.is_unfit-requires
+is_unfit-requires c = (inside _ _ (sym c.is_outside.ensures.outside ∙ c.if-is_outside.false)).2
+
+pub returns-then-is_unfit : goal.returns-then-is_unfit
+returns-then-is_unfit c =
+    record { verdict = stops_4 _ _ _ _ (sym c.is_outside.ensures.outside ∙ c.if-is_outside.false)
+        (sym c.is_unfit.ensures.unfit ∙ c.if-is_unfit.true) c.refused-then-is_unfit.ensures.refused }
+
+pub head_at-requires : goal.head_at-requires
+head_at-requires c =
+    let args = c.args in
+        room args.form args.s.now args.ero args.at (sym c.is_outside.ensures.outside ∙ c.if-is_outside.false)
+        (sym c.is_unfit.ensures.unfit ∙ c.if-is_unfit.false)
+
+pub rules_at-requires : goal.rules_at-requires
+rules_at-requires c =
+    let there = sym c.is_outside.ensures.outside ∙ c.if-is_outside.false in
+        let fits = sym c.is_unfit.ensures.unfit ∙ c.if-is_unfit.false in
+        let size = size_room c.args.form c.args.s.now c.args.ero c.args.at there fits c.head_at.result c.head_at.ensures.0 in
+        ((inside _ _ there).2, c.requires.0, c.requires.1, size)
+
+pub returns : goal.returns
+returns c =
+    record { verdict = goes_on _ _ _ _ (sym c.is_outside.ensures.outside ∙ c.if-is_outside.false)
+        (sym c.is_unfit.ensures.unfit ∙ c.if-is_unfit.false) c.head_at.ensures.0 c.rules_at.ensures.verdict }

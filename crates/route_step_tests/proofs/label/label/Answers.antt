@@ -1,0 +1,7 @@
+use mathlib.Core.Path.{◌∙◌}
+use Rattle.route_step_tests.proofs.Laws.{entry_label}
+use borrow.Author.Rules.{rules}
+use Rattle.route_step_tests.proofs.label.label.Goals as goal
+
+pub returns : goal.returns
+returns c = record { label = c.label_at.ensures.label ∙ entry_label _ _ }

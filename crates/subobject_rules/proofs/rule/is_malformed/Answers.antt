@@ -1,0 +1,7 @@
+use Rattle.subobject.specs.Rules.{malformed}
+use borrow.Author.Rules.{rules}
+use Rattle.subobject_rules.proofs.rule.is_malformed.Goals as goal
+
+pub returns : goal.returns
+unfolding malformed
+returns c = record { malformed = cc }

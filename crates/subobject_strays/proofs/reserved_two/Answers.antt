@@ -1,0 +1,17 @@
+use native.Mathlib.Omega.{arith}
+use Rattle.forms.proofs.Laws.{fixed_eight}
+use Rattle.subobject_strays.proofs.Laws.{two_there, two_absent}
+use Rattle.subobject_strays.proofs.reserved_two.Reads as reads
+use Rattle.subobject_strays.proofs.reserved_two.Lts as lts
+use Rattle.octets.proofs.read16.Reads as read16-reads
+use borrow.Author.Rules.{rules}
+use Rattle.subobject_strays.proofs.reserved_two.Goals as goal
+
+pub read16-requires : goal.read16-requires
+read16-requires c = omega (arith, fixed_eight c.requires.1 c.if-form.true, c.requires.0)
+
+pub returns-then-form : goal.returns-then-form
+returns-then-form c = record { two = two_there c.args.form _ _ _ c.if-form.true c.read16.ensures.number.0 }
+
+pub returns : goal.returns
+returns c = record { two = two_absent c.args.form c.args.s.now c.args.at c.if-form.false }

@@ -1,0 +1,14 @@
+use Rattle.words.proofs.Laws.{words_hit, words_miss, words_end}
+use Rattle.words.specs.Words.{words_in}
+use mathlib.Core.Logic.{⊎_elim}
+use lib.ListN.{length, drop}
+use Prim.Native.Nat.{◌+◌, ◌-◌, ◌≤◌}
+use mathlib.Core.Path.{◌≡◌, refl}
+use native.Mathlib.Omega.{arith}
+use Rattle.words.proofs.count.Given as goal
+
+abbrev pub invariant-loop-i : goal.invariant-loop-i
+invariant-loop-i l = (l.i ≤ length l.line) × (l.n ≤ l.i + 1) × (l.n + words_in (drop l.i l.line) l.mark ≡ 1 + words_in l.line l.mark)
+
+abbrev pub decreases-loop-i : goal.decreases-loop-i
+decreases-loop-i l = length l.line - l.i

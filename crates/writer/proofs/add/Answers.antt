@@ -1,0 +1,10 @@
+use mathlib.Core.Path.{◌≡◌, ◌∙◌, ap}
+use Rattle.subobject.specs.Segments.{segment_with}
+use Rattle.writer.specs.Writing.{add_answer, add_buffer}
+use borrow.Author.Rules.{rules}
+use Rattle.writer.proofs.add.Goals as goal
+
+pub returns : goal.returns
+returns c =
+    let args = c.args in let g = args.segment in let e : segment_with c.outline_of.result g.sid g.nai g.structure ≡ g = rw
+        c.outline_of.ensures.0 in record { answer = c.add_parts.ensures.0 ∙ ap (add_answer args.buf.now args.writer) e; buffer = c.add_parts.ensures.1 ∙ ap (add_buffer args.buf.now args.writer) e }

@@ -1,0 +1,5 @@
+use borrow.Author.Rules.{rules}
+use Rattle.writer_state.proofs.accept.Goals as goal
+
+pub returns : goal.returns
+returns c = record { accepted = rw c.accepted.ensures.accepted }

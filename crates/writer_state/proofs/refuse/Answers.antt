@@ -1,0 +1,5 @@
+use borrow.Author.Rules.{rules}
+use Rattle.writer_state.proofs.refuse.Goals as goal
+
+pub returns : goal.returns
+returns c = record { refused = rw c.refused.ensures.refused }

@@ -1,0 +1,7 @@
+use Rattle.writer_tests.specs.Places.{passes}
+use borrow.Author.Rules.{rules}
+use Rattle.writer_tests.proofs.place.past.Goals as goal
+
+pub returns : goal.returns
+unfolding passes
+returns c = record { past = c.either.ensures.either }
