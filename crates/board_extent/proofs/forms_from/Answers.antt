@@ -22,4 +22,4 @@ pub loop-i-preserved : goal.loop-i-preserved
 loop-i-preserved c = (omega (arith, c.loop-i-test.true), met_more c.args.forms.now _ _ _ c.loop-i.invariant.1)
 
 pub returns : goal.returns
-returns c e = record { none = met_all c.args.forms.now _ _ _ c.loop-i.invariant.1 c.loop-i-test.false (eqb-true _ 0 e) }
+returns c = record { none = λ e. met_all c.args.forms.now _ _ _ c.loop-i.invariant.1 c.loop-i-test.false (eqb-true _ 0 e) }

@@ -24,7 +24,7 @@ returns-then-not-is_formed c =
         ∙ read_out_of_form _
         (sym c.is_skipped.ensures.skipped ∙ c.if-is_skipped.false)
         c.if-line-gt-LONGEST_LINE.false
-        (rw (← e) (sym c.is_formed.ensures.formed ∙ not-true _ c.if-not-is_formed.true)) }
+        (rw (← e) (sym c.is_formed.ensures.formed ∙ c.if-not-is_formed.true)) }
 
 pub returns : goal.returns
 returns c =
@@ -36,4 +36,4 @@ returns c =
         c.number_at-three.ensures.number c.number_at-four.ensures.number
         ∙ read_in_form _ (sym c.is_skipped.ensures.skipped ∙ c.if-is_skipped.false)
         c.if-line-gt-LONGEST_LINE.false
-        (rw (← e) (sym c.is_formed.ensures.formed ∙ not-false _ c.if-not-is_formed.false)) }
+        (rw (← e) (sym c.is_formed.ensures.formed ∙ c.if-not-is_formed.false)) }

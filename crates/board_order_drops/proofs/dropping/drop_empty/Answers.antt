@@ -12,7 +12,7 @@ use borrow.Author.Rules.{rules}
 use Rattle.board_order_drops.proofs.dropping.drop_empty.Goals as goal
 
 pub returns-then-not-dropped : goal.returns-then-not-dropped
-returns-then-not-dropped c = record { order = in_order_is _ _ c.requires.0 (c.requires.2 (not-true _ c.if-not-dropped.true)) }
+returns-then-not-dropped c = record { order = in_order_is _ _ c.requires.0 (c.requires.2 (c.if-not-dropped.true)) }
 
 pub loop-i-init : goal.loop-i-init
 loop-i-init c = sifting_none _ _ c.requires.0

@@ -9,15 +9,17 @@ use Rattle.board_rules.proofs.Told.{board_proper}
 use Rattle.board_rules.proofs.OnRecord.{record_is, tidy_order, tidy_tops, result_not, result_refused, result_accepted, store_not, store_on}
 use Rattle.board_report.proofs.Reports.{passed, body_there, form_small, report_not_board, store_not_board, report_verdict_lem, report_refused, store_refused}
 use Rattle.board_report.proofs.Reports.{report_accepted, store_accepted, report_room, lay_fits}
+use mathlib.Core.Path.{ap}
+use mathlib.Core.Bool.{not}
 use borrow.Author.Rules.{rules}
 use Rattle.board_report.proofs.reporting.report.Goals as goal
 
 pub returns-then-not-is_board : goal.returns-then-not-is_board
 returns-then-not-is_board c =
     let args = c.args in let t = table_of args.keys.now args.versions.now args.lengths.now args.version.now args.floor.now args.forms.now in let b = with_rows t args.order.now args.tops.now in record { answer = (
-          result_not b _ _ _ _ c.is_board.ensures.board c.if-not-is_board.true c.refused.ensures.refused
+          result_not b _ _ _ _ c.is_board.ensures.board (ap not c.if-not-is_board.true) c.refused.ensures.refused
               (λ e. report_not_board t args.store.now args.key args.octets.now args.session args.pst false _ (sym e) refl c.refused.ensures.refused),
-          store_not b args.store.now args.key args.octets.now args.session args.pst _ _ c.is_board.ensures.board c.if-not-is_board.true
+          store_not b args.store.now args.key args.octets.now args.session args.pst _ _ c.is_board.ensures.board (ap not c.if-not-is_board.true)
               (λ e. store_not_board t args.store.now args.key args.octets.now args.session args.pst false (sym e) refl),
         ) }
 
@@ -26,13 +28,13 @@ target-at-requires c =
     let args = c.args in
         let t = table_of args.keys.now args.versions.now args.lengths.now args.version.now args.floor.now args.forms.now in
         let b = with_rows t args.order.now args.tops.now in
-        let h = record_is b _ _ c.is_board.ensures.board c.if-not-is_board.false in
+        let h = record_is b _ _ c.is_board.ensures.board (ap not c.if-not-is_board.false) in
         board_proper t _ h.0
 
 pub returns-then-verdict-ne0 : goal.returns-then-verdict-ne0
 returns-then-verdict-ne0 c =
     let args = c.args in let t = table_of args.keys.now args.versions.now args.lengths.now args.version.now
-        args.floor.now args.forms.now in let b = with_rows t args.order.now args.tops.now in let h = record_is b _ _ c.is_board.ensures.board c.if-not-is_board.false in let v = report_verdict_lem t args.store.now args.key args.octets.now args.session args.pst true _ _ _ _
+        args.floor.now args.forms.now in let b = with_rows t args.order.now args.tops.now in let h = record_is b _ _ c.is_board.ensures.board (ap not c.if-not-is_board.false) in let v = report_verdict_lem t args.store.now args.key args.octets.now args.session args.pst true _ _ _ _
         (sym h.0) refl c.target-at.ensures.target
         c.body_size-n.ensures.size c.judge.ensures.judged
         c.report_rules-verdict.ensures.first in record { answer = (
@@ -95,7 +97,7 @@ enter-requires c =
         let args = c.args in
         let t = table_of args.keys.now args.versions.now args.lengths.now args.version.now args.floor.now args.forms.now in
         let b = with_rows t args.order.now args.tops.now in
-        let h = record_is b _ _ c.is_board.ensures.board c.if-not-is_board.false in
+        let h = record_is b _ _ c.is_board.ensures.board (ap not c.if-not-is_board.false) in
         let g = passed args.key judge.result size.result args.version.now target.result _ rules.ensures c.if-verdict-ne0.false in
         (board_proper t _ h.0, tidy_order b h.1, tidy_tops b h.1, g.place, λ e. omega (arith, g.low))
 
@@ -140,14 +142,14 @@ lay-requires c =
         let args = c.args in
         let t = table_of args.keys.now args.versions.now args.lengths.now args.version.now args.floor.now args.forms.now in
         let b = with_rows t args.order.now args.tops.now in
-        let h = record_is b _ _ c.is_board.ensures.board c.if-not-is_board.false in
+        let h = record_is b _ _ c.is_board.ensures.board (ap not c.if-not-is_board.false) in
         let g = passed args.key judge.result size.result args.version.now target.result _ rules.ensures c.if-verdict-ne0.false in
         lay_fits args.store.now args.octets.now _ _ _ size.ensures g.size
         (report_room t args.store.now args.key args.octets.now args.session args.pst true _ (sym h.0) refl g.place) c.start_of.ensures.start
 
 pub returns : goal.returns
 returns c =
-    let rules = c.report_rules-verdict in let judge = c.judge in let size = c.body_size-n in let target = c.target-at in let args = c.args in let t = table_of args.keys.now args.versions.now args.lengths.now args.version.now args.floor.now args.forms.now in let b = with_rows t args.order.now args.tops.now in let h = record_is b _ _ c.is_board.ensures.board c.if-not-is_board.false in let yes = c.if-verdict-ne0.false in let enter = c.enter in let raised = c.floor_after-raised in let v = report_verdict_lem t args.store.now args.key args.octets.now args.session args.pst true _ _ _ _
+    let rules = c.report_rules-verdict in let judge = c.judge in let size = c.body_size-n in let target = c.target-at in let args = c.args in let t = table_of args.keys.now args.versions.now args.lengths.now args.version.now args.floor.now args.forms.now in let b = with_rows t args.order.now args.tops.now in let h = record_is b _ _ c.is_board.ensures.board (ap not c.if-not-is_board.false) in let yes = c.if-verdict-ne0.false in let enter = c.enter in let raised = c.floor_after-raised in let v = report_verdict_lem t args.store.now args.key args.octets.now args.session args.pst true _ _ _ _
         (sym h.0) refl target.ensures size.ensures judge.ensures rules.ensures in record { answer = (
           result_accepted b _ _ _ _ _ h.1
               (report_accepted t args.store.now args.key args.octets.now args.session args.pst _ _ _ _ _ v

@@ -4,6 +4,8 @@ use mathlib.Core.Path.{◌≡◌, refl}
 use mathlib.Core.Bool.{false}
 use Rattle.board_record.proofs.Logic.{true≢false}
 use Rattle.board_sweep.proofs.Sweeps.{Sweeping, sweep_none, sweep_take, sweep_skip, sweep_keys, sweep_versions}
+use mathlib.Core.Path.{ap}
+use mathlib.Core.Bool.{not}
 use borrow.Author.Rules.{rules}
 use Rattle.board_sweep.proofs.sweeping.sweep.Goals as goal
 
@@ -47,7 +49,7 @@ loop-i-preserved-then-not-is_dropped c =
           omega arith,
           sweep_skip c.args.keys.now c.args.versions.now c.args.lengths.now
               c.args.c c.requires.0 c.requires.1 _ _ _ _ c.loop-i.invariant.1
-              c.loop-i-test.true c.is_dropped.ensures.dropped c.if-not-is_dropped.true,
+              c.loop-i-test.true c.is_dropped.ensures.dropped (ap not c.if-not-is_dropped.true),
           c.loop-i.invariant.2,
         )
 
@@ -76,7 +78,7 @@ loop-i-preserved c =
           sweep_take c.args.keys.now c.args.versions.now c.args.lengths.now
               c.args.c c.requires.0 c.requires.1 _ _ _ _
               c.loop-i.invariant.1
-              c.loop-i-test.true c.is_dropped.ensures.dropped c.if-not-is_dropped.false,
+              c.loop-i-test.true c.is_dropped.ensures.dropped (ap not c.if-not-is_dropped.false),
           λ e. absurd (true≢false e),
         )
 

@@ -14,7 +14,7 @@ use Rattle.capability.proofs.srv6.announced.Goals as goal
 
 -- With a size that is not refused, the pairs start within the value.
 long : (c : goal.Else-not-both) → 4 ≤ length c.args.w.now
-long c = and_leb (eqb (length c.args.w.now % 2) 0) 4 (length c.args.w.now) (sym c.both.ensures.both ∙ not-false _ c.if-not-both.false)
+long c = and_leb (eqb (length c.args.w.now % 2) 0) 4 (length c.args.w.now) (sym c.both.ensures.both ∙ c.if-not-both.false)
 
 -- where the flags have been read
 a-told : (c : goal.After-flag-r)
@@ -29,7 +29,7 @@ r-told c = c.flag-r.ensures.flag ∙ rw c.read16-all.ensures.number.0
 
 pub returns-then-not-both : goal.returns-then-not-both
 unfolding announced_of sized_of
-returns-then-not-both c = record { announced = rw (c.refused_open.ensures.refused, sym c.both.ensures.both ∙ not-true _ c.if-not-both.true) }
+returns-then-not-both c = record { announced = rw (c.refused_open.ensures.refused, sym c.both.ensures.both ∙ c.if-not-both.true) }
 
 pub read16-all-requires : goal.read16-all-requires
 read16-all-requires c = omega (arith, long c)
@@ -41,7 +41,7 @@ returns-then-flags-eq1 c =
           c.carried.ensures.accepted,
           a-told c,
           r-told c,
-          sym c.both.ensures.both ∙ not-false _ c.if-not-both.false,
+          sym c.both.ensures.both ∙ c.if-not-both.false,
         )
         (simp (← c.octet-flags.ensures.octet.0, eq-eqb _ _ c.if-flags-eq1.true)) }
 
@@ -56,7 +56,7 @@ unfolding announced_of sized_of wrong_of x_of
 returns-then-pairs c =
     record { announced = rw (
           c.refused_open-then-pairs.ensures.refused,
-          sym c.both.ensures.both ∙ not-false _ c.if-not-both.false,
+          sym c.both.ensures.both ∙ c.if-not-both.false,
         )
         (simp (
           ← c.octet-flags.ensures.octet.0,
@@ -68,6 +68,6 @@ pub returns : goal.returns
 unfolding sized_of
 returns c =
     let args = c.args in let gathered = c.gather-pairs.ensures in record { announced = announced_pairs args.p args.w.now _ _ _ _ _ c.octet-flags.ensures.octet.0
-        (sym c.both.ensures.both ∙ not-false _ c.if-not-both.false) (ne_eqb _ _ c.if-flags-eq1.false)
+        (sym c.both.ensures.both ∙ c.if-not-both.false) (ne_eqb _ _ c.if-flags-eq1.false)
         (rw rest_lent at (sym gathered.1.0 ∙ c.if-pairs.false)) (a-told c) (r-told c) (rw rest_lent at gathered.0)
         (rw rest_lent at (gathered.1.1 c.if-pairs.false)) c.limit.ensures.limit c.carried-2.ensures.accepted }

@@ -25,7 +25,7 @@ overflow_add-i c = omega arith
 pub returns-then-not-fits : goal.returns-then-not-fits
 returns-then-not-fits c =
     let a = c.args in let x = get_or c.word-form.result.now c.loop-i.i 0 in let e = c.fits.ensures.fits ∙ ap (λ (w : List ℕ). fits_letter w x) c.word.ensures.word.0 in record { formed = fitting_miss a.place _ a.line.now c.loop-i.invariant.0 c.loop-i.i c.loop-i.invariant.1
-        c.loop-i-test.true (sym e ∙ not-true _ c.if-not-fits.true) }
+        c.loop-i-test.true (sym e ∙ c.if-not-fits.true) }
 
 pub overflow_add-i-in-loop-i : goal.overflow_add-i-in-loop-i
 overflow_add-i-in-loop-i c = omega arith
@@ -40,7 +40,7 @@ loop-i-preserved c =
         let e = c.fits.ensures.fits ∙ ap (λ (w : List ℕ). fits_letter w x) c.word.ensures.word.0 in (
           c.loop-i.invariant.0,
           fitting_hit a.place _ a.line.now c.loop-i.invariant.0 c.loop-i.i c.loop-i.invariant.1
-              c.loop-i-test.true (sym e ∙ not-false _ c.if-not-fits.false),
+              c.loop-i-test.true (sym e ∙ c.if-not-fits.false),
         )
 
 pub returns : goal.returns

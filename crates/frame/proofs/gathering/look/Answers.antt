@@ -4,6 +4,8 @@ use mathlib.Core.Path.{◌≡◌}
 use lib.ListN.{length}
 use Rattle.frame.specs.Gathered.{facts_of}
 use Rattle.frame.proofs.Laws.{Looking, look_starts, look_ends, look_cut, look_next, now_fits, seen_count}
+use mathlib.Core.Path.{ap}
+use mathlib.Core.Bool.{not}
 use borrow.Author.Rules.{rules}
 use Rattle.frame.proofs.gathering.look.Goals as goal
 
@@ -23,7 +25,7 @@ pub returns-then-not-fits : goal.returns-then-not-fits
 returns-then-not-fits c =
     record { facts = look_cut c.loop-at.invariant.4
         c.loop-at-test.true c.wide-len.ensures.same.0
-        c.fits.ensures.fits c.if-not-fits.true }
+        c.fits.ensures.fits (ap not c.if-not-fits.true) }
 
 pub bounds-s-at-in-loop-at : goal.bounds-s-at-in-loop-at
 bounds-s-at-in-loop-at c = omega arith
@@ -32,15 +34,15 @@ pub seen-g-requires : goal.seen-g-requires
 seen-g-requires c = omega (arith, c.loop-at.invariant.3, c.loop-at.invariant.1, c.requires.2)
 
 pub overflow_add-at-in-loop-at : goal.overflow_add-at-in-loop-at
-overflow_add-at-in-loop-at c = let h = now_fits _ _ _ c.fits.ensures.fits c.if-not-fits.false in omega arith
+overflow_add-at-in-loop-at c = let h = now_fits _ _ _ c.fits.ensures.fits (ap not c.if-not-fits.false) in omega arith
 
 pub loop-at-smaller : goal.loop-at-smaller
-loop-at-smaller c = let h = now_fits _ _ _ c.fits.ensures.fits c.if-not-fits.false in omega arith
+loop-at-smaller c = let h = now_fits _ _ _ c.fits.ensures.fits (ap not c.if-not-fits.false) in omega arith
 
 pub loop-at-preserved : goal.loop-at-preserved
 loop-at-preserved c =
     let loop = c.loop-at in
-        let h = now_fits _ _ _ c.fits.ensures.fits c.if-not-fits.false in
+        let h = now_fits _ _ _ c.fits.ensures.fits (ap not c.if-not-fits.false) in
         let q = seen_count loop.g c.seen-g.result _ _ _ _ c.seen-g.ensures.seen in (
           omega (arith, loop.invariant.0),
           omega (arith, loop.invariant.1),
@@ -48,7 +50,7 @@ loop-at-preserved c =
           omega (arith, loop.invariant.3),
           look_next loop.invariant.4 (omega (arith, loop.invariant.0))
               (omega (arith, loop.invariant.1, c.loop-at-test.true))
-              c.wide-len.ensures.same.0 c.fits.ensures.fits c.if-not-fits.false
+              c.wide-len.ensures.same.0 c.fits.ensures.fits (ap not c.if-not-fits.false)
               c.wide.ensures.same.0 c.kind.ensures.kind c.seen-g.ensures.seen,
         )
 

@@ -7,17 +7,19 @@ use Rattle.answers.specs.Numbers.{frame_broken, route_empty, kinds_mixed, none_o
 use Rattle.answers.specs.Verdicts.{refused_by, accepted_with}
 use Rattle.frame.proofs.Laws.{headed_sized}
 use Rattle.frame_rules.proofs.Laws.{header_broken, frame_by, by_facts}
+use mathlib.Core.Path.{ap}
+use mathlib.Core.Bool.{not}
 use borrow.Author.Rules.{rules}
 use Rattle.frame_rules.proofs.judged.framed.Goals as goal
 
 pub returns-then-not-is_headed : goal.returns-then-not-is_headed
-returns-then-not-is_headed c = record { framed = c.refused.ensures.refused ∙ header_broken _ _ _ _ c.is_headed.ensures.headed c.if-not-is_headed.true }
+returns-then-not-is_headed c = record { framed = c.refused.ensures.refused ∙ header_broken _ _ _ _ c.is_headed.ensures.headed (ap not c.if-not-is_headed.true) }
 
 pub look-g-requires : goal.look-g-requires
 unfolding be16
 look-g-requires c =
     let h = headed_sized c.args.ero c.args.s.now
-        (sym c.is_headed.ensures.headed ∙ not-false _ c.if-not-is_headed.false) in (
+        (sym c.is_headed.ensures.headed ∙ c.if-not-is_headed.false) in (
           h.low,
           h.four,
           omega (arith, h.read, c.shared_slice_known-1.given 2, c.shared_slice_known-1.given 3),
@@ -29,7 +31,7 @@ returns-then-not-g c =
     let e : refused_by frame_broken 0 ≡ by_facts c.look-g.result = rw c.if-not-g.true in record { framed = c.refused-then-not-g.ensures.refused
         ∙ e
         ∙ frame_by _ _ _ _ _ c.is_headed.ensures.headed
-        c.if-not-is_headed.false c.look-g.ensures.facts }
+        (ap not c.if-not-is_headed.false) c.look-g.ensures.facts }
 
 pub returns-then-g-eq0 : goal.returns-then-g-eq0
 returns-then-g-eq0 c =
@@ -37,7 +39,7 @@ returns-then-g-eq0 c =
         (c.if-not-g.false, eq-eqb _ _ c.if-g-eq0.true) in record { framed = c.refused-then-g-eq0.ensures.refused
         ∙ e
         ∙ frame_by _ _ _ _ _ c.is_headed.ensures.headed
-        c.if-not-is_headed.false c.look-g.ensures.facts }
+        (ap not c.if-not-is_headed.false) c.look-g.ensures.facts }
 
 pub returns-then-both : goal.returns-then-both
 returns-then-both c =
@@ -49,7 +51,7 @@ returns-then-both c =
         ) in record { framed = c.refused-then-both.ensures.refused
         ∙ e
         ∙ frame_by _ _ _ _ _ c.is_headed.ensures.headed
-        c.if-not-is_headed.false c.look-g.ensures.facts }
+        (ap not c.if-not-is_headed.false) c.look-g.ensures.facts }
 
 pub returns-then-not-g-2 : goal.returns-then-not-g-2
 returns-then-not-g-2 c =
@@ -62,7 +64,7 @@ returns-then-not-g-2 c =
         ) in record { framed = c.refused-then-not-g-2.ensures.refused
         ∙ e
         ∙ frame_by _ _ _ _ _ c.is_headed.ensures.headed
-        c.if-not-is_headed.false c.look-g.ensures.facts }
+        (ap not c.if-not-is_headed.false) c.look-g.ensures.facts }
 
 pub returns : goal.returns
 returns c =
@@ -75,4 +77,4 @@ returns c =
         ) in record { framed = c.accepted.ensures.accepted
         ∙ e
         ∙ frame_by _ _ _ _ _ c.is_headed.ensures.headed
-        c.if-not-is_headed.false c.look-g.ensures.facts }
+        (ap not c.if-not-is_headed.false) c.look-g.ensures.facts }

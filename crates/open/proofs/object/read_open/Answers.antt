@@ -15,10 +15,10 @@ use borrow.Author.Rules.{rules}
 use Rattle.open.proofs.object.read_open.Goals as goal
 
 of-use : (c : goal.Else-not-usable) → usable_positions c.args.p ≡ true
-of-use c = sym c.usable.ensures.usable ∙ not-false _ c.if-not-usable.false
+of-use c = sym c.usable.ensures.usable ∙ c.if-not-usable.false
 
 good : (c : goal.Else-not-is_framed) → framed c.args.s.now ≡ true
-good c = sym c.is_framed.ensures.0 ∙ not-false _ c.if-not-is_framed.false
+good c = sym c.is_framed.ensures.0 ∙ c.if-not-is_framed.false
 
 -- where the walks have been made
 walked : (c : goal.After-walk)
@@ -31,15 +31,15 @@ walked-again : (c : goal.After-walk-in-Values)
 walked-again c = rw (part_rest c.args.s.now tlvs_at) at c.walk-in-Values.ensures.0
 
 pub returns-then-not-usable : goal.returns-then-not-usable
-returns-then-not-usable c = record { read = c.refused_open.ensures.refused ∙ unusable _ _ (sym c.usable.ensures.usable ∙ not-true _ c.if-not-usable.true) }
+returns-then-not-usable c = record { read = c.refused_open.ensures.refused ∙ unusable _ _ (sym c.usable.ensures.usable ∙ c.if-not-usable.true) }
 
 pub returns-then-not-is_framed : goal.returns-then-not-is_framed
 returns-then-not-is_framed c =
     record { read = c.refused_open-then-not-is_framed.ensures.refused
-        ∙ unframed _ _ (of-use c) (sym c.is_framed.ensures.0 ∙ not-true _ c.if-not-is_framed.true) }
+        ∙ unframed _ _ (of-use c) (sym c.is_framed.ensures.0 ∙ c.if-not-is_framed.true) }
 
 pub walk-requires : goal.walk-requires
-walk-requires c = let h = long_framed _ (good c) in omega (arith, c.is_framed.ensures.1 (not-false _ c.if-not-is_framed.false))
+walk-requires c = let h = long_framed _ (good c) in omega (arith, c.is_framed.ensures.1 (c.if-not-is_framed.false))
 
 pub srv6_by-srv6-requires : goal.srv6_by-srv6-requires
 srv6_by-srv6-requires c = rw c.in-Values.is at c.walk.ensures.1
@@ -50,10 +50,10 @@ listed-requires c = let f = rw c.in-Values.is at c.walk.ensures.1 in f.0
 pub returns-then-not-listed : goal.returns-then-not-listed
 returns-then-not-listed c =
     record { read = c.srv6_by-srv6.ensures.carried
-        ∙ alone _ _ (of-use c) (good c) (rw c.in-Values.is at (walked c)) (sym c.listed.ensures.listed ∙ not-true _ c.if-not-listed.true) }
+        ∙ alone _ _ (of-use c) (good c) (rw c.in-Values.is at (walked c)) (sym c.listed.ensures.listed ∙ c.if-not-listed.true) }
 
 pub walk-requires-in-Values : goal.walk-requires-in-Values
-walk-requires-in-Values c = let h = long_framed _ (good c) in omega (arith, c.is_framed.ensures.1 (not-false _ c.if-not-is_framed.false))
+walk-requires-in-Values c = let h = long_framed _ (good c) in omega (arith, c.is_framed.ensures.1 (c.if-not-is_framed.false))
 
 pub mpls_by-requires : goal.mpls_by-requires
 mpls_by-requires c = let f = rw c.in-Values-walk.is at c.walk-in-Values.ensures.1 in f.1
@@ -65,7 +65,7 @@ pub returns-in-Cut-walk : goal.returns-in-Cut-walk
 returns-in-Cut-walk c =
     record { read = c.refused_open-in-Cut-walk.ensures.refused
         ∙ cut_second _ _ (of-use c) (good c) (rw c.in-Values.is at (walked c))
-        (sym c.listed.ensures.listed ∙ not-false _ c.if-not-listed.false)
+        (sym c.listed.ensures.listed ∙ c.if-not-listed.false)
         (rw c.in-Cut-walk.is at (walked-again c)) }
 
 pub returns-in-Values-walk : goal.returns-in-Values-walk
@@ -73,6 +73,6 @@ returns-in-Values-walk c =
     record { read = c.joined.ensures.joined
         ∙ rw (c.mpls_by.ensures.carried, c.srv6_by-srv6.ensures.carried) (
         beside _ _ (of-use c) (good c) (rw c.in-Values.is at (walked c))
-        (sym c.listed.ensures.listed ∙ not-false _ c.if-not-listed.false)
+        (sym c.listed.ensures.listed ∙ c.if-not-listed.false)
         (rw c.in-Values-walk.is at (walked-again c))
         ) }

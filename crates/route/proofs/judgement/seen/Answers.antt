@@ -17,7 +17,7 @@ pub see_mpls-requires : goal.see_mpls-requires
 unfolding be16
 see_mpls-requires c =
     let known = c.shared_slice_known-1.given in
-        let headed = sym c.is_headed.ensures.headed ∙ not-false _ c.if-not-is_headed.false in
+        let headed = sym c.is_headed.ensures.headed ∙ c.if-not-is_headed.false in
         (headed, omega (arith, (headed_sized _ _ headed).read, known 2, known 3))
 
 pub returns-then-pst-eq-MPLS_SETUP : goal.returns-then-pst-eq-MPLS_SETUP
@@ -27,7 +27,7 @@ pub see_srv6-requires : goal.see_srv6-requires
 unfolding be16
 see_srv6-requires c =
     let known = c.shared_slice_known-1.given in
-        let headed = sym c.is_headed.ensures.headed ∙ not-false _ c.if-not-is_headed.false in
+        let headed = sym c.is_headed.ensures.headed ∙ c.if-not-is_headed.false in
         (headed, omega (arith, (headed_sized _ _ headed).read, known 2, known 3))
 
 pub returns : goal.returns

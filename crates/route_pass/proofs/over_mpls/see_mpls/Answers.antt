@@ -68,7 +68,7 @@ returns-then-end-at c = record { settled = unsettled }
 pub structure_sound-requires : goal.structure_sound-requires
 structure_sound-requires c =
     let known = c.mpls-form.ensures.form in
-        let rules = rules_of known _ _ _ (c.mpls_head_sound.ensures.sound (not-false _ c.if-not-mpls_head_sound.false)) in
+        let rules = rules_of known _ _ _ (c.mpls_head_sound.ensures.sound (c.if-not-mpls_head_sound.false)) in
         (sound_length _ _ rules.2, omega (arith, c.if-end-at.false, c.loop-at.invariant.1))
 
 pub returns-then-not-structure_sound : goal.returns-then-not-structure_sound
@@ -76,7 +76,7 @@ returns-then-not-structure_sound c = record { settled = unsettled }
 
 pub mpls_label_sound-requires : goal.mpls_label_sound-requires
 mpls_label_sound-requires c =
-    let rules = c.mpls_head_sound.ensures.sound (not-false _ c.if-not-mpls_head_sound.false) in
+    let rules = c.mpls_head_sound.ensures.sound (c.if-not-mpls_head_sound.false) in
         let read = c.head_at-h in (
           rules.2,
           s_bit _ _ _ _ _ read.ensures.0,
@@ -89,7 +89,7 @@ returns-then-not-mpls_label_sound c = record { settled = unsettled }
 pub stray_of-stray-requires : goal.stray_of-stray-requires
 stray_of-stray-requires c =
     let known = c.mpls-form.ensures.form in
-        let rules = rules_of known _ _ _ (c.mpls_head_sound.ensures.sound (not-false _ c.if-not-mpls_head_sound.false)) in
+        let rules = rules_of known _ _ _ (c.mpls_head_sound.ensures.sound (c.if-not-mpls_head_sound.false)) in
         let h = c.head_at-h.result in
         let fours = fours_of mpls_form known h.nt h.s h.t refl (omega arith) refl (mpls_fours h.nt) in
         let size = sound_length _ _ rules.2 in (
@@ -111,7 +111,7 @@ overflow_add-at-in-loop-at c = omega (arith, c.if-end-at.false, c.loop-at.invari
 pub loop-at-smaller : goal.loop-at-smaller
 loop-at-smaller c =
     let known = c.mpls-form.ensures.form in
-        let rules = rules_of known _ _ _ (c.mpls_head_sound.ensures.sound (not-false _ c.if-not-mpls_head_sound.false)) in
+        let rules = rules_of known _ _ _ (c.mpls_head_sound.ensures.sound (c.if-not-mpls_head_sound.false)) in
         let h = c.head_at-h.result in
         let fours = fours_of mpls_form known h.nt h.s h.t refl (omega arith) refl (mpls_fours h.nt) in
         let size = sound_length _ _ rules.2 in
@@ -121,14 +121,14 @@ pub loop-at-preserved : goal.loop-at-preserved
 loop-at-preserved c =
     let inv = c.loop-at.invariant in
         let known = c.mpls-form.ensures.form in
-        let rules = rules_of known _ _ _ (c.mpls_head_sound.ensures.sound (not-false _ c.if-not-mpls_head_sound.false)) in
+        let rules = rules_of known _ _ _ (c.mpls_head_sound.ensures.sound (c.if-not-mpls_head_sound.false)) in
         let read = c.head_at-h in
         let h = read.result in
         let fours = fours_of mpls_form known h.nt h.s h.t refl (omega arith) refl (mpls_fours h.nt) in
         let size = sound_length _ _ rules.2 in
-        let labels = c.mpls_label_sound.ensures.sound (not-false _ c.if-not-mpls_label_sound.false) in
+        let labels = c.mpls_label_sound.ensures.sound (c.if-not-mpls_label_sound.false) in
         let good = good_made _ _ _ _ _ _ read.ensures.0 (c.if-h-kind.false ∙ c.wide-kind.ensures.same.0) rules.0 rules.1 rules.2 rules.3
-        (c.structure_sound.ensures.sound (not-false _ c.if-not-structure_sound.false)) (rw known labels.0) (rw known labels.1) in
+        (c.structure_sound.ensures.sound (c.if-not-structure_sound.false)) (rw known labels.0) (rw known labels.1) in
         let room-left = length c.args.s.now - c.loop-at.at in
         let fits = fits_made h.size room-left (omega (arith, size, fours.1)) (omega (arith, size, fours.0)) (omega (arith, c.if-end-at.false, inv.1)) in (
           omega (arith, inv.0),

@@ -41,7 +41,7 @@ returns-then-end-at c = record { settled = unsettled }
 
 pub structure_sound-requires : goal.structure_sound-requires
 structure_sound-requires c =
-    let rules = c.head_sound.ensures.sound (not-false _ c.if-not-head_sound.false) in
+    let rules = c.head_sound.ensures.sound (c.if-not-head_sound.false) in
         (sound_length _ _ rules.2, omega (arith, c.if-end-at.false, c.loop-at.invariant.1))
 
 pub returns-then-not-structure_sound : goal.returns-then-not-structure_sound
@@ -49,7 +49,7 @@ returns-then-not-structure_sound c = record { settled = unsettled }
 
 pub label_sound-requires : goal.label_sound-requires
 label_sound-requires c =
-    let rules = c.head_sound.ensures.sound (not-false _ c.if-not-head_sound.false) in
+    let rules = c.head_sound.ensures.sound (c.if-not-head_sound.false) in
         (
           rw c.srv6-form.ensures.form (omega arith),
           (sound_length _ _ rules.2, omega (arith, c.if-end-at.false, c.loop-at.invariant.1)),
@@ -61,7 +61,7 @@ returns-then-not-label_sound c = record { settled = unsettled }
 pub stray_srv6-stray-requires : goal.stray_srv6-stray-requires
 unfolding expected_length
 stray_srv6-stray-requires c =
-    let rules = c.head_sound.ensures.sound (not-false _ c.if-not-head_sound.false) in
+    let rules = c.head_sound.ensures.sound (c.if-not-head_sound.false) in
         let h = c.head_at-h.result in
         let known = c.srv6-form.ensures.form in
         let size = sound_length _ _ rules.2 ∙ ap (λ (x : Form). expected_length x h.nt h.s h.t) known in
@@ -79,7 +79,7 @@ overflow_add-at c = omega (arith, c.if-end-at.false, c.loop-at.invariant.1)
 -- What a turn leaves behind: the subobject is a multiple of 4 octets, and fits.
 pub loop-at-smaller : goal.loop-at-smaller
 loop-at-smaller c =
-    let rules = c.head_sound.ensures.sound (not-false _ c.if-not-head_sound.false) in
+    let rules = c.head_sound.ensures.sound (c.if-not-head_sound.false) in
         let h = c.head_at-h.result in
         let known = c.srv6-form.ensures.form in
         let fours = fours_of srv6_form known h.nt h.s h.t refl (omega arith) refl (srv6_fours h.nt) in
@@ -89,15 +89,15 @@ loop-at-smaller c =
 pub loop-at-preserved : goal.loop-at-preserved
 loop-at-preserved c =
     let inv = c.loop-at.invariant in
-        let rules = c.head_sound.ensures.sound (not-false _ c.if-not-head_sound.false) in
+        let rules = c.head_sound.ensures.sound (c.if-not-head_sound.false) in
         let read = c.head_at-h in
         let h = read.result in
         let known = c.srv6-form.ensures.form in
         let fours = fours_of srv6_form known h.nt h.s h.t refl (omega arith) refl (srv6_fours h.nt) in
         let size = sound_length _ _ rules.2 in
-        let labels = c.label_sound.ensures.sound (not-false _ c.if-not-label_sound.false) in
+        let labels = c.label_sound.ensures.sound (c.if-not-label_sound.false) in
         let good = good_made _ _ _ _ _ _ read.ensures.0 (c.if-h-kind.false ∙ c.wide-kind.ensures.same.0) rules.0 rules.1 rules.2 rules.3
-        (c.structure_sound.ensures.sound (not-false _ c.if-not-structure_sound.false)) labels.0 labels.1 in
+        (c.structure_sound.ensures.sound (c.if-not-structure_sound.false)) labels.0 labels.1 in
         let room-left = length c.args.s.now - c.loop-at.at in
         let fits = fits_made h.size room-left (omega (arith, size, fours.1)) (omega (arith, size, fours.0)) (omega (arith, c.if-end-at.false, inv.1)) in (
           omega (arith, inv.0),

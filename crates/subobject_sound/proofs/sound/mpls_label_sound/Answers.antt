@@ -20,7 +20,7 @@ pub returns-then-not-label_good : goal.returns-then-not-label_good
 returns-then-not-label_good c = record { sound = λ e. absurd (false≢true e) }
 
 pub returns-then-h-ne1-2 : goal.returns-then-h-ne1-2
-returns-then-h-ne1-2 c = record { sound = λ e. (good_29 _ _ (c.label_good.ensures.good (not-false _ c.if-not-label_good.false)), plain_30 _ _ c.if-h-ne1-2.true) }
+returns-then-h-ne1-2 c = record { sound = λ e. (good_29 _ _ (c.label_good.ensures.good (c.if-not-label_good.false)), plain_30 _ _ c.if-h-ne1-2.true) }
 
 pub bounds-s-at : goal.bounds-s-at
 bounds-s-at c =
@@ -30,6 +30,6 @@ bounds-s-at c =
 pub returns : goal.returns
 returns c =
     record { sound = λ e. (
-          good_29 _ _ (c.label_good.ensures.good (not-false _ c.if-not-label_good.false)),
+          good_29 _ _ (c.label_good.ensures.good (c.if-not-label_good.false)),
           timed_30 _ c.args.s.now c.args.at _ c.wide.ensures.same.0 e,
         ) }
