@@ -14,8 +14,8 @@ use Rattle.command.proofs.octets_at.Goals as goal
 pub returns : goal.returns
 returns c =
     let decode = c.decode in let w = c.word.ensures.word.0 in let out = c.args.out.now in let l = length_octets c.word.result.now in let n : length (octets_of c.word.result.now) ≤ length out = omega
-        (arith, c.word.ensures.word.1, c.requires) in let e : length decode.new.1.0 ≡ length out = ap length decode.ensures.1
-        ∙ length_over (octets_of c.word.result.now) out n in let k : decode.result ≤ length decode.new.1.0 = omega (arith, decode.ensures.0) in record { octets = (
-            decode.ensures.0 ∙ ap (λ (x : List ℕ). length (octets_of x)) w,
-            decode.ensures.1 ∙ ap (λ (x : List ℕ). over (octets_of x) out) w,
-          ); within = (k, sym (length-take-le decode.result decode.new.1.0 k)); room = e }
+        (arith, c.word.ensures.word.1, c.requires) in let e : length decode.new.out ≡ length out = ap length decode.ensures.decoded.1
+        ∙ length_over (octets_of c.word.result.now) out n in let k : decode.result ≤ length decode.new.out = omega (arith, decode.ensures.decoded.0) in record { octets = (
+            decode.ensures.decoded.0 ∙ ap (λ (x : List ℕ). length (octets_of x)) w,
+            decode.ensures.decoded.1 ∙ ap (λ (x : List ℕ). over (octets_of x) out) w,
+          ); within = (k, sym (length-take-le decode.result decode.new.out k)); room = e }

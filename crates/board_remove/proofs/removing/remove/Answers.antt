@@ -112,7 +112,7 @@ returns c =
         result_accepted b _ _ _ _ _ h.1
         (remove_accepted t args.store.now args.key _ _
         (remove_verdict_lem t args.store.now args.key true _ _ _ (sym h.0) refl IsPlace-in.ensures
-        c.length_in.ensures.length rules.ensures) if2-left IsPlace-in.ensures l) if2-left
+        c.length_in.ensures.length rules.ensures.first) if2-left IsPlace-in.ensures l) if2-left
         (remove_order t args.key _ _ IsPlace-in.ensures l
-        (remove_key args.key _ args.version.now _ rules.ensures if2-left)
+        (remove_key args.key _ args.version.now _ rules.ensures.first if2-left)
         c.move_last.ensures.order) c.raise.ensures.raised }

@@ -53,7 +53,7 @@ floor_after-raised-requires c =
         let size = c.body_size-n in
         let target = c.target-at in
         let args = c.args in
-        let g = passed args.key judge.result size.result args.version.now target.result _ rules.ensures
+        let g = passed args.key judge.result size.result args.version.now target.result _ rules.ensures.first
         c.if-verdict-ne0.false in
         g.place
 
@@ -64,7 +64,7 @@ overflow_cast-key c =
         let size = c.body_size-n in
         let target = c.target-at in
         let args = c.args in
-        let g = passed args.key judge.result size.result args.version.now target.result _ rules.ensures c.if-verdict-ne0.false in
+        let g = passed args.key judge.result size.result args.version.now target.result _ rules.ensures.first c.if-verdict-ne0.false in
         omega (arith, g.key)
 
 pub overflow_cast-n : goal.overflow_cast-n
@@ -74,7 +74,7 @@ overflow_cast-n c =
         let size = c.body_size-n in
         let target = c.target-at in
         let args = c.args in
-        let g = passed args.key judge.result size.result args.version.now target.result _ rules.ensures c.if-verdict-ne0.false in
+        let g = passed args.key judge.result size.result args.version.now target.result _ rules.ensures.first c.if-verdict-ne0.false in
         omega (arith, g.size)
 
 pub overflow_cast-pst : goal.overflow_cast-pst
@@ -84,8 +84,8 @@ overflow_cast-pst c =
         let size = c.body_size-n in
         let target = c.target-at in
         let args = c.args in
-        let g = passed args.key judge.result size.result args.version.now target.result _ rules.ensures c.if-verdict-ne0.false in
-        let z = form_small args.octets.now args.session args.pst _ judge.ensures g.route_taken in
+        let g = passed args.key judge.result size.result args.version.now target.result _ rules.ensures.first c.if-verdict-ne0.false in
+        let z = form_small args.octets.now args.session args.pst _ judge.ensures.judged g.route_taken in
         omega arith
 
 pub enter-requires : goal.enter-requires
@@ -98,7 +98,7 @@ enter-requires c =
         let t = table_of args.keys.now args.versions.now args.lengths.now args.version.now args.floor.now args.forms.now in
         let b = with_rows t args.order.now args.tops.now in
         let h = record_is b _ _ c.is_board.ensures.board (ap not c.if-not-is_board.false) in
-        let g = passed args.key judge.result size.result args.version.now target.result _ rules.ensures c.if-verdict-ne0.false in
+        let g = passed args.key judge.result size.result args.version.now target.result _ rules.ensures.first c.if-verdict-ne0.false in
         (board_proper t _ h.0, tidy_order b h.1, tidy_tops b h.1, g.place, λ e. omega (arith, g.low))
 
 pub start_of-requires : goal.start_of-requires
@@ -108,7 +108,7 @@ start_of-requires c =
         let size = c.body_size-n in
         let target = c.target-at in
         let args = c.args in
-        let g = passed args.key judge.result size.result args.version.now target.result _ rules.ensures c.if-verdict-ne0.false in
+        let g = passed args.key judge.result size.result args.version.now target.result _ rules.ensures.first c.if-verdict-ne0.false in
         g.place
 
 pub slice_bounds-lay-count : goal.slice_bounds-lay-count
@@ -118,8 +118,8 @@ slice_bounds-lay-count c =
         let size = c.body_size-n in
         let target = c.target-at in
         let args = c.args in
-        let g = passed args.key judge.result size.result args.version.now target.result _ rules.ensures c.if-verdict-ne0.false in
-        let z = body_there args.octets.now args.session args.pst _ judge.ensures g.route_taken in
+        let g = passed args.key judge.result size.result args.version.now target.result _ rules.ensures.first c.if-verdict-ne0.false in
+        let z = body_there args.octets.now args.session args.pst _ judge.ensures.judged g.route_taken in
         omega arith
 
 pub slice_bounds-lay-start : goal.slice_bounds-lay-start
@@ -129,8 +129,8 @@ slice_bounds-lay-start c =
         let size = c.body_size-n in
         let target = c.target-at in
         let args = c.args in
-        let g = passed args.key judge.result size.result args.version.now target.result _ rules.ensures c.if-verdict-ne0.false in
-        let z = body_there args.octets.now args.session args.pst _ judge.ensures g.route_taken in
+        let g = passed args.key judge.result size.result args.version.now target.result _ rules.ensures.first c.if-verdict-ne0.false in
+        let z = body_there args.octets.now args.session args.pst _ judge.ensures.judged g.route_taken in
         omega arith
 
 pub lay-requires : goal.lay-requires
@@ -143,19 +143,19 @@ lay-requires c =
         let t = table_of args.keys.now args.versions.now args.lengths.now args.version.now args.floor.now args.forms.now in
         let b = with_rows t args.order.now args.tops.now in
         let h = record_is b _ _ c.is_board.ensures.board (ap not c.if-not-is_board.false) in
-        let g = passed args.key judge.result size.result args.version.now target.result _ rules.ensures c.if-verdict-ne0.false in
-        lay_fits args.store.now args.octets.now _ _ _ size.ensures g.size
+        let g = passed args.key judge.result size.result args.version.now target.result _ rules.ensures.first c.if-verdict-ne0.false in
+        lay_fits args.store.now args.octets.now _ _ _ size.ensures.size g.size
         (report_room t args.store.now args.key args.octets.now args.session args.pst true _ (sym h.0) refl g.place) c.start_of.ensures.start
 
 pub returns : goal.returns
 returns c =
     let rules = c.report_rules-verdict in let judge = c.judge in let size = c.body_size-n in let target = c.target-at in let args = c.args in let t = table_of args.keys.now args.versions.now args.lengths.now args.version.now args.floor.now args.forms.now in let b = with_rows t args.order.now args.tops.now in let h = record_is b _ _ c.is_board.ensures.board (ap not c.if-not-is_board.false) in let yes = c.if-verdict-ne0.false in let enter = c.enter in let raised = c.floor_after-raised in let v = report_verdict_lem t args.store.now args.key args.octets.now args.session args.pst true _ _ _ _
-        (sym h.0) refl target.ensures size.ensures judge.ensures rules.ensures in record { answer = (
+        (sym h.0) refl target.ensures.target size.ensures.size judge.ensures.judged rules.ensures.first in record { answer = (
           result_accepted b _ _ _ _ _ h.1
               (report_accepted t args.store.now args.key args.octets.now args.session args.pst _ _ _ _ _ v
-              yes target.ensures size.ensures (raised.ensures args.lengths.now args.forms.now args.version.now) enter.ensures.0)
+              yes target.ensures.target size.ensures.size (raised.ensures.floor args.lengths.now args.forms.now args.version.now) enter.ensures.0)
               yes enter.ensures.1.0 enter.ensures.1.1,
           store_on b args.store.now args.key args.octets.now args.session args.pst _ h.1
               (store_accepted t args.store.now args.key args.octets.now args.session args.pst _ _ _ _ v
-              yes target.ensures c.start_of.ensures.start c.lay.ensures.laid),
+              yes target.ensures.target c.start_of.ensures.start c.lay.ensures.laid),
         ) }

@@ -5,7 +5,7 @@ use borrow.Author.Rules.{rules}
 use Rattle.console_board.proofs.look.chain.Goals as goal
 
 pub slice_bounds-list-end : goal.slice_bounds-list-end
-slice_bounds-list-end c = let along = c.along-n in sym (length-take-le along.result along.new.1.0 (omega (arith, along.ensures.1, c.laid-2-1.given)))
+slice_bounds-list-end c = let along = c.along-n in sym (length-take-le along.result along.new.laid (omega (arith, along.ensures.1, c.laid-2-1.given)))
 
 pub list-requires : goal.list-requires
 list-requires c =
@@ -13,7 +13,7 @@ list-requires c =
         omega (
           arith,
           along.ensures.1,
-          length-take-le along.result along.new.1.0
+          length-take-le along.result along.new.laid
               (omega (arith, along.ensures.1, c.laid-2-1.given)),
           c.requires,
         )

@@ -33,7 +33,7 @@ loop-count-smaller c = omega (arith, c.loop-count-test.true)
 pub loop-count-preserved : goal.loop-count-preserved
 loop-count-preserved c =
     let turn = c.loop-count-test.true in
-        (omega (arith, turn), one_more _ _ c.loop-count.invariant.1 (omega (arith, turn)) (c.is_alone.ensures.alone (not-false _ c.if-not-is_alone.false)))
+        (omega (arith, turn), one_more _ _ c.loop-count.invariant.1 (omega (arith, turn)) (c.is_alone.ensures.alone (c.if-not-is_alone.false)))
 
 pub returns : goal.returns
 returns c = record { labels = c.loop-count.invariant.1 }
