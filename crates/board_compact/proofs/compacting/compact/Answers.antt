@@ -34,10 +34,10 @@ drop_empty-requires c =
           search rules,
           compact_loose_at t args.c args.order.now _ (board_proper t _ h.0) (tidy_order b h.1)
               (compacted_is args.keys.now args.versions.now args.lengths.now args.version args.floor.now args.forms.now
-              args.c _ _ _ sweep.ensures.0 sweep.ensures.1.0 c.larger.ensures.larger),
+              args.c _ _ _ sweep.ensures.keys sweep.ensures.versions c.larger.ensures.larger),
           λ e.
               compact_still t args.order.now _ _ _ (board_proper t _ h.0) (tidy_order b h.1)
-              (sweep.ensures.1.1 e).0 (sweep.ensures.1.1 e).1,
+              (sweep.ensures.stays e).0 (sweep.ensures.stays e).1,
         )
 
 pub work_out-requires : goal.work_out-requires
@@ -47,7 +47,7 @@ work_out-requires c =
         let b = with_rows t args.order.now args.tops.now in
         let h = record_is b _ _ c.is_board.ensures.board (ap not c.if-not-is_board.false) in
         let sweep = c.sweep-dropped in
-        (search rules, search rules, λ e. rw (sweep.ensures.1.1 e).1 (tidy_tops b h.1))
+        (search rules, search rules, λ e. rw (sweep.ensures.stays e).1 (tidy_tops b h.1))
 
 pub returns : goal.returns
 returns c =
@@ -57,5 +57,5 @@ returns c =
         (compact_verdict_lem t args.store.now args.c true _ (sym h.0) refl
         c.compact_rules-verdict.ensures.first) if2-left
         (compacted_is args.keys.now args.versions.now args.lengths.now args.version args.floor.now args.forms.now
-        args.c _ _ _ sweep.ensures.0 sweep.ensures.1.0 c.larger.ensures.larger)) if2-left
+        args.c _ _ _ sweep.ensures.keys sweep.ensures.versions c.larger.ensures.larger)) if2-left
         c.drop_empty.ensures.order c.work_out.ensures.tops }

@@ -102,7 +102,7 @@ bucketed-requires c =
 pub returns-then-not-bucketed : goal.returns-then-not-bucketed
 returns-then-not-bucketed c =
     let args = c.args in let t = table_of args.keys.now args.versions.now args.lengths.now args.version args.floor args.forms.now in let order = args.order.now in let inv = c.loop-i.invariant in let is = c.numbered-x.ensures.place.is c.if-x-ge-PLACES.false in record { proper = no_tops t order args.tops.now
-        (stop_new t order _ _ _ _ c.loop-i-test.true inv.1 is c.if-x-ge-PLACES.false c.bucketed.ensures.0 (ap not c.if-not-bucketed.true)) }
+        (stop_new t order _ _ _ _ c.loop-i-test.true inv.1 is c.if-x-ge-PLACES.false c.bucketed.ensures.new (ap not c.if-not-bucketed.true)) }
 
 pub bounds-seen-x : goal.bounds-seen-x
 bounds-seen-x c = omega (arith, c.if-x-ge-PLACES.false)
@@ -125,12 +125,12 @@ loop-i-preserved c =
         let above = is_late args.floor c.loop-i.last c.loop-i.bound (get_or args.versions.now c.numbered-x.result 0)
         (get_or args.lengths.now c.numbered-x.result 0) inv.4 yes in
         let new = c.if-not-bucketed.false in
-        let used = is_new t order _ _ _ c.bucketed.ensures.0 new in (
+        let used = is_new t order _ _ _ c.bucketed.ensures.new new in (
           omega (arith, c.loop-i-test.true),
           along_more t order _ _ _ _ inv.1 is c.if-x-ge-PLACES.false refl above.0 used
               (sound_found t _ _ c.bodies.ensures.bodies (ap not c.if-not-bodies.false) c.low.ensures.low
               (ap not c.if-not-low.false) _ _ c.if-x-ge-PLACES.false used above.0 above.1),
-          hashed_more xs _ _ _ _ _ inv.2.fine (key_along t order _ _ c.loop-i-test.true is) c.bucketed.ensures.0 new c.bucketed.ensures.1,
+          hashed_more xs _ _ _ _ _ inv.2.fine (key_along t order _ _ c.loop-i-test.true is) c.bucketed.ensures.new new c.bucketed.ensures.joins,
           topped_more t.versions order _ _ _ _ _ inv.3 inv.1.risen is c.if-x-ge-PLACES.false refl above.0,
           bounded_more _ _ _ _ _ inv.4 above.0 c.larger-bound.ensures.larger,
         )

@@ -153,8 +153,8 @@ returns c =
         (sym h.0) refl target.ensures.target size.ensures.size judge.ensures.judged rules.ensures.first in record { answer = (
           result_accepted b _ _ _ _ _ h.1
               (report_accepted t args.store.now args.key args.octets.now args.session args.pst _ _ _ _ _ v
-              yes target.ensures.target size.ensures.size (raised.ensures.floor args.lengths.now args.forms.now args.version.now) enter.ensures.0)
-              yes enter.ensures.1.0 enter.ensures.1.1,
+              yes target.ensures.target size.ensures.size (raised.ensures.floor args.lengths.now args.forms.now args.version.now) enter.ensures.table)
+              yes enter.ensures.rows.0 enter.ensures.rows.1,
           store_on b args.store.now args.key args.octets.now args.session args.pst _ h.1
               (store_accepted t args.store.now args.key args.octets.now args.session args.pst _ _ _ _ v
               yes target.ensures.target c.start_of.ensures.start c.lay.ensures.laid),

@@ -14,7 +14,7 @@ unfolding body_line
 returns-then-v-ne0 c =
     let a = c.args in record { told = rw (← c.body_number-v.ensures.number)
         (told_refused c.body_number-v.result (form_line (body_form_by_value a.b a.store.now a.c.one) (body_by_value a.b a.store.now a.c.one))
-        c.if-v-ne0.true c.refusal.ensures.0) }
+        c.if-v-ne0.true c.refusal.ensures.told) }
 
 pub formed-requires : goal.formed-requires
 formed-requires c =
@@ -26,4 +26,4 @@ unfolding body_line
 returns c =
     record { told = rw (← c.body_number-v.ensures.number, ← c.body_form-form.ensures.form, ← c.body-path.ensures.body)
         (told_accepted c.body_number-v.result (form_line c.body_form-form.result c.body-path.result.now)
-        c.if-v-ne0.false c.formed.ensures.0) }
+        c.if-v-ne0.false c.formed.ensures.told) }

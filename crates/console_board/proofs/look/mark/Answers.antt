@@ -11,4 +11,4 @@ returns c =
         (λ (m : Mark).
         Behind c.args.out.now c.two.new.out 0
         c.two.result (two_line m.s m.w)) c.fresh_mark-m.ensures.fresh
-        c.two.ensures.0 }
+        c.two.ensures.told }

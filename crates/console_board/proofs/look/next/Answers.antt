@@ -27,7 +27,7 @@ path-requires c =
 
 pub returns-in-Refused : goal.returns-in-Refused
 unfolding next_line
-returns-in-Refused c = record { told = rw (← c.next.ensures.next, c.in-Refused.is) c.refusal.ensures.0 }
+returns-in-Refused c = record { told = rw (← c.next.ensures.next, c.in-Refused.is) c.refusal.ensures.told }
 
 pub returns-in-Path : goal.returns-in-Path
 unfolding next_line
@@ -36,12 +36,12 @@ returns-in-Path c =
           ← c.next.ensures.next,
           c.in-Path.is,
           ← c.named.ensures.named,
-        ) c.path.ensures.0 }
+        ) c.path.ensures.told }
 
 pub returns-in-Removed : goal.returns-in-Removed
 unfolding next_line
-returns-in-Removed c = record { told = rw (← c.next.ensures.next, c.in-Removed.is) c.removed.ensures.0 }
+returns-in-Removed c = record { told = rw (← c.next.ensures.next, c.in-Removed.is) c.removed.ensures.told }
 
 pub returns-in-Level : goal.returns-in-Level
 unfolding next_line
-returns-in-Level c = record { told = rw (← c.next.ensures.next, c.in-Level.is) c.level.ensures.0 }
+returns-in-Level c = record { told = rw (← c.next.ensures.next, c.in-Level.is) c.level.ensures.told }

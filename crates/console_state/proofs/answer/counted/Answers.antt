@@ -8,10 +8,10 @@ pub returns-then-v-ne0 : goal.returns-then-v-ne0
 unfolding count_line
 returns-then-v-ne0 c =
     let v = c.args.v in record { told = told_refused v (two_line v.count v.stray) c.if-v-ne0.true
-        c.refusal.ensures.0 }
+        c.refusal.ensures.told }
 
 pub returns : goal.returns
 unfolding count_line
 returns c =
     let v = c.args.v in record { told = told_accepted v (two_line v.count v.stray) c.if-v-ne0.false
-        c.two.ensures.0 }
+        c.two.ensures.told }

@@ -52,8 +52,8 @@ mpls_head_sound-requires c =
         let sized = headed_sized _ _ c.requires.0 in
         let inv = c.loop-at.invariant in (
           omega (arith, sized.four, inv.1, inv.2, c.loop-at-test.true),
-          read.ensures.0 ∙ head_of_lem c.mpls-form.ensures.form _ _ _,
-          read.ensures.1.0,
+          read.ensures.read ∙ head_of_lem c.mpls-form.ensures.form _ _ _,
+          read.ensures.small.0,
         )
 
 pub returns-then-not-mpls_head_sound : goal.returns-then-not-mpls_head_sound
@@ -79,7 +79,7 @@ mpls_label_sound-requires c =
     let rules = c.mpls_head_sound.ensures.sound (c.if-not-mpls_head_sound.false) in
         let read = c.head_at-h in (
           rules.2,
-          s_bit _ _ _ _ _ read.ensures.0,
+          s_bit _ _ _ _ _ read.ensures.read,
           (sound_length _ _ rules.2, omega (arith, c.if-end-at.false, c.loop-at.invariant.1)),
         )
 
@@ -127,7 +127,7 @@ loop-at-preserved c =
         let fours = fours_of mpls_form known h.nt h.s h.t refl (omega arith) refl (mpls_fours h.nt) in
         let size = sound_length _ _ rules.2 in
         let labels = c.mpls_label_sound.ensures.sound (c.if-not-mpls_label_sound.false) in
-        let good = good_made _ _ _ _ _ _ read.ensures.0 (c.if-h-kind.false ∙ c.wide-kind.ensures.same.0) rules.0 rules.1 rules.2 rules.3
+        let good = good_made _ _ _ _ _ _ read.ensures.read (c.if-h-kind.false ∙ c.wide-kind.ensures.same.0) rules.0 rules.1 rules.2 rules.3
         (c.structure_sound.ensures.sound (c.if-not-structure_sound.false)) (rw known labels.0) (rw known labels.1) in
         let room-left = length c.args.s.now - c.loop-at.at in
         let fits = fits_made h.size room-left (omega (arith, size, fours.1)) (omega (arith, size, fours.0)) (omega (arith, c.if-end-at.false, inv.1)) in (
@@ -136,7 +136,7 @@ loop-at-preserved c =
           omega (arith, inv.2, size, fours.0),
           omega (arith, inv.3, size, fours.1),
           omega (arith, inv.4, c.stray_of-stray.ensures.one.1),
-          gone_on inv.5 _ _ (omega (arith, inv.1, c.loop-at-test.true)) read.ensures.0 fits good c.stray_of-stray.ensures.one.0,
+          gone_on inv.5 _ _ (omega (arith, inv.1, c.loop-at-test.true)) read.ensures.read fits good c.stray_of-stray.ensures.one.0,
         )
 
 pub overflow_mul-result : goal.overflow_mul-result

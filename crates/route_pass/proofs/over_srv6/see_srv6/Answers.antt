@@ -96,7 +96,7 @@ loop-at-preserved c =
         let fours = fours_of srv6_form known h.nt h.s h.t refl (omega arith) refl (srv6_fours h.nt) in
         let size = sound_length _ _ rules.2 in
         let labels = c.label_sound.ensures.sound (c.if-not-label_sound.false) in
-        let good = good_made _ _ _ _ _ _ read.ensures.0 (c.if-h-kind.false ∙ c.wide-kind.ensures.same.0) rules.0 rules.1 rules.2 rules.3
+        let good = good_made _ _ _ _ _ _ read.ensures.read (c.if-h-kind.false ∙ c.wide-kind.ensures.same.0) rules.0 rules.1 rules.2 rules.3
         (c.structure_sound.ensures.sound (c.if-not-structure_sound.false)) labels.0 labels.1 in
         let room-left = length c.args.s.now - c.loop-at.at in
         let fits = fits_made h.size room-left (omega (arith, size, fours.1)) (omega (arith, size, fours.0)) (omega (arith, c.if-end-at.false, inv.1)) in (
@@ -105,7 +105,7 @@ loop-at-preserved c =
           omega (arith, inv.2, size, fours.0),
           omega (arith, inv.3, size, fours.1),
           omega (arith, inv.4, c.stray_srv6-stray.ensures.one.1),
-          gone_on inv.5 _ _ (omega (arith, inv.1, c.loop-at-test.true)) read.ensures.0 fits good
+          gone_on inv.5 _ _ (omega (arith, inv.1, c.loop-at-test.true)) read.ensures.read fits good
               (c.stray_srv6-stray.ensures.one.0
               ∙ ap (λ (x : Form). stray_one (strays_by x h c.args.s.now c.loop-at.at)) (sym known)),
         )

@@ -27,17 +27,17 @@ segment_mpls-requires c =
     let args = c.args in
         let form = c.mpls-form.ensures.form in
         let v = c.verdict_mpls-v.ensures.verdict ∙ ap (λ (f : Form). step_verdict f args.s.now args.ero args.at) form in
-        let h = c.head_at-h.ensures.0 ∙ ap (λ (f : Form). head_at f args.s.now args.ero args.at) form in
+        let h = c.head_at-h.ensures.read ∙ ap (λ (f : Form). head_at f args.s.now args.ero args.at) form in
         let none = c.if-v-ne0.false in
-        (head_lies mpls_form args.s.now args.ero args.at _ v _ h none, head_known mpls_form args.s.now args.ero args.at _ v _ h none, c.head_at-h.ensures.1.1)
+        (head_lies mpls_form args.s.now args.ero args.at _ v _ h none, head_known mpls_form args.s.now args.ero args.at _ v _ h none, c.head_at-h.ensures.small.1)
 
 pub overflow_add-result : goal.overflow_add-result
 overflow_add-result c =
     let args = c.args in
         let form = c.mpls-form.ensures.form in
         let v = c.verdict_mpls-v.ensures.verdict ∙ ap (λ (f : Form). step_verdict f args.s.now args.ero args.at) form in
-        let h = c.head_at-h.ensures.0 ∙ ap (λ (f : Form). head_at f args.s.now args.ero args.at) form in
+        let h = c.head_at-h.ensures.read ∙ ap (λ (f : Form). head_at f args.s.now args.ero args.at) form in
         omega (arith, head_behind mpls_form args.s.now args.ero args.at _ v _ h c.if-v-ne0.false)
 
 pub returns : goal.returns
-returns c = let args = c.args in let form = c.mpls-form.ensures.form in let v = c.verdict_mpls-v.ensures.verdict ∙ ap (λ (f : Form). step_verdict f args.s.now args.ero args.at) form in let h = c.head_at-h.ensures.0 ∙ ap (λ (f : Form). head_at f args.s.now args.ero args.at) form in record { stepped = head_stepped mpls_form args.s.now args.ero args.at _ v _ h c.if-v-ne0.false c.segment_mpls.ensures.segment }
+returns c = let args = c.args in let form = c.mpls-form.ensures.form in let v = c.verdict_mpls-v.ensures.verdict ∙ ap (λ (f : Form). step_verdict f args.s.now args.ero args.at) form in let h = c.head_at-h.ensures.read ∙ ap (λ (f : Form). head_at f args.s.now args.ero args.at) form in record { stepped = head_stepped mpls_form args.s.now args.ero args.at _ v _ h c.if-v-ne0.false c.segment_mpls.ensures.segment }

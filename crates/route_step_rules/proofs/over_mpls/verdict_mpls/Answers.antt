@@ -25,10 +25,10 @@ pub rules_at-requires : goal.rules_at-requires
 rules_at-requires c =
     let there = sym c.is_outside.ensures.outside ∙ c.if-is_outside.false in
         let fits = sym c.is_unfit.ensures.unfit ∙ c.if-is_unfit.false in
-        let size = size_room c.args.form c.args.s.now c.args.ero c.args.at there fits c.head_at.result c.head_at.ensures.0 in
+        let size = size_room c.args.form c.args.s.now c.args.ero c.args.at there fits c.head_at.result c.head_at.ensures.read in
         ((inside _ _ there).2, c.requires.0, c.requires.1, size)
 
 pub returns : goal.returns
 returns c =
     record { verdict = goes_on _ _ _ _ (sym c.is_outside.ensures.outside ∙ c.if-is_outside.false)
-        (sym c.is_unfit.ensures.unfit ∙ c.if-is_unfit.false) c.head_at.ensures.0 c.rules_at.ensures.verdict }
+        (sym c.is_unfit.ensures.unfit ∙ c.if-is_unfit.false) c.head_at.ensures.read c.rules_at.ensures.verdict }

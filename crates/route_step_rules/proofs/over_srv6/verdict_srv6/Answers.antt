@@ -27,4 +27,4 @@ rules_at-requires c = ((inside _ _ (sym c.is_outside.ensures.outside ∙ c.if-is
 pub returns : goal.returns
 returns c =
     record { verdict = goes_on _ _ _ _ (sym c.is_outside.ensures.outside ∙ c.if-is_outside.false)
-        (sym c.is_unfit.ensures.unfit ∙ c.if-is_unfit.false) c.head_at.ensures.0 c.rules_at.ensures.verdict }
+        (sym c.is_unfit.ensures.unfit ∙ c.if-is_unfit.false) c.head_at.ensures.read c.rules_at.ensures.verdict }

@@ -16,13 +16,13 @@ pub head_at-h-requires : goal.head_at-h-requires
 head_at-h-requires c = let h = left_room c.walk.invariant.1 c.if-at-end.false in omega arith
 
 pub overflow_add-next : goal.overflow_add-next
-overflow_add-next c = omega (arith, c.head_at-h.ensures.1)
+overflow_add-next c = omega (arith, c.head_at-h.ensures.small)
 
 pub loop-k-init : goal.loop-k-init
 loop-k-init c =
     (
       omega arith,
-      begin c.walk.invariant.1 (omega (arith, c.walk.invariant.0, c.if-at-end.false)) (head_size _ _ _ _ _ c.head_at-h.ensures.0),
+      begin c.walk.invariant.1 (omega (arith, c.walk.invariant.0, c.if-at-end.false)) (head_size _ _ _ _ _ c.head_at-h.ensures.read),
     )
 
 pub offset_bounds-k : goal.offset_bounds-k
@@ -45,14 +45,14 @@ loop-k-preserved c =
     (
       omega arith,
       passes c.loop-k.invariant.1 c.loop-k-test.true
-          (asked _ _ _ _ _ _ _ _ c.head_at-h.ensures.0 c.breaks.ensures.broken
+          (asked _ _ _ _ _ _ _ _ c.head_at-h.ensures.read c.breaks.ensures.broken
           ∙ c.if-breaks.false),
     )
 
 pub stray_of-stray-requires : goal.stray_of-stray-requires
 unfolding expected_length
 stray_of-stray-requires c =
-    let e = c.head_at-h.ensures.0 in
+    let e = c.head_at-h.ensures.read in
         let h = left_room c.walk.invariant.1 c.if-at-end.false in
         let size = checked_length _ _ _ _ _ c.loop-k.invariant.1 _ e (omega (arith, c.loop-k.invariant.0, c.loop-k-test.false)) in
         (omega (arith, c.walk.invariant.0, head_size _ _ _ _ _ e, size), c.requires.0, (size, omega (arith, c.walk.invariant.0, head_size _ _ _ _ _ e)))
@@ -63,11 +63,11 @@ overflow_add-stray c = omega (arith, c.stray_of-stray.ensures.one.1, c.walk.inva
 pub walk-smaller : goal.walk-smaller
 walk-smaller c =
     let h = left_room c.walk.invariant.1 c.if-at-end.false in
-        let e = head_size _ _ _ _ _ c.head_at-h.ensures.0 in omega (arith, c.walk.invariant.0)
+        let e = head_size _ _ _ _ _ c.head_at-h.ensures.read in omega (arith, c.walk.invariant.0)
 
 pub walk-preserved : goal.walk-preserved
 walk-preserved c =
-    let r = c.head_at-h.ensures.0 in
+    let r = c.head_at-h.ensures.read in
         let h = left_room c.walk.invariant.1 c.if-at-end.false in
         let e = head_size _ _ _ _ _ r in (
           omega (arith, c.walk.invariant.0),
@@ -83,6 +83,6 @@ pub returns-then-breaks : goal.returns-then-breaks
 returns-then-breaks c =
     record { walked = refused_at _ _ _ _ c.refused.ensures.refused c.place.ensures.place
         ∙ stops c.loop-k.invariant.1 c.loop-k-test.true
-        (asked _ _ _ _ _ _ _ _ c.head_at-h.ensures.0
+        (asked _ _ _ _ _ _ _ _ c.head_at-h.ensures.read
         c.breaks.ensures.broken
         ∙ c.if-breaks.true) }

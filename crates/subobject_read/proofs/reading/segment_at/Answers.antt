@@ -17,7 +17,7 @@ behaviour_at-behaviour-requires c = (omega (arith, fixed_here c.args.form c.args
 pub part16-sid-requires : goal.part16-sid-requires
 part16-sid-requires c =
     let h = c.head_at-h in
-        let room = parts_room c.args.form _ _ _ _ h.ensures.0 c.requires.0 in
+        let room = parts_room c.args.form _ _ _ _ h.ensures.read c.requires.0 in
         let fixed = c.wide-fixed.ensures.same.0 in
         let sid : _ ≡ sid_length c.args.form h.result.s = rw c.wide.ensures.same.0 at c.pick-k.ensures.picked.0 in
         (omega (arith, room, fixed, sid), omega (arith, sid, sid_most c.requires.1 h.result.s))
@@ -25,7 +25,7 @@ part16-sid-requires c =
 pub part40-nai-requires : goal.part40-nai-requires
 part40-nai-requires c =
     let h = c.head_at-h in
-        let room = parts_room c.args.form _ _ _ _ h.ensures.0 c.requires.0 in
+        let room = parts_room c.args.form _ _ _ _ h.ensures.read c.requires.0 in
         let fixed = c.wide-fixed.ensures.same.0 in
         let sid : _ ≡ sid_length c.args.form h.result.s = rw c.wide.ensures.same.0 at c.pick-k.ensures.picked.0 in
         let nai = c.nai_length-n.ensures.length.0 in
@@ -34,7 +34,7 @@ part40-nai-requires c =
 pub overflow_add-at-4 : goal.overflow_add-at-4
 overflow_add-at-4 c =
     let h = c.head_at-h in
-        let room = parts_room c.args.form _ _ _ _ h.ensures.0 c.requires.0 in
+        let room = parts_room c.args.form _ _ _ _ h.ensures.read c.requires.0 in
         let fixed = c.wide-fixed.ensures.same.0 in
         let sid : _ ≡ sid_length c.args.form h.result.s = rw c.wide.ensures.same.0 at
         c.pick-k.ensures.picked.0 in
@@ -43,7 +43,7 @@ overflow_add-at-4 c =
 pub overflow_add-at-5 : goal.overflow_add-at-5
 overflow_add-at-5 c =
     let h = c.head_at-h in
-        let room = parts_room c.args.form _ _ _ _ h.ensures.0 c.requires.0 in
+        let room = parts_room c.args.form _ _ _ _ h.ensures.read c.requires.0 in
         let fixed = c.wide-fixed.ensures.same.0 in
         let sid : _ ≡ sid_length c.args.form h.result.s = rw c.wide.ensures.same.0 at
         c.pick-k.ensures.picked.0 in
@@ -52,7 +52,7 @@ overflow_add-at-5 c =
 pub overflow_add-at-6 : goal.overflow_add-at-6
 overflow_add-at-6 c =
     let h = c.head_at-h in
-        let room = parts_room c.args.form _ _ _ _ h.ensures.0 c.requires.0 in
+        let room = parts_room c.args.form _ _ _ _ h.ensures.read c.requires.0 in
         let fixed = c.wide-fixed.ensures.same.0 in
         let sid : _ ≡ sid_length c.args.form h.result.s = rw c.wide.ensures.same.0 at
         c.pick-k.ensures.picked.0 in
@@ -61,7 +61,7 @@ overflow_add-at-6 c =
 pub part4-structure-requires : goal.part4-structure-requires
 part4-structure-requires c =
     let h = c.head_at-h in
-        let room = parts_room c.args.form _ _ _ _ h.ensures.0 c.requires.0 in
+        let room = parts_room c.args.form _ _ _ _ h.ensures.read c.requires.0 in
         let fixed = c.wide-fixed.ensures.same.0 in
         let sid : _ ≡ sid_length c.args.form h.result.s = rw c.wide.ensures.same.0 at
         c.pick-k.ensures.picked.0 in
@@ -74,7 +74,7 @@ part4-structure-requires c =
 pub returns : goal.returns
 returns c =
     let h = c.head_at-h in let sid : _ ≡ sid_length c.args.form h.result.s = rw
-        c.wide.ensures.same.0 at c.pick-k.ensures.picked.0 in record { segment = segment_made c.args.form _ _ _ h.result _ _ _ _ _ _ _ _ _ h.ensures.0
+        c.wide.ensures.same.0 at c.pick-k.ensures.picked.0 in record { segment = segment_made c.args.form _ _ _ h.result _ _ _ _ _ _ _ _ _ h.ensures.read
         c.structured-there.ensures.structured c.wide-fixed.ensures.same.0 sid c.nai_length-n.ensures.length.0
         c.pick.ensures.picked.0 c.behaviour_at-behaviour.ensures.behaviour
         c.part16-sid.ensures.part c.part40-nai.ensures.part
