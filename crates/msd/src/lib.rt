@@ -4,6 +4,7 @@
 // Of a repeated type the smallest value is used. H.Encaps (44) and Segments Left (41) bind the head end, End Pop (42) and
 // End D (45) don't (document 02, C-11; document 001, section 4).
 #![tactic(auto)]
+
 ghost use Rattle.std.specs.Prelude.{min, ◌≡◌, false};
 ghost use Rattle.msd.specs.Msd.{pairs_in, wrong_pairs, gathered_of};
 ghost use Rattle.msd.specs.Stands.{Stands};

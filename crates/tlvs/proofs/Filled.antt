@@ -1,5 +1,5 @@
 -- The TLVs of an octet string are whole exactly if TLVs fill it, and are these; only the last one's padding may be missing or cut. Assumes nothing.
-use Prim.Native.Nat.{ℕ, zero, suc, ◌+◌, ◌-◌, ◌≤◌, ◌<◌}
+use Prim.Native.Nat.{ℕ, zero, suc, ◌+◌, ◌≤◌, ◌<◌}
 use native.Mathlib.Omega.{arith}
 use mathlib.Core.Path.{◌≡◌, refl}
 use mathlib.Core.Bool.{Bool, true, false, false≢true}
@@ -9,7 +9,7 @@ use lib.ListN.{length, length-drop, drop_of_length-le}
 use borrow.Author.Tests.{eq-eqb, ne_eqb, eqb-true, eqb-false, leb-false}
 use Rattle.octets.specs.Octets.{pad4}
 use Rattle.octets.proofs.Said.{both_true}
-use Rattle.tlvs.specs.Tlvs.{Tlvs, tlvs_end, tlv, tlv_head, tlv_length, tlv_behind, tlv_fits, tlv_turn, tlvs_in, tlvs_of, tlvs_whole}
+use Rattle.tlvs.specs.Tlvs.{Tlvs, tlvs_end, tlvs_cut, tlv, tlv_head, tlv_length, tlv_behind, tlv_fits, tlv_turn, tlvs_in, tlvs_of, tlvs_whole}
 use Rattle.tlvs.specs.Filled.{Filled, none_left, one_more}
 
 -- Behind a TLV there is less than there was.
@@ -34,12 +34,13 @@ module _ (short : Bool) where
   unfolding tlvs_in
   filled s ts f zero h = absurd (omega arith)
   filled s tlvs_end (none_left e) (suc n) h = rw (eq-eqb (length s) 0 e)
+  filled s tlvs_cut f (suc n) h = elim f [ ]
   filled s (tlv k v rest) (one_more e d f) (suc n) h =
       rw (ne_eqb (length s) 0 e, d, filled (tlv_behind s) rest f n (omega (arith, less s e)))
 
-  filled_whole : (s : List ℕ) (ts : Tlvs) → Filled short s ts → tlvs_whole ts ≡ true
-  filled_whole s tlvs_end (none_left e) = refl
-  filled_whole s (tlv k v rest) (one_more e d f) = filled_whole (tlv_behind s) rest f
+  filled_whole : {s : List ℕ} {ts : Tlvs} → Filled short s ts → tlvs_whole ts ≡ true
+  filled_whole (none_left e) = refl
+  filled_whole (one_more e d f) = filled_whole f
 
   -- TLVs that are whole fill the octets,
   pub whole_filled : (s : List ℕ) → tlvs_whole (tlvs_of s short) ≡ true → Filled short s (tlvs_of s short)
@@ -49,7 +50,7 @@ module _ (short : Bool) where
   -- and TLVs that fill the octets are theirs, and whole.
   pub filled_are : (s : List ℕ) (ts : Tlvs) → Filled short s ts → (tlvs_of s short ≡ ts) × (tlvs_whole ts ≡ true)
   unfolding tlvs_of
-  filled_are s ts f = (filled s ts f (suc (length s)) (omega arith), filled_whole s ts f)
+  filled_are s ts f = (filled s ts f (suc (length s)) (omega arith), filled_whole f)
 
 -- "Only the padding of the last sub-TLV may be missing or cut": behind one that fits only so there is nothing.
 pub only_the_last : (s : List ℕ) → tlv_fits s true ≡ true → tlv_fits s false ≡ false → tlv_behind s ≡ []

@@ -4,6 +4,7 @@
 // A sub-TLV is laid out as a TLV is; only the padding of the last sub-TLV may be missing or cut.
 // What is too short for that is no TLV: Broken.
 #![tactic(auto)]
+
 mod span;
 
 ghost use Rattle.std.specs.Prelude.{◌≡◌, cond, ◌≤◌, ◌<◌, length};

@@ -1,6 +1,7 @@
 // The words of a line. Words are separated by one octet (a space, or a comma inside a structure), so a
 // line has one word more than separators; two of them side by side have an empty word between them.
 #![tactic(auto)]
+
 ghost use Rattle.std.specs.Prelude.{◌≡◌, ◌+◌, ◌≤◌, length, drop};
 ghost use Rattle.words.specs.Words.{word_of, words_in, until_mark};
 

@@ -1,10 +1,7 @@
-use Rattle.words.proofs.Laws.{words_hit, words_miss, words_end}
 use Rattle.words.specs.Words.{words_in}
-use mathlib.Core.Logic.{⊎_elim}
 use lib.ListN.{length, drop}
 use Prim.Native.Nat.{◌+◌, ◌-◌, ◌≤◌}
-use mathlib.Core.Path.{◌≡◌, refl}
-use native.Mathlib.Omega.{arith}
+use mathlib.Core.Path.{◌≡◌}
 use Rattle.words.proofs.count.Given as goal
 
 abbrev pub invariant-loop-i : goal.invariant-loop-i

@@ -1,8 +1,5 @@
 use Rattle.words.proofs.Laws.{until_hit, until_miss, until_end}
-use Rattle.words.specs.Words.{until_mark}
-use lib.ListN.{length, drop}
-use Prim.Native.Nat.{◌+◌, ◌-◌, ◌≤◌}
-use mathlib.Core.Path.{◌≡◌, refl, sym, ◌∙◌}
+use mathlib.Core.Path.{refl, sym, ◌∙◌}
 use native.Mathlib.Omega.{arith}
 use borrow.Author.Rules.{rules}
 use Rattle.words.proofs.mark_from.Goals as goal
@@ -12,35 +9,38 @@ loop-i-init c = (search rules, search rules, refl)
 
 pub returns-then-line-i : goal.returns-then-line-i
 returns-then-line-i c =
-    record { end = (
-      sym
-          (c.loop-i.invariant.2
-          ∙ rw
-          (until_hit _ c.args.line.now c.loop-i.i
-          c.loop-i-test.true c.if-line-i.true) (omega arith)),
-      search rules,
-      search rules,
-    ) }
+    record {
+      end = (
+        sym
+            (c.loop-i.invariant.2
+            ∙ rw
+            (until_hit _ c.args.line.now c.loop-i.i
+            c.loop-i-test.true c.if-line-i.true) (omega arith)),
+        search rules,
+        search rules,
+      );
+    }
 
 pub loop-i-preserved : goal.loop-i-preserved
-loop-i-preserved c =
-    (
-      search rules,
-      search rules,
-      c.loop-i.invariant.2
-          ∙ rw
-          (until_miss _ c.args.line.now c.loop-i.i
-          c.loop-i-test.true c.if-line-i.false) (omega arith),
-    )
+loop-i-preserved c = (
+  search rules,
+  search rules,
+  c.loop-i.invariant.2
+      ∙ rw
+      (until_miss _ c.args.line.now c.loop-i.i
+      c.loop-i-test.true c.if-line-i.false) (omega arith),
+)
 
 pub returns : goal.returns
 returns c =
-    record { end = (
-      sym
-          (c.loop-i.invariant.2
-          ∙ rw
-          (until_end c.args.mark c.args.line.now c.loop-i.i
-          c.loop-i-test.false) (omega arith)),
-      search rules,
-      search rules,
-    ) }
+    record {
+      end = (
+        sym
+            (c.loop-i.invariant.2
+            ∙ rw
+            (until_end c.args.mark c.args.line.now c.loop-i.i
+            c.loop-i-test.false) (omega arith)),
+        search rules,
+        search rules,
+      );
+    }

@@ -1,9 +1,7 @@
-use Rattle.words.proofs.Laws.{until_hit, until_miss, until_end}
 use Rattle.words.specs.Words.{until_mark}
 use lib.ListN.{length, drop}
 use Prim.Native.Nat.{◌+◌, ◌-◌, ◌≤◌}
-use mathlib.Core.Path.{◌≡◌, refl, sym, ◌∙◌}
-use native.Mathlib.Omega.{arith}
+use mathlib.Core.Path.{◌≡◌}
 use Rattle.words.proofs.mark_from.Given as goal
 
 abbrev pub invariant-loop-i : goal.invariant-loop-i

@@ -1,13 +1,10 @@
 -- A walk from word to word: `k` words are still to be passed, and the word asked for is word `k` of what lies behind `from` (`word_next`); at the
 -- line's end there is none (`word_past`), and at `k` = 0 it is what lies before the next mark (`word_last`).
-use lib.Seq.{take-nil}
-use lib.ListN.{length, drop, length-take, length-drop, drop_of_length-le}
-use Rattle.words.proofs.Laws.{word_next, word_past, word_last}
+use lib.ListN.{length, drop}
 use Rattle.words.specs.Words.{word_of}
 use lib.ListN.{length, drop}
-use Prim.Native.Nat.{◌-◌, ◌≤◌}
-use mathlib.Core.Path.{◌≡◌, refl, sym, ◌∙◌}
-use native.Mathlib.Omega.{arith}
+use Prim.Native.Nat.{◌≤◌}
+use mathlib.Core.Path.{◌≡◌}
 use Rattle.words.proofs.word.Given as goal
 
 abbrev pub invariant-loop-k : goal.invariant-loop-k

@@ -61,13 +61,13 @@ returns-then-pairs c =
         (simp (
           ← c.octet-flags.ensures.octet.0,
           ne_eqb _ _ c.if-flags-eq1.false,
-          rw rest_lent at (sym c.gather-pairs.ensures.1.0 ∙ c.if-pairs.true),
+          rw rest_lent at (sym c.gather-pairs.ensures.wrong ∙ c.if-pairs.true),
         )) }
 
 pub returns : goal.returns
 unfolding sized_of
 returns c =
-    let args = c.args in let gathered = c.gather-pairs.ensures in record { announced = announced_pairs args.p args.w.now _ _ _ _ _ c.octet-flags.ensures.octet.0
+    let args = c.args in let gathered = (c.gather-pairs.ensures.gathered, c.gather-pairs.ensures.wrong, c.gather-pairs.ensures.stands) in record { announced = announced_pairs args.p args.w.now _ _ _ _ _ c.octet-flags.ensures.octet.0
         (sym c.both.ensures.both ∙ c.if-not-both.false) (ne_eqb _ _ c.if-flags-eq1.false)
         (rw rest_lent at (sym gathered.1.0 ∙ c.if-pairs.false)) (a-told c) (r-told c) (rw rest_lent at gathered.0)
         (rw rest_lent at (gathered.1.1 c.if-pairs.false)) c.limit.ensures.limit c.carried-2.ensures.accepted }

@@ -18,17 +18,17 @@ of-use : (c : goal.Else-not-usable) → usable_positions c.args.p ≡ true
 of-use c = sym c.usable.ensures.usable ∙ c.if-not-usable.false
 
 good : (c : goal.Else-not-is_framed) → framed c.args.s.now ≡ true
-good c = sym c.is_framed.ensures.0 ∙ c.if-not-is_framed.false
+good c = sym c.is_framed.ensures.framed ∙ c.if-not-is_framed.false
 
 -- where the walks have been made
 walked : (c : goal.After-walk)
     → (let s = c.args.s.now in sight_of s c.walk.result ≡ open_walk (drop tlvs_at s) false srv6_capability)
-walked c = rw (part_rest c.args.s.now tlvs_at) at c.walk.ensures.0
+walked c = rw (part_rest c.args.s.now tlvs_at) at c.walk.ensures.found
 
 walked-again : (c : goal.After-walk-in-Values)
     → (let s = c.args.s.now in
     sight_of s c.walk-in-Values.result ≡ open_walk (drop tlvs_at s) false mpls_capability)
-walked-again c = rw (part_rest c.args.s.now tlvs_at) at c.walk-in-Values.ensures.0
+walked-again c = rw (part_rest c.args.s.now tlvs_at) at c.walk-in-Values.ensures.found
 
 pub returns-then-not-usable : goal.returns-then-not-usable
 returns-then-not-usable c = record { read = c.refused_open.ensures.refused ∙ unusable _ _ (sym c.usable.ensures.usable ∙ c.if-not-usable.true) }
@@ -36,16 +36,16 @@ returns-then-not-usable c = record { read = c.refused_open.ensures.refused ∙ u
 pub returns-then-not-is_framed : goal.returns-then-not-is_framed
 returns-then-not-is_framed c =
     record { read = c.refused_open-then-not-is_framed.ensures.refused
-        ∙ unframed _ _ (of-use c) (sym c.is_framed.ensures.0 ∙ c.if-not-is_framed.true) }
+        ∙ unframed _ _ (of-use c) (sym c.is_framed.ensures.framed ∙ c.if-not-is_framed.true) }
 
 pub walk-requires : goal.walk-requires
-walk-requires c = let h = long_framed _ (good c) in omega (arith, c.is_framed.ensures.1 (c.if-not-is_framed.false))
+walk-requires c = let h = long_framed _ (good c) in omega (arith, c.is_framed.ensures.short (c.if-not-is_framed.false))
 
 pub srv6_by-srv6-requires : goal.srv6_by-srv6-requires
-srv6_by-srv6-requires c = rw c.in-Values.is at c.walk.ensures.1
+srv6_by-srv6-requires c = rw c.in-Values.is at c.walk.ensures.within
 
 pub listed-requires : goal.listed-requires
-listed-requires c = let f = rw c.in-Values.is at c.walk.ensures.1 in f.0
+listed-requires c = let f = rw c.in-Values.is at c.walk.ensures.within in f.0
 
 pub returns-then-not-listed : goal.returns-then-not-listed
 returns-then-not-listed c =
@@ -53,10 +53,10 @@ returns-then-not-listed c =
         ∙ alone _ _ (of-use c) (good c) (rw c.in-Values.is at (walked c)) (sym c.listed.ensures.listed ∙ c.if-not-listed.true) }
 
 pub walk-requires-in-Values : goal.walk-requires-in-Values
-walk-requires-in-Values c = let h = long_framed _ (good c) in omega (arith, c.is_framed.ensures.1 (c.if-not-is_framed.false))
+walk-requires-in-Values c = let h = long_framed _ (good c) in omega (arith, c.is_framed.ensures.short (c.if-not-is_framed.false))
 
 pub mpls_by-requires : goal.mpls_by-requires
-mpls_by-requires c = let f = rw c.in-Values-walk.is at c.walk-in-Values.ensures.1 in f.1
+mpls_by-requires c = let f = rw c.in-Values-walk.is at c.walk-in-Values.ensures.within in f.1
 
 pub returns-in-Cut : goal.returns-in-Cut
 returns-in-Cut c = record { read = c.refused_open-in-Cut.ensures.refused ∙ cut_first _ _ (of-use c) (good c) (rw c.in-Cut.is at (walked c)) }
