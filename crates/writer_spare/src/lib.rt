@@ -1,5 +1,6 @@
 // The octets that a segment keeps for a part that is absent or shorter (document 01, "Writing a route"): they are 0.
 #![tactic(auto)]
+
 mod spare;
 
 pub use spare::{rest_tidy, sid_blank, sid_tidy};

@@ -7,7 +7,7 @@ use Rattle.border_writing.proofs.begin.Goals as goal
 
 pub returns : goal.returns
 returns c =
-    let e = c.begin-w.ensures in
+    let e = (c.begin-w.ensures.answer, c.begin-w.ensures.buffer) in
         let args = c.args in
         let b = args.buffer.now in
         let kind = is_yes args.ero in

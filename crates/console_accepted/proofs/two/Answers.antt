@@ -6,8 +6,8 @@ use Rattle.console_accepted.proofs.two.Goals as goal
 pub returns : goal.returns
 returns c =
     record { told = (then c.push-at.ensures.behind
-              (then c.field-at.ensures.0
-              (then c.field-at-2.ensures.0
+              (then c.field-at.ensures.behind
+              (then c.field-at-2.ensures.behind
               c.push.ensures.behind))); within = omega (
             arith,
             c.push-at.ensures.behind.ends,

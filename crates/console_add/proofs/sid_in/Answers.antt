@@ -13,4 +13,4 @@ unfolding part_of part sid_in
 returns c =
     record { sid = c.part16.ensures.part
           ∙ ap (λ (x : List ℕ). over x (replicate 16 0))
-          (spelled _ _ c.octets_at-n.ensures.0); room = c.octets_at-n.ensures.1.1 }
+          (spelled _ _ c.octets_at-n.ensures.octets); room = c.octets_at-n.ensures.room }

@@ -24,9 +24,9 @@ octets_field-requires c = simp length-take (omega (arith, most c))
 
 pub returns : goal.returns
 returns c =
-    record { behind = rw c.nai_length-n.ensures.length.0 at c.octets_field.ensures.0; short = omega (
+    record { behind = rw c.nai_length-n.ensures.length.0 at c.octets_field.ensures.behind; short = omega (
             arith,
-            c.octets_field.ensures.1,
+            c.octets_field.ensures.short,
             length-take c.nai_length-n.result c.args.t4,
             most c,
           ) }

@@ -7,10 +7,10 @@ pub returns-then-o-ne0 : goal.returns-then-o-ne0
 returns-then-o-ne0 c =
     record { told = rw
           (ne_eqb c.args.o.number 0
-          c.if-o-ne0.true) c.open_refusal.ensures.0; within = omega arith }
+          c.if-o-ne0.true) c.open_refusal.ensures.told; within = omega arith }
 
 pub returns : goal.returns
 returns c =
     record { told = rw
           (eq-eqb c.args.o.number 0
-          c.if-o-ne0.false) c.carried.ensures.0; within = omega arith }
+          c.if-o-ne0.false) c.carried.ensures.told; within = omega arith }

@@ -23,9 +23,9 @@ octets_field-requires c = simp length-take (omega (arith, most c, c.requires.0))
 
 pub returns : goal.returns
 returns c =
-    record { behind = rw (c.pick-k.ensures.picked.0, c.wide.ensures.same.0) at c.octets_field.ensures.0; short = omega (
+    record { behind = rw (c.pick-k.ensures.picked.0, c.wide.ensures.same.0) at c.octets_field.ensures.behind; short = omega (
             arith,
-            c.octets_field.ensures.1,
+            c.octets_field.ensures.short,
             length-take c.pick-k.result c.args.t4,
             most c,
           ) }

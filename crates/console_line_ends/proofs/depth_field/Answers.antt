@@ -7,4 +7,4 @@ pub returns-then-d-ge-ABSENT : goal.returns-then-d-ge-ABSENT
 returns-then-d-ge-ABSENT c = record { behind = rw (depth_none _ c.if-d-ge-ABSENT.true) c.push.ensures.behind; short = omega (arith, c.push.ensures.behind.ends) }
 
 pub returns : goal.returns
-returns c = record { behind = rw (depth_octet _ c.if-d-ge-ABSENT.false) c.field.ensures.0; short = omega arith }
+returns c = record { behind = rw (depth_octet _ c.if-d-ge-ABSENT.false) c.field.ensures.behind; short = omega arith }

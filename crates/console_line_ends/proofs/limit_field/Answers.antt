@@ -6,4 +6,4 @@ pub returns-in-Free : goal.returns-in-Free
 returns-in-Free c = record { behind = rw c.in-Free.is c.push.ensures.behind; short = omega (arith, c.push.ensures.behind.ends) }
 
 pub returns-in-Most : goal.returns-in-Most
-returns-in-Most c = record { behind = rw c.in-Most.is c.field.ensures.0; short = omega arith }
+returns-in-Most c = record { behind = rw c.in-Most.is c.field.ensures.behind; short = omega arith }

@@ -5,6 +5,6 @@ use Rattle.console_lines.proofs.refusal.Goals as goal
 
 pub returns : goal.returns
 returns c =
-    record { told = (then c.number-at.ensures.0
-          (then c.field-at.ensures.0
+    record { told = (then c.number-at.ensures.behind
+          (then c.field-at.ensures.behind
           c.push.ensures.behind)); within = omega (arith, c.push.ensures.behind.ends) }

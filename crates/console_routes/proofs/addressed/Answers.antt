@@ -3,4 +3,4 @@ use borrow.Author.Rules.{rules}
 use Rattle.console_routes.proofs.addressed.Goals as goal
 
 pub returns : goal.returns
-returns c = list_laid c.args.memory.now _ _ _ c.requires.0 c.octets_at.ensures.0
+returns c = list_laid c.args.memory.now _ _ _ c.requires.0 c.octets_at.ensures.octets

@@ -7,4 +7,4 @@ use Rattle.console_routes.proofs.heard.Goals as goal
 
 pub returns : goal.returns
 unfolding open_in
-returns c = record { read = c.read_open.ensures.read ∙ ap (open_of c.args.p) (spelled _ _ c.octets_at-n.ensures.0) }
+returns c = record { read = c.read_open.ensures.read ∙ ap (open_of c.args.p) (spelled _ _ c.octets_at-n.ensures.octets) }

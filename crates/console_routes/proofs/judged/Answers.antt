@@ -7,5 +7,5 @@ use Rattle.console_routes.proofs.judged.Goals as goal
 pub returns : goal.returns
 unfolding route_line
 returns c =
-    let a = c.args in let e = judged_told a.ero a.sessions a.c.one (spelled _ _ c.octets_at-n.ensures.0) c.listed-list.ensures.listed
+    let a = c.args in let e = judged_told a.ero a.sessions a.c.one (spelled _ _ c.octets_at-n.ensures.octets) c.listed-list.ensures.listed
         c.judge-v.ensures.judged in record { told = rw (← e) c.counted.ensures.told }

@@ -16,7 +16,7 @@ pub push-end-requires : goal.push-end-requires
 push-end-requires c = omega arith
 
 pub number-end-requires : goal.number-end-requires
-number-end-requires c = let push = c.push-end in omega (arith, push.ensures.ends, push.ensures.room)
+number-end-requires c = let push = c.push-end in omega (arith, push.ensures.behind.ends, push.ensures.behind.room)
 
 pub overflow_add-i : goal.overflow_add-i
 overflow_add-i c = omega arith
@@ -30,13 +30,13 @@ loop-i-preserved c =
         let push = c.push-end in
         let loop = c.loop-i in (
           omega (arith, c.loop-i-test.true),
-          omega (arith, loop.invariant.1, push.ensures.ends, number.ensures.1),
+          omega (arith, loop.invariant.1, push.ensures.behind.ends, number.ensures.short),
           loop.invariant.2,
-          number.ensures.0.room ∙ push.ensures.room ∙ loop.invariant.3,
+          number.ensures.behind.room ∙ push.ensures.behind.room ∙ loop.invariant.3,
           rw
               (← further_more c.args.s.now loop.i _
               c.loop-i-test.true c.wide-x.ensures.same.0)
-              (then loop.invariant.4 (then push.ensures number.ensures.0)),
+              (then loop.invariant.4 (then push.ensures.behind number.ensures.behind)),
         )
 
 pub shape_of-out : goal.shape_of-out

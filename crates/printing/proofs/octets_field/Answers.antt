@@ -4,4 +4,4 @@ use borrow.Author.Rules.{rules}
 use Rattle.printing.proofs.octets_field.Goals as goal
 
 pub returns : goal.returns
-returns c = record { behind = then c.push-end.ensures.behind c.octets.ensures.0; short = omega (arith, c.push-end.ensures.behind.ends) }
+returns c = record { behind = then c.push-end.ensures.behind c.octets.ensures.behind; short = omega (arith, c.push-end.ensures.behind.ends) }

@@ -32,7 +32,7 @@ looking : (c : goal.After-front-front) (size : ℕ) → size ≡ c.front-front.r
     → Looked (start c).args.form (seg (start c)) c.head_of-h.result c.front-front.result c.nai_octets-n.result size
 looking c size e =
     let t = start c in
-    let head = c.head_of-h.ensures.0 in
+    let head = c.head_of-h.ensures.head in
     record {
       sized = rw t.pre.1 mpls_sized;
       readable = readable t;
@@ -67,7 +67,7 @@ pub front-front-requires : goal.front-front-requires
 front-front-requires c = (c.requires.0.sid, (readable c).setup)
 
 pub adding_barred-requires : goal.adding_barred-requires
-adding_barred-requires c = (c.nai_octets-n.ensures.octets.0, rw c.head_of-h.ensures.0 refl)
+adding_barred-requires c = (c.nai_octets-n.ensures.octets.0, rw c.head_of-h.ensures.head refl)
 
 pub returns-then-front-eq0 : goal.returns-then-front-eq0
 returns-then-front-eq0 c = barred_added (looking c _ refl) _ _ c.if-front-eq0.true c.adding_barred.ensures.number c.refuse.ensures.refused

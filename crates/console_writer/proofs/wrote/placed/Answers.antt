@@ -8,10 +8,10 @@ pub returns-then-v-ne0 : goal.returns-then-v-ne0
 unfolding place_line
 returns-then-v-ne0 c =
     let w = c.args.w in record { told = told_refused w.verdict (one_line w.writer.at) c.if-v-ne0.true
-        c.refusal.ensures.0 }
+        c.refusal.ensures.told }
 
 pub returns : goal.returns
 unfolding place_line
 returns c =
     let w = c.args.w in record { told = told_accepted w.verdict (one_line w.writer.at) c.if-v-ne0.false
-        c.one.ensures.0 }
+        c.one.ensures.told }

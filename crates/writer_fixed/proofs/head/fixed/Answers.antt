@@ -8,7 +8,7 @@ pub four-requires : goal.four-requires
 four-requires c = (c.requires.0, c.requires.3, c.requires.4, c.requires.5, omega (arith, fixed_least c.requires.2, c.requires.1))
 
 pub four_more-requires : goal.four_more-requires
-four_more-requires c = omega (arith, fixed_eight c.requires.2 c.if-form.true, c.requires.1, c.four.auto.0)
+four_more-requires c = omega (arith, fixed_eight c.requires.2 c.if-form.true, c.requires.1, c.four.auto.out)
 
 pub returns-then-form : goal.returns-then-form
 returns-then-form c =

@@ -1,5 +1,4 @@
 use Rattle.writer_layout.proofs.Laws.{structure_octets_lem}
-use borrow.Author.Rules.{rules}
 use Rattle.writer_layout.proofs.image.structure.Goals as goal
 
 pub returns : goal.returns

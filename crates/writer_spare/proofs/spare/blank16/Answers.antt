@@ -1,5 +1,4 @@
 use Rattle.writer_spare.proofs.Laws.{blank_sixteen}
-use borrow.Author.Rules.{rules}
 use Rattle.writer_spare.proofs.spare.blank16.Goals as goal
 
 pub returns : goal.returns

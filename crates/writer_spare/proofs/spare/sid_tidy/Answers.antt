@@ -1,7 +1,6 @@
 use mathlib.Core.Path.{refl, ◌∙◌}
 use native.Mathlib.Omega.{arith}
 use Rattle.writer_spare.proofs.Laws.{known_srv6, known_mpls, run_none, run_last, behind}
-use borrow.Author.Rules.{rules}
 use Rattle.writer_spare.proofs.spare.sid_tidy.Goals as goal
 
 pub returns-then-form : goal.returns-then-form

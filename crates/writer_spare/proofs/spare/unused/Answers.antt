@@ -1,6 +1,5 @@
 use mathlib.Core.Path.{◌∙◌}
 use Rattle.writer_spare.proofs.Laws.{run_all}
-use borrow.Author.Rules.{rules}
 use Rattle.writer_spare.proofs.spare.unused.Goals as goal
 
 pub returns : goal.returns
