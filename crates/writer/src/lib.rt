@@ -1,6 +1,7 @@
 // A segment added to a route object in a lent buffer (document 01, "Writing a route"; document 02, C-16), by the form that the state names. A refusal changes no octet
 // and hands the state back as it was. Add refuses by 8, 9, 7, 11, 29, 30 and 16; the place in these answers is 0.
 #![tactic(auto)]
+
 ghost use Rattle.std.specs.Prelude.{◌≡◌};
 ghost use Rattle.forms.specs.Forms.{srv6_form, mpls_form};
 ghost use Rattle.subobject.specs.Segments.{segment_with};

@@ -2,6 +2,7 @@
 // and a length of 2 octets that counts the 4 octets of the header. Begin takes the setup type, which names the form, and refuses by 16, finish by 16 and 5; the
 // place in these answers is 0.
 #![tactic(auto)]
+
 ghost use Rattle.std.specs.Prelude.{◌≡◌};
 ghost use Rattle.forms.specs.Forms.{form_of};
 ghost use Rattle.writer_begin_finish.specs.Ends.{begin_answer, begin_buffer, finish_answer, finish_buffer};

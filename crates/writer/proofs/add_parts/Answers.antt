@@ -3,7 +3,6 @@ use Rattle.forms.specs.declared.Form.{Form}
 use Rattle.forms.proofs.Laws.{form_mpls, form_srv6}
 use Rattle.subobject.specs.Segments.{segment_with}
 use Rattle.writer.specs.Writing.{add_answer_in, add_buffer_in}
-use borrow.Author.Rules.{rules}
 use Rattle.writer.proofs.add_parts.Goals as goal
 
 pub add_mpls-requires : goal.add_mpls-requires

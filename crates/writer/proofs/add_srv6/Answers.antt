@@ -1,108 +1,106 @@
--- What has been found of the segment (`looked`) is what `adding_unlabelled` asks for; the laws over any form then say what is answered and left.
+-- What has been found of the segment (`looking`) is what `adding_unlabelled` asks for; the laws over any form then say what is answered and left.
 use Prim.Native.Nat.{ℕ, ◌+◌}
 use mathlib.Core.Path.{◌≡◌, refl, sym, ◌∙◌, ap}
 use mathlib.Core.Bool.{cond}
-use lib.ListN.{length}
 use native.Mathlib.Omega.{arith}
-use Rattle.forms.specs.Forms.{nai_length}
+use Rattle.forms.specs.declared.Form.{Form}
+use Rattle.forms.specs.Forms.{srv6_form, nai_length}
 use Rattle.forms.proofs.Laws.{srv6_sized}
 use Rattle.subobject.specs.declared.head.Head.{Head}
 use Rattle.subobject.specs.declared.segment.Segment.{Segment}
 use Rattle.subobject.specs.Layout.{structure_size}
-use Rattle.subobject.specs.Segments.{segment_with}
+use Rattle.subobject.specs.Segments.{outline_of, head_of_outline}
+use Rattle.writer_spare.specs.Typed.{Typed}
+use Rattle.writer_front.specs.Front.{front_of}
 use Rattle.writer_layout.specs.Readable.{Readable}
 use Rattle.writer_layout.proofs.Forms.{srv6_readable}
 use Rattle.writer_rules.specs.Looked.{Looked}
-use Rattle.writer_rules.specs.Refusals.{add_number}
-use Rattle.writer_rules.proofs.Laws.{Taken, front_most}
+use Rattle.writer_rules.proofs.Laws.{front_most}
 use Rattle.writer.proofs.Laws.{srv6_unlabelled, barred_added, refused_added, placed_in, end_most, write_asks, accepted_added}
 use borrow.Author.Rules.{rules}
 use Rattle.writer.proofs.add_srv6.Goals as goal
 
-abbrev seg : goal.Start → Segment
-seg c = segment_with c.args.o c.args.sid.now c.args.nai.now c.args.bits.now
+readable : {form : Form} → form ≡ srv6_form → Readable form
+readable e = rw e srv6_readable
 
-readable : (c : goal.Start) → Readable c.args.form
-readable c = rw c.requires.1 srv6_readable
-
-abbrev start : goal.After-front-front → goal.Start
-start c = c
-
-looking : (c : goal.After-front-front) (size : ℕ) → size ≡ c.front-front.result + c.nai_octets-n.result + cond (start c).args.o.structured structure_size 0
-    → Looked (start c).args.form (seg (start c)) c.head_of-h.result c.front-front.result c.nai_octets-n.result size
-looking c size e =
-    let t = start c in
-    let head = c.head_of-h.ensures.head in
+looking : {form : Form} {g : Segment} {h : Head} {x n p : ℕ} → (Typed g) × (form ≡ srv6_form) → h ≡ head_of_outline form (outline_of g)
+    → x ≡ front_of form (outline_of g) g.sid → n ≡ nai_length form h.nt → p ≡ cond g.structured structure_size 0
+    → Looked form g h x n (x + n + p)
+looking {form = form} asked head front nai e =
     record {
-      sized = rw t.pre.1 srv6_sized;
-      readable = readable t;
-      typed = t.pre.0;
+      sized = rw asked.1 srv6_sized;
+      readable = readable asked.1;
+      typed = asked.0;
       head = head;
-      front = c.front-front.ensures.front;
-      nai = c.nai_octets-n.ensures.octets.0 ∙ ap (λ (h : Head). nai_length t.args.form h.nt) head;
-      whole = e;
+      front = front;
+      nai = nai ∙ ap (λ (h : Head). nai_length form h.nt) head;
+      whole = rw e;
     }
 
-looked : (c : goal.After-pick)
-    → Looked (start c).args.form (seg (start c)) c.head_of-h.result
-    c.front-front.result c.nai_octets-n.result
-    (c.front-front.result + c.nai_octets-n.result + c.pick.result)
-looked c = looking c _ (rw c.pick.ensures.picked.0)
-
-abbrev origin : goal.Else-number-ne0 → goal.Start
-origin c = start c
-
-free : (c : goal.Else-number-ne0)
-    → add_number (origin c).args.form (seg (origin c)) (origin c).args.writer.ero (origin c).args.writer.at (length (origin c).args.buf.now) ≡ 0
-free c = sym c.adding_unlabelled-number.ensures.number ∙ c.if-number-ne0.false
-
-taken_in : (c : goal.Else-number-ne0)
-    → Taken (origin c).args.form (length (origin c).args.buf.now) (origin c).args.writer.ero (origin c).args.writer.at (seg (origin c))
-taken_in c = placed_in (looked c) (origin c).args.buf.now (origin c).args.writer (free c)
-
 pub nai_octets-n-requires : goal.nai_octets-n-requires
-nai_octets-n-requires c = (readable c).setup
+nai_octets-n-requires c = (readable c.requires.1).setup
 
 pub front-front-requires : goal.front-front-requires
-front-front-requires c = (c.requires.0.sid, (readable c).setup)
+front-front-requires c = (c.requires.0.sid, (readable c.requires.1).setup)
 
 pub adding_barred-requires : goal.adding_barred-requires
 adding_barred-requires c = (c.nai_octets-n.ensures.octets.0, rw c.head_of-h.ensures.head refl)
 
 pub returns-then-front-eq0 : goal.returns-then-front-eq0
-returns-then-front-eq0 c = barred_added (looking c _ refl) _ _ c.if-front-eq0.true c.adding_barred.ensures.number c.refuse.ensures.refused
+returns-then-front-eq0 c =
+    let k = looking c.requires c.head_of-h.ensures.head c.front-front.ensures.front c.nai_octets-n.ensures.octets.0 refl in
+    let told = barred_added k c.args.buf.now c.args.writer c.if-front-eq0.true c.adding_barred.ensures.number c.refuse.ensures.refused in
+    record { answer = told.0; buffer = told.1 }
 
 pub overflow_add-size : goal.overflow_add-size
-overflow_add-size c = omega (arith, front_most (looking c _ refl).sized _ _ _ c.front-front.ensures.front, c.nai_octets-n.ensures.octets.1)
+overflow_add-size c = omega (arith, front_most (rw c.requires.1 srv6_sized) _ _ _ c.front-front.ensures.front, c.nai_octets-n.ensures.octets.1)
 
 pub overflow_add-size-2 : goal.overflow_add-size-2
-overflow_add-size-2 c = omega (arith, front_most (looked c).sized _ _ _ c.front-front.ensures.front, c.nai_octets-n.ensures.octets.1, c.pick.ensures.picked.1)
+overflow_add-size-2 c =
+    omega (
+      arith,
+      front_most (rw c.requires.1 srv6_sized) _ _ _ c.front-front.ensures.front,
+      c.nai_octets-n.ensures.octets.1,
+      c.pick.ensures.picked.1,
+    )
 
 pub adding_unlabelled-number-requires : goal.adding_unlabelled-number-requires
-adding_unlabelled-number-requires c =
-    let t = start c in
-        (looked c, srv6_unlabelled t.args.o t.args.sid.now c.front-front.result t.pre.1 c.front-front.ensures.front c.if-front-eq0.false)
+adding_unlabelled-number-requires c = (
+  looking c.requires c.head_of-h.ensures.head c.front-front.ensures.front c.nai_octets-n.ensures.octets.0 c.pick.ensures.picked.0,
+  srv6_unlabelled c.args.o c.args.sid.now c.front-front.result c.requires.1 c.front-front.ensures.front c.if-front-eq0.false,
+)
 
 pub returns-then-number-ne0 : goal.returns-then-number-ne0
-returns-then-number-ne0 c = refused_added (looked c) _ _ c.adding_unlabelled-number.ensures.number c.if-number-ne0.true c.refuse-then-number-ne0.ensures.refused
+returns-then-number-ne0 c =
+    let k = looking c.requires c.head_of-h.ensures.head c.front-front.ensures.front c.nai_octets-n.ensures.octets.0 c.pick.ensures.picked.0 in
+    let told = refused_added k c.args.buf.now c.args.writer c.adding_unlabelled-number.ensures.number c.if-number-ne0.true c.refuse-then-number-ne0.ensures.refused in
+    record { answer = told.0; buffer = told.1 }
 
 pub slice_bounds-write-count : goal.slice_bounds-write-count
-slice_bounds-write-count c = let p = (taken_in c).place in omega arith
+slice_bounds-write-count c =
+    let k = looking c.requires c.head_of-h.ensures.head c.front-front.ensures.front c.nai_octets-n.ensures.octets.0 c.pick.ensures.picked.0 in
+    let p = (placed_in k c.args.buf.now c.args.writer (sym c.adding_unlabelled-number.ensures.number ∙ c.if-number-ne0.false)).place in
+    omega arith
 
 pub slice_bounds-write-start : goal.slice_bounds-write-start
-slice_bounds-write-start c = let p = (taken_in c).place in search rules
+slice_bounds-write-start c =
+    let k = looking c.requires c.head_of-h.ensures.head c.front-front.ensures.front c.nai_octets-n.ensures.octets.0 c.pick.ensures.picked.0 in
+    let p = (placed_in k c.args.buf.now c.args.writer (sym c.adding_unlabelled-number.ensures.number ∙ c.if-number-ne0.false)).place in
+    search rules
 
 pub write-requires : goal.write-requires
 write-requires c =
-    let a = (origin c).args in
-        write_asks (looked c) a.buf.now a.writer (free c)
+    let k = looking c.requires c.head_of-h.ensures.head c.front-front.ensures.front c.nai_octets-n.ensures.octets.0 c.pick.ensures.picked.0 in
+    write_asks k c.args.buf.now c.args.writer (sym c.adding_unlabelled-number.ensures.number ∙ c.if-number-ne0.false)
 
 pub overflow_add-at : goal.overflow_add-at
 overflow_add-at c =
-    let a = (origin c).args in
-        omega (arith, end_most (looked c) a.buf.now a.writer (free c))
+    let k = looking c.requires c.head_of-h.ensures.head c.front-front.ensures.front c.nai_octets-n.ensures.octets.0 c.pick.ensures.picked.0 in
+    omega (arith, end_most k c.args.buf.now c.args.writer (sym c.adding_unlabelled-number.ensures.number ∙ c.if-number-ne0.false))
 
 pub returns : goal.returns
 returns c =
-    let a = (origin c).args in
-        accepted_added (looked c) a.buf.now a.writer (free c) c.accept.ensures.accepted c.write.ensures.written
+    let k = looking c.requires c.head_of-h.ensures.head c.front-front.ensures.front c.nai_octets-n.ensures.octets.0 c.pick.ensures.picked.0 in
+    let told = accepted_added k c.args.buf.now c.args.writer (sym c.adding_unlabelled-number.ensures.number ∙ c.if-number-ne0.false)
+    c.accept.ensures.accepted c.write.ensures.written in
+    record { answer = told.0; buffer = told.1 }

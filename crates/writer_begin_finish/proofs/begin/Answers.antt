@@ -6,7 +6,6 @@ use borrow.Author.Tests.{lt-ltb, le-ltb}
 use Rattle.writer_state.specs.Answers.{accepted_as}
 use Rattle.writer_begin_finish.specs.Ends.{begin_number, begin_answer, begin_buffer}
 use Rattle.writer_begin_finish.proofs.Laws.{header_stored}
-use borrow.Author.Rules.{rules}
 use Rattle.writer_begin_finish.proofs.begin.Goals as goal
 
 pub returns-then-buf-lt-HEADER : goal.returns-then-buf-lt-HEADER
@@ -22,6 +21,9 @@ bounds-buf-2 c = simp length-set (omega arith)
 pub returns : goal.returns
 unfolding begin_number begin_answer begin_buffer
 returns c =
-    let a = c.args in record { answer = simp (le-ltb _ _ c.if-buf-lt-HEADER.false)
-              (c.accept.ensures.accepted ∙ ap (λ (f : ℕ). accepted_as (record { ero = a.ero; at = 4; form = f })) c.kept_form.ensures.form); buffer = simp (le-ltb _ _ c.if-buf-lt-HEADER.false)
-              (header_stored a.buf.now a.ero c.pick.result c.pick.ensures.picked.0 c.if-buf-lt-HEADER.false) }
+    let a = c.args in record {
+      answer = simp (le-ltb _ _ c.if-buf-lt-HEADER.false)
+          (c.accept.ensures.accepted ∙ ap (λ (f : ℕ). accepted_as (record { ero = a.ero; at = 4; form = f })) c.kept_form.ensures.form);
+      buffer = simp (le-ltb _ _ c.if-buf-lt-HEADER.false)
+          (header_stored a.buf.now a.ero c.pick.result c.pick.ensures.picked.0 c.if-buf-lt-HEADER.false);
+    }

@@ -1,5 +1,4 @@
 use Rattle.writer_begin_finish.proofs.Laws.{kept_mpls, kept_srv6}
-use borrow.Author.Rules.{rules}
 use Rattle.writer_begin_finish.proofs.kept_form.Goals as goal
 
 pub returns-then-pst-eq-MPLS_SETUP : goal.returns-then-pst-eq-MPLS_SETUP

@@ -1,7 +1,6 @@
 use mathlib.Core.Path.{sym, ◌∙◌}
 use borrow.Author.Tests.{eq-eqb, ne_eqb}
 use Rattle.writer_rules.specs.Refusals.{finish_number}
-use borrow.Author.Rules.{rules}
 use Rattle.writer_rules.proofs.refusal.finishing.Goals as goal
 
 pub returns-then-misplaced : goal.returns-then-misplaced

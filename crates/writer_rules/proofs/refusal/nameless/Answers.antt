@@ -1,6 +1,5 @@
 use mathlib.Core.Path.{sym, ◌∙◌}
 use Rattle.writer_rules.proofs.Laws.{nameless_nai, nameless_nine, nameless_eight, nameless_not}
-use borrow.Author.Rules.{rules}
 use Rattle.writer_rules.proofs.refusal.nameless.Goals as goal
 
 pub returns-then-n-ne0 : goal.returns-then-n-ne0
