@@ -4,6 +4,7 @@
 // It must have length 4: else 1. X is 0 and so is the depth: 3.
 // With X set the depth is not looked at, and there is no limit.
 #![tactic(auto)]
+
 ghost use Rattle.std.specs.Prelude.{◌≡◌};
 ghost use Rattle.capability_mpls.specs.Mpls.{mpls_announced_of};
 

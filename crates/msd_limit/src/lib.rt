@@ -4,6 +4,7 @@
 // Segments Left (41) with value m permits m + 1. The limit is the smaller of those present; none present, no limit.
 // Where the first segment stays off the header, H.Encaps permits v + 1 instead (document 02, C-15).
 #![tactic(auto)]
+
 ghost use Rattle.std.specs.Prelude.{max, ◌≡◌};
 ghost use Rattle.msd.specs.Msd.{depth_in};
 ghost use Rattle.msd_limit.specs.Limits.{segments_left_permits, limit_by, one_more_by};

@@ -4,6 +4,7 @@
 // carry it. N and the limit are the PCC's. A refused OPEN carries no form; without the form, N is 0 and there is no limit.
 // A and R are agreed if SRv6 is and both ends set them; H.Encaps' v and Segments Left's m are the PCC's (document 02, C-15).
 #![tactic(auto)]
+
 ghost use Rattle.std.specs.Prelude.{◌≡◌};
 ghost use Rattle.session.specs.Sessions.{open_refused, open_carries, without_srv6, with_mpls, carries, carries_mpls, session_of, mpls_session_of, sessions_of, session_under};
 

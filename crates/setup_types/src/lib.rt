@@ -1,5 +1,6 @@
 // TLV 34 holds 3 reserved octets, a count n, n setup types padded to 4, then sub-TLVs (document 01, "The OPEN object").
 #![tactic(auto)]
+
 ghost use Rattle.std.specs.Prelude.{◌≡◌, ◌+◌, ◌≤◌, ◌<◌, length};
 ghost use Rattle.setup_types.specs.SetupTypes.{types_at, has_of, list_size, lists_type};
 

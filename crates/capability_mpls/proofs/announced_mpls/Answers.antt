@@ -1,6 +1,5 @@
 use Rattle.capability_mpls.proofs.Laws.{announced_unsized, announced_free, announced_depthless, announced_depth}
 use mathlib.Core.Path.{◌∙◌}
-use borrow.Author.Rules.{rules}
 use Rattle.capability_mpls.proofs.announced_mpls.Goals as goal
 
 pub returns-then-w-ne-MPLS_SIZE : goal.returns-then-w-ne-MPLS_SIZE
@@ -11,12 +10,16 @@ returns-then-flags-eq1 c = record { announced = c.with_mpls.ensures.accepted ∙
 
 pub returns-then-depth-eq0 : goal.returns-then-depth-eq0
 returns-then-depth-eq0 c =
-    record { announced = c.refused_open-then-depth-eq0.ensures.refused
-        ∙ announced_depthless _ _ c.if-w-ne-MPLS_SIZE.false c.octet-flags.ensures.octet.0 _ c.if-flags-eq1.false c.octet-depth.ensures.octet.0 c.if-depth-eq0.true }
+    record {
+      announced = c.refused_open-then-depth-eq0.ensures.refused
+          ∙ announced_depthless _ _ c.if-w-ne-MPLS_SIZE.false c.octet-flags.ensures.octet.0 _ c.if-flags-eq1.false c.octet-depth.ensures.octet.0 c.if-depth-eq0.true;
+    }
 
 pub returns : goal.returns
 returns c =
-    record { announced = c.with_mpls-2.ensures.accepted
-        ∙ rw c.without_srv6-2.ensures.accepted (
-        announced_depth _ _ c.if-w-ne-MPLS_SIZE.false c.octet-flags.ensures.octet.0 _ c.if-flags-eq1.false c.octet-depth.ensures.octet.0 c.if-depth-eq0.false
-        ) }
+    record {
+      announced = c.with_mpls-2.ensures.accepted
+          ∙ rw c.without_srv6-2.ensures.accepted (
+          announced_depth _ _ c.if-w-ne-MPLS_SIZE.false c.octet-flags.ensures.octet.0 _ c.if-flags-eq1.false c.octet-depth.ensures.octet.0 c.if-depth-eq0.false
+          );
+    }

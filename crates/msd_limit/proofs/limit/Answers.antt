@@ -1,6 +1,5 @@
 use Rattle.msd_limit.proofs.Laws.{by_left, left_smaller, encaps_smaller}
 use mathlib.Core.Path.{◌∙◌}
-use borrow.Author.Rules.{rules}
 use Rattle.msd_limit.proofs.limit.Goals as goal
 
 pub returns-then-v-ge-ABSENT : goal.returns-then-v-ge-ABSENT

@@ -1,5 +1,4 @@
 use Rattle.msd_limit.proofs.Laws.{more_none, more_left, more_encaps}
-use borrow.Author.Rules.{rules}
 use Rattle.msd_limit.proofs.one_more.Goals as goal
 
 pub returns-then-encaps-ge-ABSENT : goal.returns-then-encaps-ge-ABSENT

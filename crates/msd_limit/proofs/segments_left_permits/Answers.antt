@@ -1,5 +1,4 @@
 use Rattle.msd.proofs.Laws.{depth_octet, depth_none}
-use borrow.Author.Rules.{rules}
 use Rattle.msd_limit.proofs.segments_left_permits.Goals as goal
 
 pub returns-then-m-ge-ABSENT : goal.returns-then-m-ge-ABSENT

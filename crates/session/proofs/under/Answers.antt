@@ -1,7 +1,6 @@
 use Rattle.session.proofs.Laws.{under_mpls, under_srv6}
 use borrow.Author.Tests.{eq-eqb, ne_eqb}
 use mathlib.Core.Path.{sym}
-use borrow.Author.Rules.{rules}
 use Rattle.session.proofs.under.Goals as goal
 
 pub returns-then-pst-eq-MPLS_SETUP : goal.returns-then-pst-eq-MPLS_SETUP

@@ -1,8 +1,6 @@
-use Rattle.setup_types.proofs.Laws.{has_end, has_hit, has_miss}
 use Rattle.setup_types.specs.SetupTypes.{has_of}
 use lib.ListN.{length, drop}
-use native.Mathlib.Omega.{arith}
-use mathlib.Core.Path.{◌≡◌, refl, ◌∙◌}
+use mathlib.Core.Path.{◌≡◌}
 use Prim.Native.Nat.{◌-◌, ◌≤◌}
 use Rattle.setup_types.proofs.has.Given as goal
 

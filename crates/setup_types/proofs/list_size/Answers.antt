@@ -1,6 +1,5 @@
 use Rattle.setup_types.specs.SetupTypes.{list_size}
 use native.Mathlib.Omega.{arith}
-use borrow.Author.Rules.{rules}
 use Rattle.setup_types.proofs.list_size.Goals as goal
 
 pub returns : goal.returns

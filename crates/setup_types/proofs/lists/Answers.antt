@@ -2,7 +2,6 @@ use Rattle.setup_types.proofs.Laws.{listed_lent}
 use Rattle.setup_types.specs.SetupTypes.{list_size}
 use native.Mathlib.Omega.{arith}
 use Prim.Native.Nat.{◌+◌, ◌-◌}
-use borrow.Author.Rules.{rules}
 use Rattle.setup_types.proofs.lists.Goals as goal
 
 pub slice_bounds-has-count : goal.slice_bounds-has-count
