@@ -1,6 +1,7 @@
 // What a call answers: a refusal with its number and place, or an acceptance with its counts
 // (document 01, "Numbers answered": every refusal returns its number and place and no other content).
 #![tactic(auto)]
+
 mod number;
 mod verdict;
 

@@ -1,6 +1,7 @@
 // How far the places in use reach. A record whose order is short has its places in use at the start, if they were taken as they were free; then what is
 // behind them is looked at once, and by the rest of rule 17 no more.
 #![tactic(auto)]
+
 ghost use Rattle.std.specs.Prelude.{◌≡◌, true, ◌≤◌};
 ghost use Rattle.board_record.specs.Sizes.{places};
 ghost use Rattle.board_extent.specs.Extent.{EmptyFrom, Reach};

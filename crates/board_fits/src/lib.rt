@@ -1,5 +1,6 @@
 // Whether a path's length fits its form (document 01, "The board": what is proper, with the second form of 02).
 #![tactic(auto)]
+
 ghost use Rattle.std.specs.Prelude.{◌≡◌, cond, not};
 ghost use Rattle.board_fits.specs.Fits.{body_b, turned_of};
 

@@ -1,5 +1,6 @@
 // The order after a change (document 02): the place that holds it is the newest.
 #![tactic(auto)]
+
 mod finding;
 mod moving;
 

@@ -2,6 +2,7 @@
 // come behind those before it, and whether its key is none of theirs, which is seen by buckets of a hash: each key is compared
 // with those before it that have its hash.
 #![tactic(auto)]
+
 mod bucket;
 mod number;
 

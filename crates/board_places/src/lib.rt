@@ -1,6 +1,7 @@
 // What holds of each place by itself, whatever the order says: its length fits its form, and its key is not too large. Only places
 // below m, which those in use do not reach beyond, are looked at. Neither loop has a way out, so that the compiler can take many at a time.
 #![tactic(auto)]
+
 ghost use Rattle.std.specs.Prelude.{◌≡◌, ◌≤◌, cond, not, get_or, leb};
 ghost use Rattle.board_record.specs.Sizes.{places, key_most};
 ghost use Rattle.board_record.specs.Proper.{all_below};

@@ -3,6 +3,7 @@
 // names, and a count of the places that are empty. Versions that rise along the order are distinct, and the last of a group is
 // its largest; that keys are distinct is seen by buckets of a hash: each key is compared with those before it that have its hash.
 #![tactic(auto)]
+
 mod pass;
 
 pub use pass::is_proper;

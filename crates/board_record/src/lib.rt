@@ -1,6 +1,7 @@
 // The table of paths in force (document 01, "The board"): 128 places, all empty at the start; each holds a key,
 // a version and either a path body or the mark of a removal. Bodies lie in 49,152 lent octets, 384 a place.
 #![tactic(auto)]
+
 mod number;
 mod record;
 mod size;

@@ -1,6 +1,7 @@
 // What the order does not name: places that must be empty, and numbers that must be 0, as many of each. Neither loop has a way out, so that the
 // compiler can take many places at a time.
 #![tactic(auto)]
+
 ghost use Rattle.std.specs.Prelude.{◌≡◌, ◌-◌, ◌≤◌, cond, ◌&&◌, get_or, eqb};
 ghost use Rattle.board_record.specs.Sizes.{places};
 ghost use Rattle.board_record.specs.Lists.{count_below};

@@ -1,6 +1,7 @@
 // What a word says as a number: decimal digits and nothing else, 0 to 2^64-1, leading zeros allowed.
 // A structure is four numbers of 0 to 255 joined by commas, or `-` for none (console.md).
 #![tactic(auto)]
+
 ghost use Rattle.std.specs.Prelude.{◌≡◌, ◌%◌, ◌-◌, ◌≤◌, ◌<◌};
 ghost use Rattle.words.specs.Words.{digit_zero, digit_nine};
 ghost use Rattle.decimal.specs.Decimal.{is_none, number_of, is_number, decimal_value, is_at_most, is_structure, structure_of};

@@ -3,6 +3,7 @@
 // Positions count from the high end of the 16 flags: position p is worth 2^(15-p), so N stands at 14 and X at 15.
 // Usable are two different ones of 0 to 13: else 28.
 #![tactic(auto)]
+
 ghost use Rattle.std.specs.Prelude.{◌≡◌};
 ghost use Rattle.flag_positions.specs.Positions.{usable_positions, first_two, flag_at};
 

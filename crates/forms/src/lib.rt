@@ -10,6 +10,7 @@
 //   then       NAI by NT                              NAI by NT
 //   then       SID structure, 8, if T is 1 and S is 0
 #![tactic(auto)]
+
 ghost use Rattle.std.specs.Prelude.{◌≡◌, ◌≤◌};
 ghost use Rattle.forms.specs.Forms.{srv6_form, mpls_form, form_of, flag_in, nai_length, knows};
 

@@ -5,6 +5,7 @@
 // Here it is taken apart: one pass gathers what the rules ask for, and the place of a subobject is found. The rules on the whole, 4, 5, 6 and 14,
 // stand in specs/Frames; the code that answers them is `frame_rules`.
 #![tactic(auto)]
+
 mod gathering;
 mod place;
 

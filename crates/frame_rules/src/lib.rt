@@ -4,6 +4,7 @@
 // a multiple of 4, at least 4, and fits. 5: no subobject. 6: the first subobject whose type differs from the first one's, if any
 // is of the type asked for. 14: none is of that type.
 #![tactic(auto)]
+
 mod judged;
 
 pub use judged::{framed, is_headed};

@@ -1,5 +1,6 @@
 // The label stack entry of an MPLS segment (document 02, C-16): 20 bits of label, 3 of TC, 1 of S, 8 of TTL.
 #![tactic(auto)]
+
 ghost use Rattle.std.specs.Prelude.{◌≡◌, ◌+◌, ◌<◌, length};
 ghost use Rattle.subobject.specs.Rules.{label_at, time_at};
 

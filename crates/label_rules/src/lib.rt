@@ -1,5 +1,6 @@
 // The rules of a label, 29 and 30 (document 02, C-16).
 #![tactic(auto)]
+
 ghost use Rattle.std.specs.Prelude.{◌≡◌};
 ghost use Rattle.subobject.specs.Rules.{rule29, rule30, has_label};
 

@@ -1,5 +1,6 @@
 // Octets of a run as one number: three or four added up, four by their places.
 #![tactic(auto)]
+
 ghost use Rattle.std.specs.Prelude.{◌≡◌, ◌+◌, ◌≤◌, ◌<◌, length};
 ghost use Rattle.octet_sums.specs.Sums.{sum_three, sum_at, four_at};
 

@@ -1,6 +1,7 @@
 // Octets: reading them as numbers, padding, and copying them into a lent buffer.
 // All numbers are big-endian (document 01, "The OPEN object").
 #![tactic(auto)]
+
 mod logic;
 mod put;
 mod take;

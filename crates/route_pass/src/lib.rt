@@ -2,6 +2,7 @@
 // the frame and those of the subobjects are kept, how many segments there are and how many of them are stray. Where something is wrong it settles nothing,
 // and the rules are asked in their order (`frame_rules`, `route_walk`).
 #![tactic(auto)]
+
 mod over_mpls;
 mod over_srv6;
 mod seen;

@@ -2,6 +2,7 @@
 // What is set and ought to be 0 is no broken rule: it is counted.
 // The place in an answer is the octet of the subobject at fault, counted from the object's start; for 29 and 30 it is 0.
 #![tactic(auto)]
+
 mod order;
 mod subobjects;
 

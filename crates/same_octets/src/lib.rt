@@ -1,5 +1,6 @@
 // Whether two runs of octets are the same: an address and one of a list, a word and a name.
 #![tactic(auto)]
+
 ghost use Rattle.std.specs.Prelude.{◌≡◌};
 ghost use Rattle.same_octets.specs.Same.{same_octets};
 

@@ -1,6 +1,7 @@
 // One subobject of a route, for any form (document 01, "The route object"; forms::Form has the layout). In an RRO all 8 bits of the first octet are
 // the type, and V is ignored. Its rules stand in specs/Rules, by number.
 #![tactic(auto)]
+
 mod head;
 mod parts;
 mod segment;

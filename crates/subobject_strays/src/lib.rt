@@ -1,6 +1,7 @@
 // What is set in a subobject that ought to be 0 (document 02, C-18): of its 12 flags those that its form does not assign; the flag octet of its structure;
 // and whether one of the reserved octets, 4 and 5 where the form has them and the structure's three, is not 0.
 #![tactic(auto)]
+
 ghost use Rattle.std.specs.Prelude.{◌≡◌, cond, ◌+◌, ◌≤◌, ◌<◌, length};
 ghost use Rattle.octets.specs.Octets.{be16};
 ghost use Rattle.forms.specs.Forms.{srv6_form};

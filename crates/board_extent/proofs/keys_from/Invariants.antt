@@ -1,8 +1,6 @@
 use Prim.Native.Nat.{◌≤◌, ◌-◌}
-use native.Mathlib.Omega.{arith}
-use borrow.Author.Tests.{eqb-true}
 use Rattle.board_record.specs.Sizes.{places}
-use Rattle.board_extent.proofs.Reached.{Met, met_none, met_more, met_all}
+use Rattle.board_extent.proofs.Reached.{Met}
 use Rattle.board_extent.proofs.keys_from.Given as goal
 
 abbrev pub invariant-loop-i : goal.invariant-loop-i

@@ -1,9 +1,7 @@
-use Prim.Native.Nat.{◌≤◌, ◌-◌}
+use Prim.Native.Nat.{◌-◌}
 use native.Mathlib.Omega.{arith}
 use borrow.Author.Tests.{eqb-true}
-use Rattle.board_record.specs.Sizes.{places}
-use Rattle.board_extent.proofs.Reached.{Met, met_none, met_more, met_all}
-use borrow.Author.Rules.{rules}
+use Rattle.board_extent.proofs.Reached.{met_none, met_more, met_all}
 use Rattle.board_extent.proofs.versions_from.Goals as goal
 
 pub loop-i-init : goal.loop-i-init

@@ -1,6 +1,5 @@
 use mathlib.Core.Path.{sym, ap, ◌∙◌}
 use mathlib.Core.Bool.{Bool, not, cond}
-use borrow.Author.Rules.{rules}
 use Rattle.board_fits.proofs.wrong.Goals as goal
 
 pub returns-then-fits : goal.returns-then-fits

@@ -1,5 +1,4 @@
 use Rattle.octets.proofs.Tests.{tests}
-use borrow.Author.Rules.{rules}
 use Rattle.board_places.proofs.above.Goals as goal
 
 pub returns-then-k-le-KEY_MOST : goal.returns-then-k-le-KEY_MOST

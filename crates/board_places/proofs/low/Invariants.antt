@@ -1,13 +1,10 @@
-use Prim.Native.Nat.{ℕ, ◌≤◌, ◌-◌}
-use native.Mathlib.Omega.{arith}
-use mathlib.Core.Path.{◌≡◌, ◌∙◌}
-use mathlib.Core.Bool.{Bool, not}
+use Prim.Native.Nat.{◌≤◌, ◌-◌}
+use mathlib.Core.Path.{◌≡◌}
+use mathlib.Core.Bool.{not}
 use lib.ListN.{get_or}
 use lib.Dec.{leb}
 use Rattle.board_record.specs.Sizes.{places, key_most}
 use Rattle.board_record.specs.Lists.{count_below}
-use Rattle.board_extent.proofs.Loops.{count_none, count_more, count_small, count_end, none_fails, all_rest}
-use Rattle.board_places.proofs.Reached.{key_none}
 use Rattle.board_places.proofs.low.Given as goal
 
 abbrev pub invariant-loop-i : goal.invariant-loop-i

@@ -1,5 +1,4 @@
 use Rattle.board_unnamed.proofs.Rests.{first_differs, second_differs, both_same}
-use borrow.Author.Rules.{rules}
 use Rattle.board_unnamed.proofs.closed.Goals as goal
 
 pub returns-then-empties-i : goal.returns-then-empties-i

@@ -1,13 +1,11 @@
-use Prim.Native.Nat.{ℕ, ◌+◌, ◌≤◌, ◌-◌}
+use Prim.Native.Nat.{ℕ, ◌+◌, ◌-◌}
 use native.Mathlib.Omega.{arith}
-use mathlib.Core.Path.{◌≡◌, ap, ◌∙◌}
+use mathlib.Core.Path.{ap, ◌∙◌}
 use mathlib.Core.Bool.{Bool}
 use Rattle.board_record.specs.Sizes.{places}
-use Rattle.board_record.specs.Lists.{count_below}
 use Rattle.board_unnamed.specs.Rest.{empty_b}
 use Rattle.board_extent.proofs.Loops.{count_none, count_more, count_small, count_end, count_rest}
 use Rattle.board_unnamed.proofs.Rests.{place_none}
-use borrow.Author.Rules.{rules}
 use Rattle.board_unnamed.proofs.empties.Goals as goal
 
 pub loop-i-init : goal.loop-i-init
@@ -32,7 +30,7 @@ pub overflow_add-none : goal.overflow_add-none
 unfolding empty_b
 overflow_add-none c =
     let inv = c.loop-i.invariant in
-        omega (arith, count_small _ _ _ _ (omega (arith, c.loop-i-test.true, inv.1)) inv.2 c.empty_one-none.ensures.one)
+    omega (arith, count_small _ _ _ _ (omega (arith, c.loop-i-test.true, inv.1)) inv.2 c.empty_one-none.ensures.one)
 
 pub overflow_add-i : goal.overflow_add-i
 overflow_add-i c = omega arith
@@ -52,6 +50,8 @@ overflow_add-result c = omega (arith, c.wide.ensures.same.1)
 
 pub returns : goal.returns
 returns c =
-    let t : ℕ → Bool = empty_b c.args.keys.now c.args.lengths.now c.args.forms.now in record { count = ap (λ (x : ℕ). x + (places - c.args.m))
-        (c.wide.ensures.same.0 ∙ count_end t _ _ _ c.loop-i.invariant.0 c.loop-i-test.false c.loop-i.invariant.2)
-        ∙ count_rest t _ _ c.requires.0 (place_none c.args.keys.now c.args.lengths.now c.args.forms.now _ c.requires.1 c.requires.2 c.requires.3) }
+    let t : ℕ → Bool = empty_b c.args.keys.now c.args.lengths.now c.args.forms.now in record {
+      count = ap (λ (x : ℕ). x + (places - c.args.m))
+          (c.wide.ensures.same.0 ∙ count_end t _ _ _ c.loop-i.invariant.0 c.loop-i-test.false c.loop-i.invariant.2)
+          ∙ count_rest t _ _ c.requires.0 (place_none c.args.keys.now c.args.lengths.now c.args.forms.now _ c.requires.1 c.requires.2 c.requires.3);
+    }

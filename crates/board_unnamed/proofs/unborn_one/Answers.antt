@@ -1,5 +1,4 @@
 use Rattle.octets.proofs.Tests.{tests}
-use borrow.Author.Rules.{rules}
 use Rattle.board_unnamed.proofs.unborn_one.Goals as goal
 
 pub returns-then-v-eq0 : goal.returns-then-v-eq0

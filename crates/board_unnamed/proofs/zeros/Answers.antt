@@ -1,12 +1,7 @@
-use Prim.Native.Nat.{◌≤◌, ◌-◌}
+use Prim.Native.Nat.{◌-◌}
 use native.Mathlib.Omega.{arith}
-use mathlib.Core.Path.{◌≡◌, ◌∙◌}
-use lib.ListN.{get_or}
-use lib.Dec.{eqb}
-use Rattle.board_record.specs.Sizes.{places}
-use Rattle.board_record.specs.Lists.{count_below}
+use mathlib.Core.Path.{◌∙◌}
 use Rattle.board_extent.proofs.Loops.{count_none, count_more, count_small, count_end}
-use borrow.Author.Rules.{rules}
 use Rattle.board_unnamed.proofs.zeros.Goals as goal
 
 pub loop-i-init : goal.loop-i-init

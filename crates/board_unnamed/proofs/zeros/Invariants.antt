@@ -1,11 +1,9 @@
 use Prim.Native.Nat.{◌≤◌, ◌-◌}
-use native.Mathlib.Omega.{arith}
-use mathlib.Core.Path.{◌≡◌, ◌∙◌}
+use mathlib.Core.Path.{◌≡◌}
 use lib.ListN.{get_or}
 use lib.Dec.{eqb}
 use Rattle.board_record.specs.Sizes.{places}
 use Rattle.board_record.specs.Lists.{count_below}
-use Rattle.board_extent.proofs.Loops.{count_none, count_more, count_small, count_end}
 use Rattle.board_unnamed.proofs.zeros.Given as goal
 
 abbrev pub invariant-loop-i : goal.invariant-loop-i

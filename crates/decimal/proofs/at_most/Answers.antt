@@ -1,6 +1,5 @@
 use mathlib.Core.Path.{◌∙◌}
 use Rattle.decimal.specs.Decimal.{number_of, is_at_most}
-use borrow.Author.Rules.{rules}
 use Rattle.decimal.proofs.at_most.Goals as goal
 
 pub returns : goal.returns

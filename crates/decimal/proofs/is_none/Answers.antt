@@ -1,5 +1,4 @@
 use Rattle.decimal.specs.Decimal.{is_none}
-use borrow.Author.Rules.{rules}
 use Rattle.decimal.proofs.is_none.Goals as goal
 
 pub returns : goal.returns

@@ -1,5 +1,4 @@
 use Rattle.decimal.specs.Decimal.{number_of, is_at_most}
-use borrow.Author.Rules.{rules}
 use Rattle.decimal.proofs.is_number.Goals as goal
 
 pub returns : goal.returns

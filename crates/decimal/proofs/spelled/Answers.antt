@@ -1,9 +1,7 @@
-use Rattle.decimal.proofs.Laws.{Reading, digit_is, digit_low, digit_high, some_there, empty_refused, nondigit_refused, overflow_refused, one_more, all_read}
-use lib.ListN.{length}
+use Rattle.decimal.proofs.Laws.{digit_is, digit_low, digit_high, some_there, empty_refused, nondigit_refused, overflow_refused, one_more, all_read}
 use Prim.Native.Nat.{◌-◌}
 use mathlib.Core.Path.{refl}
 use native.Mathlib.Omega.{arith}
-use borrow.Author.Rules.{rules}
 use Rattle.decimal.proofs.spelled.Goals as goal
 
 pub returns-then-word-eq0 : goal.returns-then-word-eq0
@@ -20,9 +18,11 @@ returns-then-c-gt-DIGIT_NINE c = record { number = nondigit_refused c.loop-i.inv
 
 pub returns-then-v-gt-TENTH : goal.returns-then-v-gt-TENTH
 returns-then-v-gt-TENTH c =
-    record { number = overflow_refused c.loop-i.invariant
-        c.loop-i-test.true
-        (digit_is _ c.if-c-lt-DIGIT_ZERO.false c.if-c-gt-DIGIT_NINE.false) (omega arith) }
+    record {
+      number = overflow_refused c.loop-i.invariant
+          c.loop-i-test.true
+          (digit_is _ c.if-c-lt-DIGIT_ZERO.false c.if-c-gt-DIGIT_NINE.false) (omega arith);
+    }
 
 pub overflow_mul-v : goal.overflow_mul-v
 overflow_mul-v c = omega arith
@@ -32,9 +32,11 @@ overflow_sub-d c = omega arith
 
 pub returns-then-v-d : goal.returns-then-v-d
 returns-then-v-d c =
-    record { number = overflow_refused c.loop-i.invariant
-        c.loop-i-test.true
-        (digit_is _ c.if-c-lt-DIGIT_ZERO.false c.if-c-gt-DIGIT_NINE.false) (omega arith) }
+    record {
+      number = overflow_refused c.loop-i.invariant
+          c.loop-i-test.true
+          (digit_is _ c.if-c-lt-DIGIT_ZERO.false c.if-c-gt-DIGIT_NINE.false) (omega arith);
+    }
 
 pub overflow_mul-v-in-loop-i : goal.overflow_mul-v-in-loop-i
 overflow_mul-v-in-loop-i c = omega arith
@@ -51,9 +53,9 @@ loop-i-smaller c = omega arith
 pub loop-i-preserved : goal.loop-i-preserved
 loop-i-preserved c =
     rw c.digit-d.ensures.digit.0
-        (one_more c.loop-i.invariant
-        c.loop-i-test.true
-        (digit_is _ c.if-c-lt-DIGIT_ZERO.false c.if-c-gt-DIGIT_NINE.false) (omega arith))
+    (one_more c.loop-i.invariant
+    c.loop-i-test.true
+    (digit_is _ c.if-c-lt-DIGIT_ZERO.false c.if-c-gt-DIGIT_NINE.false) (omega arith))
 
 pub returns : goal.returns
 returns c = record { number = all_read c.loop-i.invariant c.loop-i-test.false }

@@ -1,5 +1,4 @@
 use Rattle.decimal.specs.Decimal.{structure_of}
-use borrow.Author.Rules.{rules}
 use Rattle.decimal.proofs.structure.Goals as goal
 
 pub returns : goal.returns

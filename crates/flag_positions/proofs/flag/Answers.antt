@@ -1,6 +1,5 @@
 use Rattle.octets.proofs.Tests.{tests}
 use Rattle.flag_positions.specs.Positions.{flag_at}
-use borrow.Author.Rules.{rules}
 use Rattle.flag_positions.proofs.flag.Goals as goal
 
 pub returns-then-p-gt-LOWEST_POSITION : goal.returns-then-p-gt-LOWEST_POSITION

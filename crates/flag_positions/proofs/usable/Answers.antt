@@ -1,6 +1,5 @@
 use Rattle.octets.proofs.Tests.{tests}
 use Rattle.flag_positions.specs.Positions.{usable_positions}
-use borrow.Author.Rules.{rules}
 use Rattle.flag_positions.proofs.usable.Goals as goal
 
 pub returns-then-p-gt-LAST_POSITION : goal.returns-then-p-gt-LAST_POSITION

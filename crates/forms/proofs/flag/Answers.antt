@@ -1,9 +1,5 @@
 use native.Mathlib.Omega.{arith}
 use Rattle.forms.proofs.Laws.{flag_none, flag_some}
-use Rattle.forms.proofs.flag.Reads as reads
-use Rattle.forms.proofs.flag.Lts as lts
-use Rattle.octets.proofs.wide.Reads as wide-reads
-use borrow.Author.Rules.{rules}
 use Rattle.forms.proofs.flag.Goals as goal
 
 -- src/lib.rt:99:9

@@ -1,6 +1,5 @@
 use native.Mathlib.Omega.{arith}
 use Rattle.forms.proofs.Laws.{nai_none, nai_past, nai_shifted}
-use borrow.Author.Rules.{rules}
 use Rattle.forms.proofs.nai_length.Goals as goal
 
 pub returns-then-nt-eq-NO_NAI : goal.returns-then-nt-eq-NO_NAI

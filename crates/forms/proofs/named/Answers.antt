@@ -1,6 +1,5 @@
 use mathlib.Core.Path.{◌∙◌}
 use Rattle.forms.proofs.Laws.{form_mpls, form_srv6}
-use borrow.Author.Rules.{rules}
 use Rattle.forms.proofs.named.Goals as goal
 
 pub returns-then-pst-eq-MPLS_SETUP : goal.returns-then-pst-eq-MPLS_SETUP

@@ -1,5 +1,4 @@
 use Rattle.subobject.specs.Rules.{label_at}
-use borrow.Author.Rules.{rules}
 use Rattle.label_entry.proofs.label_at.Goals as goal
 
 pub returns : goal.returns

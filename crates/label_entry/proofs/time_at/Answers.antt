@@ -1,5 +1,4 @@
 use Rattle.subobject.specs.Rules.{time_at}
-use borrow.Author.Rules.{rules}
 use Rattle.label_entry.proofs.time_at.Goals as goal
 
 pub returns : goal.returns

@@ -1,5 +1,4 @@
 use Rattle.subobject.specs.Rules.{has_label}
-use borrow.Author.Rules.{rules}
 use Rattle.label_rules.proofs.labelled.Goals as goal
 
 pub returns : goal.returns

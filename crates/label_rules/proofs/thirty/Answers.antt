@@ -1,5 +1,4 @@
 use Rattle.subobject.specs.Rules.{rule30}
-use borrow.Author.Rules.{rules}
 use Rattle.label_rules.proofs.thirty.Goals as goal
 
 pub returns : goal.returns

@@ -1,5 +1,4 @@
 use Rattle.subobject.specs.Rules.{rule29}
-use borrow.Author.Rules.{rules}
 use Rattle.label_rules.proofs.twenty_nine.Goals as goal
 
 pub returns : goal.returns

@@ -1,6 +1,5 @@
 use Rattle.octets.specs.Octets.{octet_of}
 use Rattle.octet_sums.specs.Sums.{four_at}
-use borrow.Author.Rules.{rules}
 use Rattle.octet_sums.proofs.four.Goals as goal
 
 pub returns : goal.returns

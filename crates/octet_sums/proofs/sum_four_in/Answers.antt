@@ -2,7 +2,6 @@
 use native.Mathlib.Omega.{arith}
 use Rattle.octets.specs.Octets.{octet_of}
 use Rattle.octet_sums.specs.Sums.{sum_at}
-use borrow.Author.Rules.{rules}
 use Rattle.octet_sums.proofs.sum_four_in.Goals as goal
 
 pub returns : goal.returns

@@ -1,6 +1,5 @@
 use Rattle.octets.specs.Octets.{octet_of}
 use Rattle.octet_sums.specs.Sums.{sum_three}
-use borrow.Author.Rules.{rules}
 use Rattle.octet_sums.proofs.sum_three.Goals as goal
 
 pub returns : goal.returns

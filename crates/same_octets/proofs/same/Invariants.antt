@@ -1,10 +1,8 @@
 -- A walk from the first octet on; the invariant: what is left of both decides (`same_hit`), and they are as long.
-use Rattle.same_octets.proofs.Laws.{same_lengths, same_miss, same_hit, same_end}
 use Rattle.same_octets.specs.Same.{same_octets}
 use lib.ListN.{length, drop}
 use Prim.Native.Nat.{◌-◌, ◌≤◌}
-use mathlib.Core.Path.{◌≡◌, refl, sym, ◌∙◌}
-use native.Mathlib.Omega.{arith}
+use mathlib.Core.Path.{◌≡◌}
 use Rattle.same_octets.proofs.same.Given as goal
 
 abbrev pub invariant-loop-i : goal.invariant-loop-i

@@ -1,6 +1,5 @@
 use native.Mathlib.Omega.{arith}
 use Rattle.subobject_strays.proofs.MaskLaws.{masked_marks}
-use borrow.Author.Rules.{rules}
 use Rattle.subobject_strays.proofs.marked_srv6.Goals as goal
 
 pub returns : goal.returns

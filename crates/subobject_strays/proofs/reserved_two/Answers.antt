@@ -1,10 +1,6 @@
 use native.Mathlib.Omega.{arith}
 use Rattle.forms.proofs.Laws.{fixed_eight}
 use Rattle.subobject_strays.proofs.Laws.{two_there, two_absent}
-use Rattle.subobject_strays.proofs.reserved_two.Reads as reads
-use Rattle.subobject_strays.proofs.reserved_two.Lts as lts
-use Rattle.octets.proofs.read16.Reads as read16-reads
-use borrow.Author.Rules.{rules}
 use Rattle.subobject_strays.proofs.reserved_two.Goals as goal
 
 pub read16-requires : goal.read16-requires

@@ -1,10 +1,5 @@
 use Rattle.subobject_strays.proofs.Laws.{flags_most, flags_are}
 use native.Mathlib.Omega.{arith}
-use Rattle.subobject_strays.proofs.stray_flags.Reads as reads
-use Rattle.subobject_strays.proofs.stray_flags.Lts as lts
-use Rattle.octets.proofs.read16.Reads as read16-reads
-use Rattle.octets.proofs.wide.Reads as wide-reads
-use borrow.Author.Rules.{rules}
 use Rattle.subobject_strays.proofs.stray_flags.Goals as goal
 
 pub overflow_mul-result : goal.overflow_mul-result

@@ -1,7 +1,6 @@
 use native.Mathlib.Omega.{arith}
 use mathlib.Core.Path.{sym, ◌∙◌}
 use Rattle.subobject_strays.proofs.Laws.{unmarked_none, marked_one, ending_one}
-use borrow.Author.Rules.{rules}
 use Rattle.subobject_strays.proofs.stray_of.Goals as goal
 
 pub marked-requires : goal.marked-requires
@@ -18,8 +17,10 @@ returns-then-ending_marked c = let args = c.args in record { one = (ending_one a
 
 pub returns : goal.returns
 returns c =
-    let args = c.args in record { one = (
-          unmarked_none args.form args.h args.s.now args.at c.requires.2.0 (sym c.marked.ensures.marked ∙ c.if-marked.false)
-              (sym c.ending_marked.ensures.marked ∙ c.if-ending_marked.false),
-          omega arith,
-        ) }
+    let args = c.args in record {
+      one = (
+        unmarked_none args.form args.h args.s.now args.at c.requires.2.0 (sym c.marked.ensures.marked ∙ c.if-marked.false)
+            (sym c.ending_marked.ensures.marked ∙ c.if-ending_marked.false),
+        omega arith,
+      );
+    }

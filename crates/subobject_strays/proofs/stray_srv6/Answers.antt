@@ -2,7 +2,6 @@ use native.Mathlib.Omega.{arith}
 use mathlib.Core.Path.{sym, ◌∙◌}
 use Rattle.forms.specs.Forms.{srv6_form}
 use Rattle.subobject_strays.proofs.Laws.{unmarked_none, marked_one, ending_one}
-use borrow.Author.Rules.{rules}
 use Rattle.subobject_strays.proofs.stray_srv6.Goals as goal
 
 pub marked_srv6-requires : goal.marked_srv6-requires
@@ -19,8 +18,10 @@ returns-then-ending_marked c = let args = c.args in record { one = (ending_one s
 
 pub returns : goal.returns
 returns c =
-    let args = c.args in record { one = (
-          unmarked_none srv6_form args.h args.s.now args.at c.requires.1.0
-              (sym c.marked_srv6.ensures.marked ∙ c.if-marked_srv6.false) (sym c.ending_marked.ensures.marked ∙ c.if-ending_marked.false),
-          omega arith,
-        ) }
+    let args = c.args in record {
+      one = (
+        unmarked_none srv6_form args.h args.s.now args.at c.requires.1.0
+            (sym c.marked_srv6.ensures.marked ∙ c.if-marked_srv6.false) (sym c.ending_marked.ensures.marked ∙ c.if-ending_marked.false),
+        omega arith,
+      );
+    }

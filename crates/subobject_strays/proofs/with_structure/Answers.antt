@@ -1,6 +1,5 @@
 use Rattle.octets.specs.Octets.{octet_of}
 use Rattle.subobject_strays.proofs.Laws.{with_made}
-use borrow.Author.Rules.{rules}
 use Rattle.subobject_strays.proofs.with_structure.Goals as goal
 
 pub returns : goal.returns

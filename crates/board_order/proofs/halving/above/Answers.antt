@@ -1,5 +1,4 @@
 use Rattle.board_order.proofs.Halves.{above_none, above_place}
-use borrow.Author.Rules.{rules}
 use Rattle.board_order.proofs.halving.above.Goals as goal
 
 pub returns-then-p-ge-PLACES : goal.returns-then-p-ge-PLACES

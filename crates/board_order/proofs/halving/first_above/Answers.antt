@@ -1,8 +1,7 @@
 use native.Mathlib.Omega.{arith}
 use Prim.Native.Nat.{◌-◌}
 use mathlib.Core.Path.{refl, sym, ◌∙◌}
-use Rattle.board_order.proofs.Halves.{Between, between_all, between_down, between_up, between_done}
-use borrow.Author.Rules.{rules}
+use Rattle.board_order.proofs.Halves.{between_all, between_down, between_up, between_done}
 use Rattle.board_order.proofs.halving.first_above.Goals as goal
 
 pub loop-low-init : goal.loop-low-init
@@ -20,8 +19,8 @@ loop-low-smaller-then-above c = omega (arith, c.loop-low-test.true)
 pub loop-low-preserved-then-above : goal.loop-low-preserved-then-above
 loop-low-preserved-then-above c =
     between_down _ _ _ c.requires.2 _ _ _
-        c.loop-low.invariant c.loop-low-test.true refl
-        (sym c.above.ensures.above ∙ c.if-above.true)
+    c.loop-low.invariant c.loop-low-test.true refl
+    (sym c.above.ensures.above ∙ c.if-above.true)
 
 pub overflow_add-low : goal.overflow_add-low
 overflow_add-low c = omega (arith, c.loop-low.invariant.most, c.loop-low-test.true)
@@ -32,8 +31,8 @@ loop-low-smaller c = omega (arith, c.loop-low-test.true)
 pub loop-low-preserved : goal.loop-low-preserved
 loop-low-preserved c =
     between_up _ _ _ c.requires.2 _ _ _
-        c.loop-low.invariant c.loop-low-test.true refl
-        (sym c.above.ensures.above ∙ c.if-above.false)
+    c.loop-low.invariant c.loop-low-test.true refl
+    (sym c.above.ensures.above ∙ c.if-above.false)
 
 pub returns : goal.returns
 returns c = record { first = between_done _ _ _ _ _ c.loop-low.invariant c.loop-low-test.false }

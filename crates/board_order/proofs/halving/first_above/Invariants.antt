@@ -1,7 +1,5 @@
-use native.Mathlib.Omega.{arith}
 use Prim.Native.Nat.{◌-◌}
-use mathlib.Core.Path.{refl, sym, ◌∙◌}
-use Rattle.board_order.proofs.Halves.{Between, between_all, between_down, between_up, between_done}
+use Rattle.board_order.proofs.Halves.{Between}
 use Rattle.board_order.proofs.halving.first_above.Given as goal
 
 abbrev pub invariant-loop-low : goal.invariant-loop-low

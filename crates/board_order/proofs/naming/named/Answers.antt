@@ -1,7 +1,6 @@
 use mathlib.Core.Path.{sym, ap, ◌∙◌}
 use Rattle.board_record.specs.Order.{named}
 use Rattle.board_order.proofs.Names.{named_none, named_some}
-use borrow.Author.Rules.{rules}
 use Rattle.board_order.proofs.naming.named.Goals as goal
 
 pub returns-then-number-eq0 : goal.returns-then-number-eq0

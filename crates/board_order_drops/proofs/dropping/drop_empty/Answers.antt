@@ -1,14 +1,10 @@
 use Prim.Native.Nat.{ℕ, ◌-◌}
 use native.Mathlib.Omega.{arith}
-use borrow.Author.Tests.{not-true}
 use mathlib.Core.Path.{refl, sym, ap, ◌∙◌}
 use lib.ListN.{get_or}
-use Rattle.board_record.specs.Sizes.{places}
-use Rattle.board_record.specs.Table.{table_of}
 use Rattle.board_record.specs.Order.{named}
 use Rattle.board_order.proofs.Chains.{in_order_is}
-use Rattle.board_order_drops.proofs.Drops.{Sifting, sifting_none, sifting_skip, sifting_keep, Sifted, filling_none, filling_more, filled_order}
-use borrow.Author.Rules.{rules}
+use Rattle.board_order_drops.proofs.Drops.{sifting_none, sifting_skip, sifting_keep, filling_none, filling_more, filled_order}
 use Rattle.board_order_drops.proofs.dropping.drop_empty.Goals as goal
 
 pub returns-then-not-dropped : goal.returns-then-not-dropped
@@ -29,16 +25,16 @@ loop-i-smaller-then-p-ge-PLACES c = omega (arith, c.loop-i-test.true)
 pub loop-i-preserved-then-p-ge-PLACES : goal.loop-i-preserved-then-p-ge-PLACES
 loop-i-preserved-then-p-ge-PLACES c =
     sifting_skip _ _ _ _ _ c.loop-i.invariant c.loop-i-test.true
-        (λ h u.
-        omega (
-          arith,
-          ap named
-              (sym
-              (c.loop-i.invariant.behind c.loop-i.i
-              (omega arith)))
-              ∙ sym c.named-p.ensures.place,
-          c.if-p-ge-PLACES.true,
-        ))
+    (λ h u.
+    omega (
+      arith,
+      ap named
+          (sym
+          (c.loop-i.invariant.behind c.loop-i.i
+          (omega arith)))
+          ∙ sym c.named-p.ensures.place,
+      c.if-p-ge-PLACES.true,
+    ))
 
 pub offset_bounds-keys-p : goal.offset_bounds-keys-p
 offset_bounds-keys-p c = omega (arith, c.if-p-ge-PLACES.false)
@@ -52,21 +48,21 @@ loop-i-smaller-then-keys-p-eq0 c = omega (arith, c.loop-i-test.true)
 pub loop-i-preserved-then-keys-p-eq0 : goal.loop-i-preserved-then-keys-p-eq0
 loop-i-preserved-then-keys-p-eq0 c =
     sifting_skip _ _ _ _ _ c.loop-i.invariant c.loop-i-test.true
-        (λ h u.
-        u
-        (ap (λ (y : ℕ). get_or c.args.keys.now y 0)
-        (ap named (sym (c.loop-i.invariant.behind c.loop-i.i (omega arith)))
-        ∙ sym c.named-p.ensures.place)
-        ∙ c.if-keys-p-eq0.true))
+    (λ h u.
+    u
+    (ap (λ (y : ℕ). get_or c.args.keys.now y 0)
+    (ap named (sym (c.loop-i.invariant.behind c.loop-i.i (omega arith)))
+    ∙ sym c.named-p.ensures.place)
+    ∙ c.if-keys-p-eq0.true))
 
 pub bounds-order-kept : goal.bounds-order-kept
 bounds-order-kept c =
     omega (
-          arith,
-          c.loop-i.invariant.long,
-          c.loop-i.invariant.fewer,
-          c.loop-i-test.true,
-        )
+      arith,
+      c.loop-i.invariant.long,
+      c.loop-i.invariant.fewer,
+      c.loop-i-test.true,
+    )
 
 pub overflow_add-kept : goal.overflow_add-kept
 overflow_add-kept c = omega (arith, c.loop-i.invariant.fewer, c.loop-i-test.true)
@@ -77,9 +73,9 @@ loop-i-smaller c = omega (arith, c.loop-i-test.true)
 pub loop-i-preserved : goal.loop-i-preserved
 loop-i-preserved c =
     sifting_keep _ _ _ _ _ c.loop-i.invariant
-        c.loop-i-test.true
-        c.requires.1 _ _ refl
-        c.named-p.ensures.place c.if-p-ge-PLACES.false c.if-keys-p-eq0.false
+    c.loop-i-test.true
+    c.requires.1 _ _ refl
+    c.named-p.ensures.place c.if-p-ge-PLACES.false c.if-keys-p-eq0.false
 
 pub loop-kept-init : goal.loop-kept-init
 loop-kept-init c = filling_none _ _ _ _ _ c.requires.1 c.loop-i.invariant c.loop-i-test.false

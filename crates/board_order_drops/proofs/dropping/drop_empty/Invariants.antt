@@ -1,14 +1,8 @@
 -- The first loop sifts the order (`Sifting`): a number that names no place, one of an empty place, one that is kept. The second fills it up with 0 (`Filling`).
-use Prim.Native.Nat.{ℕ, ◌-◌}
-use native.Mathlib.Omega.{arith}
-use borrow.Author.Tests.{not-true}
-use mathlib.Core.Path.{refl, sym, ap, ◌∙◌}
-use lib.ListN.{get_or}
+use Prim.Native.Nat.{◌-◌}
 use Rattle.board_record.specs.Sizes.{places}
 use Rattle.board_record.specs.Table.{table_of}
-use Rattle.board_record.specs.Order.{named}
-use Rattle.board_order.proofs.Chains.{in_order_is}
-use Rattle.board_order_drops.proofs.Drops.{Sifting, sifting_none, sifting_skip, sifting_keep, Sifted, filling_none, filling_more, filled_order}
+use Rattle.board_order_drops.proofs.Drops.{Sifting, Sifted}
 use Rattle.board_order_drops.proofs.dropping.drop_empty.Given as goal
 
 abbrev pub invariant-loop-i : goal.invariant-loop-i

@@ -1,5 +1,4 @@
 use Rattle.octets.proofs.Tests.{tests}
-use borrow.Author.Rules.{rules}
 use Rattle.board_order_moves.proofs.finding.if_some.Goals as goal
 
 pub returns-then-n-ne0 : goal.returns-then-n-ne0

@@ -1,5 +1,4 @@
 use Rattle.octets.proofs.Tests.{tests}
-use borrow.Author.Rules.{rules}
 use Rattle.board_order_moves.proofs.finding.larger.Goals as goal
 
 pub returns-then-a-b : goal.returns-then-a-b

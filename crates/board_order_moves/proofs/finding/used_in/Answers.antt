@@ -1,13 +1,7 @@
-use Prim.Native.Nat.{◌≤◌, ◌-◌}
+use Prim.Native.Nat.{◌-◌}
 use native.Mathlib.Omega.{arith}
-use mathlib.Core.Path.{◌≡◌, ◌∙◌}
-use mathlib.Core.Bool.{not}
-use lib.ListN.{length, get_or}
-use lib.Dec.{eqb}
-use Rattle.board_record.specs.Sizes.{places}
-use Rattle.board_order_moves.specs.Shifts.{last_where}
+use mathlib.Core.Path.{◌∙◌}
 use Rattle.board_order_moves.proofs.Lasts.{last_none, last_more, last_end}
-use borrow.Author.Rules.{rules}
 use Rattle.board_order_moves.proofs.finding.used_in.Goals as goal
 
 pub loop-i-init : goal.loop-i-init

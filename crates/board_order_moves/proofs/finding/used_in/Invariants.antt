@@ -1,12 +1,10 @@
 use Prim.Native.Nat.{◌≤◌, ◌-◌}
-use native.Mathlib.Omega.{arith}
-use mathlib.Core.Path.{◌≡◌, ◌∙◌}
+use mathlib.Core.Path.{◌≡◌}
 use mathlib.Core.Bool.{not}
 use lib.ListN.{length, get_or}
 use lib.Dec.{eqb}
 use Rattle.board_record.specs.Sizes.{places}
 use Rattle.board_order_moves.specs.Shifts.{last_where}
-use Rattle.board_order_moves.proofs.Lasts.{last_none, last_more, last_end}
 use Rattle.board_order_moves.proofs.finding.used_in.Given as goal
 
 abbrev pub invariant-loop-i : goal.invariant-loop-i

@@ -1,9 +1,8 @@
-use Prim.Native.Nat.{◌≤◌, ◌-◌}
+use Prim.Native.Nat.{◌-◌}
 use native.Mathlib.Omega.{arith}
 use mathlib.Core.Path.{sym, ◌∙◌}
 use lib.ListN.{length-set}
-use Rattle.board_order_moves.proofs.Moves.{Shifting, shifting_none, shifting_more, shift_done}
-use borrow.Author.Rules.{rules}
+use Rattle.board_order_moves.proofs.Moves.{shifting_none, shifting_more, shift_done}
 use Rattle.board_order_moves.proofs.moving.shift.Goals as goal
 
 pub loop-i-init : goal.loop-i-init
@@ -25,13 +24,12 @@ pub loop-i-smaller : goal.loop-i-smaller
 loop-i-smaller c = omega (arith, c.loop-i-test.true)
 
 pub loop-i-preserved : goal.loop-i-preserved
-loop-i-preserved c =
-    (
-      omega (arith, c.loop-i.invariant.0),
-      omega (arith, c.loop-i-test.true),
-      shifting_more _ _ _ _ c.loop-i.invariant.2 c.loop-i.invariant.0
-          (omega (arith, c.loop-i-test.true, c.requires.2)),
-    )
+loop-i-preserved c = (
+  omega (arith, c.loop-i.invariant.0),
+  omega (arith, c.loop-i-test.true),
+  shifting_more _ _ _ _ c.loop-i.invariant.2 c.loop-i.invariant.0
+      (omega (arith, c.loop-i-test.true, c.requires.2)),
+)
 
 pub bounds-order-to : goal.bounds-order-to
 bounds-order-to c = omega (arith, c.requires.2, c.loop-i.invariant.2.long)

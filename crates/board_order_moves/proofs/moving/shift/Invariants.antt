@@ -1,8 +1,5 @@
 use Prim.Native.Nat.{◌≤◌, ◌-◌}
-use native.Mathlib.Omega.{arith}
-use mathlib.Core.Path.{sym, ◌∙◌}
-use lib.ListN.{length-set}
-use Rattle.board_order_moves.proofs.Moves.{Shifting, shifting_none, shifting_more, shift_done}
+use Rattle.board_order_moves.proofs.Moves.{Shifting}
 use Rattle.board_order_moves.proofs.moving.shift.Given as goal
 
 abbrev pub invariant-loop-i : goal.invariant-loop-i

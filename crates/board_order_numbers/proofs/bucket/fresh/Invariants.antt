@@ -1,7 +1,6 @@
 -- The invariant: the walk of the key's bucket has come to p, and no number from p on has the key (`Walking`). A link and each way out is a law of `Laws`.
-use Rattle.std.proofs.Common.{ℕ, ◌-◌, get_or, sym, ap, ◌∙◌, arith, rules}
+use Rattle.std.proofs.Common.{◌-◌}
 use Rattle.board_order_numbers.specs.Buckets.{along, Walking}
-use Rattle.board_order_numbers.proofs.Laws.{along_at, walk_on, walk_hit, walk_ends}
 use Rattle.board_order_numbers.proofs.bucket.fresh.Given as goal
 
 abbrev pub invariant-loop-p : goal.invariant-loop-p

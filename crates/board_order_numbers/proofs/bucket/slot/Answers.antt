@@ -1,6 +1,5 @@
 use Rattle.board_order_numbers.specs.Buckets.{slot_of}
-use Rattle.std.proofs.Common.{refl, arith, rules}
-use borrow.Author.Rules.{rules}
+use Rattle.std.proofs.Common.{refl, arith}
 use Rattle.board_order_numbers.proofs.bucket.slot.Goals as goal
 
 pub returns : goal.returns

@@ -1,6 +1,4 @@
-use Rattle.std.proofs.Common.{rules}
 use Rattle.board_order_numbers.proofs.Numbers.{not_late, late_bare, late_body, late_above}
-use borrow.Author.Rules.{rules}
 use Rattle.board_order_numbers.proofs.number.late.Goals as goal
 
 pub returns-then-v-last : goal.returns-then-v-last

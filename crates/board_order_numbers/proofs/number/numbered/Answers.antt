@@ -1,6 +1,4 @@
-use Rattle.std.proofs.Common.{rules}
 use Rattle.board_order_numbers.proofs.Numbers.{less_one}
-use borrow.Author.Rules.{rules}
 use Rattle.board_order_numbers.proofs.number.numbered.Goals as goal
 
 pub returns : goal.returns

@@ -1,19 +1,13 @@
 -- The invariant: the numbers of the order so far name places that are sound (`Along`), the buckets of the hash hold all their keys (`Hashed`), the largest versions
 -- met are those so far (`Topped`), and the bound is the larger of the last version and the floor (`Bounded`). Each way out is a law of `Passing` or `Tops`.
 use Prim.Native.Nat.{◌≤◌, ◌-◌}
-use native.Mathlib.Omega.{arith}
-use mathlib.Core.Path.{refl}
-use borrow.Author.Tests.{not-false}
-use lib.ListN.{get_or}
 use Rattle.board_record.specs.Sizes.{places}
 use Rattle.board_record.specs.Table.{table_of}
-use Rattle.octets.proofs.Said.{said_yes}
 use Rattle.board_order_numbers.specs.Buckets.{along}
-use Rattle.board_proper.proofs.Keys.{Hashed, hashed_none, hashed_more}
-use Rattle.board_proper.proofs.Passing.{Along, along_none, along_more, sound_found, key_along, is_new, is_closed, clear_at, end_full, end_short}
-use Rattle.board_proper.proofs.Passing.{stop_floor, stop_version, stop_bodies, stop_low, stop_late, stop_new, stop_last, stop_closed}
-use Rattle.board_proper.proofs.Rising.{Bounded, bounded_none, bounded_more, is_late}
-use Rattle.board_proper.proofs.Tops.{Topped, topped_none, topped_more, end_tops, no_tops}
+use Rattle.board_proper.proofs.Keys.{Hashed}
+use Rattle.board_proper.proofs.Passing.{Along}
+use Rattle.board_proper.proofs.Rising.{Bounded}
+use Rattle.board_proper.proofs.Tops.{Topped}
 use Rattle.board_proper.proofs.pass.is_proper.Given as goal
 
 abbrev pub invariant-loop-i : goal.invariant-loop-i

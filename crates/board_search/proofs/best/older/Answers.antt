@@ -1,6 +1,5 @@
 use Rattle.octets.proofs.Tests.{tests}
 use Rattle.board_search.specs.Best.{better_of, bare}
-use borrow.Author.Rules.{rules}
 use Rattle.board_search.proofs.best.older.Goals as goal
 
 pub returns-then-best-v : goal.returns-then-best-v

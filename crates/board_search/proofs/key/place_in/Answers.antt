@@ -1,7 +1,6 @@
 use native.Mathlib.Omega.{arith}
-use Prim.Native.Nat.{◌≤◌, ◌-◌}
-use Rattle.board_search.proofs.Keys.{passed, none_passed, key_passed, key_found, all_passed}
-use borrow.Author.Rules.{rules}
+use Prim.Native.Nat.{◌-◌}
+use Rattle.board_search.proofs.Keys.{none_passed, key_passed, key_found, all_passed}
 use Rattle.board_search.proofs.key.place_in.Goals as goal
 
 pub loop-i-init : goal.loop-i-init

@@ -1,6 +1,5 @@
-use native.Mathlib.Omega.{arith}
 use Prim.Native.Nat.{◌≤◌, ◌-◌}
-use Rattle.board_search.proofs.Keys.{passed, none_passed, key_passed, key_found, all_passed}
+use Rattle.board_search.proofs.Keys.{passed}
 use Rattle.board_search.proofs.key.place_in.Given as goal
 
 abbrev pub invariant-loop-i : goal.invariant-loop-i

@@ -1,8 +1,7 @@
-use native.Mathlib.Omega.{arith}
 use Prim.Native.Nat.{◌≤◌, ◌-◌}
 use lib.ListN.{get_or}
 use Rattle.board_search.specs.Best.{bare}
-use Rattle.board_search.proofs.Tracks.{Tracks, tracks_none, tracks_more, below, oldest_done}
+use Rattle.board_search.proofs.Tracks.{Tracks}
 use Rattle.board_search.proofs.report.oldest.Given as goal
 
 abbrev pub invariant-loop-i : goal.invariant-loop-i

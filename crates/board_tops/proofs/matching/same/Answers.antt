@@ -1,14 +1,11 @@
-use Prim.Native.Nat.{◌≤◌, ◌-◌}
+use Prim.Native.Nat.{◌-◌}
 use native.Mathlib.Omega.{arith}
 use borrow.Author.Tests.{eq-eqb, ne_eqb}
 use mathlib.Core.Path.{◌≡◌, sym, ap, ◌∙◌}
 use mathlib.Core.Bool.{true}
-use lib.ListN.{get_or}
-use lib.Dec.{eqb}
 use Rattle.board_record.specs.Sizes.{groups}
 use Rattle.board_record.specs.Proper.{all_below}
 use Rattle.board_record.proofs.All.{all_none, all_more, all_fails}
-use borrow.Author.Rules.{rules}
 use Rattle.board_tops.proofs.matching.same.Goals as goal
 
 pub loop-g-init : goal.loop-g-init

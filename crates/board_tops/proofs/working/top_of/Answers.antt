@@ -1,12 +1,6 @@
-use Prim.Native.Nat.{◌≤◌, ◌<◌, ◌-◌}
+use Prim.Native.Nat.{◌-◌}
 use native.Mathlib.Omega.{arith}
-use mathlib.Core.Path.{◌≡◌}
-use lib.ListN.{length}
-use Rattle.board_record.specs.Sizes.{places, group, groups}
-use Rattle.board_record.specs.Lists.{max_below}
-use Rattle.board_record.specs.Tops.{in_group}
 use Rattle.board_tops.proofs.Works.{max_none, max_more, max_end}
-use borrow.Author.Rules.{rules}
 use Rattle.board_tops.proofs.working.top_of.Goals as goal
 
 pub loop-j-init : goal.loop-j-init
@@ -15,7 +9,7 @@ loop-j-init c = (c.requires.0, c.requires.1, omega arith, max_none _)
 pub loop-j-preserved : goal.loop-j-preserved
 loop-j-preserved c =
     let loop = c.loop-j in
-        (loop.invariant.0, loop.invariant.1, omega (arith, c.loop-j-test.true), max_more _ _ _ _ loop.invariant.3 c.larger-top.ensures.larger)
+    (loop.invariant.0, loop.invariant.1, omega (arith, c.loop-j-test.true), max_more _ _ _ _ loop.invariant.3 c.larger-top.ensures.larger)
 
 pub returns : goal.returns
 returns c = let loop = c.loop-j in record { top = max_end _ _ _ _ loop.invariant.2 c.loop-j-test.false loop.invariant.3 }

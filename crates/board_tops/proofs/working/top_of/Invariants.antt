@@ -1,11 +1,9 @@
 use Prim.Native.Nat.{◌≤◌, ◌<◌, ◌-◌}
-use native.Mathlib.Omega.{arith}
 use mathlib.Core.Path.{◌≡◌}
 use lib.ListN.{length}
 use Rattle.board_record.specs.Sizes.{places, group, groups}
 use Rattle.board_record.specs.Lists.{max_below}
 use Rattle.board_record.specs.Tops.{in_group}
-use Rattle.board_tops.proofs.Works.{max_none, max_more, max_end}
 use Rattle.board_tops.proofs.working.top_of.Given as goal
 
 abbrev pub invariant-loop-j : goal.invariant-loop-j

@@ -1,14 +1,11 @@
-use Prim.Native.Nat.{◌≤◌, ◌-◌}
+use Prim.Native.Nat.{◌-◌}
 use native.Mathlib.Omega.{arith}
 use borrow.Author.Tests.{not-true}
-use mathlib.Core.Path.{◌≡◌, sym, ◌∙◌}
-use lib.ListN.{length}
-use Rattle.board_record.specs.Sizes.{places, groups}
+use mathlib.Core.Path.{sym, ◌∙◌}
 use Rattle.board_record.proofs.Tops.{tops_top, tops_are}
-use Rattle.board_tops.proofs.Works.{Worked, worked_none, worked_more, worked_end}
+use Rattle.board_tops.proofs.Works.{worked_none, worked_more, worked_end}
 use mathlib.Core.Path.{ap}
 use mathlib.Core.Bool.{not}
-use borrow.Author.Rules.{rules}
 use Rattle.board_tops.proofs.working.work_out.Goals as goal
 
 pub returns-then-not-dropped : goal.returns-then-not-dropped
@@ -26,8 +23,8 @@ bounds-tops-g c = omega (arith, c.loop-g.invariant.2.long, c.loop-g-test.true)
 pub loop-g-preserved : goal.loop-g-preserved
 loop-g-preserved c =
     let loop = c.loop-g in
-        let l = c.loop-g-test.true in
-        (loop.invariant.0, omega (arith, l), worked_more _ _ _ _ loop.invariant.2 l c.top_of.ensures.top)
+    let l = c.loop-g-test.true in
+    (loop.invariant.0, omega (arith, l), worked_more _ _ _ _ loop.invariant.2 l c.top_of.ensures.top)
 
 pub shape_of-tops : goal.shape_of-tops
 shape_of-tops c = c.loop-g.invariant.2.long ∙ sym c.requires.1

@@ -1,11 +1,8 @@
 use Prim.Native.Nat.{◌≤◌, ◌-◌}
-use native.Mathlib.Omega.{arith}
-use borrow.Author.Tests.{not-true}
-use mathlib.Core.Path.{◌≡◌, sym, ◌∙◌}
+use mathlib.Core.Path.{◌≡◌}
 use lib.ListN.{length}
 use Rattle.board_record.specs.Sizes.{places, groups}
-use Rattle.board_record.proofs.Tops.{tops_top, tops_are}
-use Rattle.board_tops.proofs.Works.{Worked, worked_none, worked_more, worked_end}
+use Rattle.board_tops.proofs.Works.{Worked}
 use Rattle.board_tops.proofs.working.work_out.Given as goal
 
 abbrev pub invariant-loop-g : goal.invariant-loop-g

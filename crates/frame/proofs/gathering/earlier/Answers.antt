@@ -1,5 +1,4 @@
 use borrow.Author.Tests.{eq-eqb, ne_eqb}
-use borrow.Author.Rules.{rules}
 use Rattle.frame.proofs.gathering.earlier.Goals as goal
 
 pub returns-then-had-eq0 : goal.returns-then-had-eq0

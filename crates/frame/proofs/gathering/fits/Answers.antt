@@ -1,5 +1,4 @@
 use Rattle.frame.proofs.Laws.{over_room, no_multiple, long_enough}
-use borrow.Author.Rules.{rules}
 use Rattle.frame.proofs.gathering.fits.Goals as goal
 
 pub returns-then-room-len : goal.returns-then-room-len

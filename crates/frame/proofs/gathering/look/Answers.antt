@@ -1,12 +1,8 @@
-use Prim.Native.Nat.{◌≤◌, ◌-◌, ◌%◌}
+use Prim.Native.Nat.{◌-◌}
 use native.Mathlib.Omega.{arith}
-use mathlib.Core.Path.{◌≡◌}
-use lib.ListN.{length}
-use Rattle.frame.specs.Gathered.{facts_of}
-use Rattle.frame.proofs.Laws.{Looking, look_starts, look_ends, look_cut, look_next, now_fits, seen_count}
+use Rattle.frame.proofs.Laws.{look_starts, look_ends, look_cut, look_next, now_fits, seen_count}
 use mathlib.Core.Path.{ap}
 use mathlib.Core.Bool.{not}
-use borrow.Author.Rules.{rules}
 use Rattle.frame.proofs.gathering.look.Goals as goal
 
 pub loop-at-init : goal.loop-at-init
@@ -23,9 +19,11 @@ overflow_sub-end c = omega arith
 
 pub returns-then-not-fits : goal.returns-then-not-fits
 returns-then-not-fits c =
-    record { facts = look_cut c.loop-at.invariant.4
-        c.loop-at-test.true c.wide-len.ensures.same.0
-        c.fits.ensures.fits (ap not c.if-not-fits.true) }
+    record {
+      facts = look_cut c.loop-at.invariant.4
+          c.loop-at-test.true c.wide-len.ensures.same.0
+          c.fits.ensures.fits (ap not c.if-not-fits.true);
+    }
 
 pub bounds-s-at-in-loop-at : goal.bounds-s-at-in-loop-at
 bounds-s-at-in-loop-at c = omega arith
@@ -42,17 +40,17 @@ loop-at-smaller c = let h = now_fits _ _ _ c.fits.ensures.fits (ap not c.if-not-
 pub loop-at-preserved : goal.loop-at-preserved
 loop-at-preserved c =
     let loop = c.loop-at in
-        let h = now_fits _ _ _ c.fits.ensures.fits (ap not c.if-not-fits.false) in
-        let q = seen_count loop.g c.seen-g.result _ _ _ _ c.seen-g.ensures.seen in (
-          omega (arith, loop.invariant.0),
-          omega (arith, loop.invariant.1),
-          omega (arith, loop.invariant.2),
-          omega (arith, loop.invariant.3),
-          look_next loop.invariant.4 (omega (arith, loop.invariant.0))
-              (omega (arith, loop.invariant.1, c.loop-at-test.true))
-              c.wide-len.ensures.same.0 c.fits.ensures.fits (ap not c.if-not-fits.false)
-              c.wide.ensures.same.0 c.kind.ensures.kind c.seen-g.ensures.seen,
-        )
+    let h = now_fits _ _ _ c.fits.ensures.fits (ap not c.if-not-fits.false) in
+    let q = seen_count loop.g c.seen-g.result _ _ _ _ c.seen-g.ensures.seen in (
+      omega (arith, loop.invariant.0),
+      omega (arith, loop.invariant.1),
+      omega (arith, loop.invariant.2),
+      omega (arith, loop.invariant.3),
+      look_next loop.invariant.4 (omega (arith, loop.invariant.0))
+          (omega (arith, loop.invariant.1, c.loop-at-test.true))
+          c.wide-len.ensures.same.0 c.fits.ensures.fits (ap not c.if-not-fits.false)
+          c.wide.ensures.same.0 c.kind.ensures.kind c.seen-g.ensures.seen,
+    )
 
 pub returns : goal.returns
 returns c = record { facts = look_ends c.loop-at.invariant.4 (omega arith) }

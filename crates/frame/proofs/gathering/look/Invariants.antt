@@ -1,10 +1,9 @@
 -- The invariant `Looking`: what was gathered up to `at`, with what the rest of the frame gives, is what the whole frame gives.
 use Prim.Native.Nat.{◌≤◌, ◌-◌, ◌%◌}
-use native.Mathlib.Omega.{arith}
 use mathlib.Core.Path.{◌≡◌}
 use lib.ListN.{length}
 use Rattle.frame.specs.Gathered.{facts_of}
-use Rattle.frame.proofs.Laws.{Looking, look_starts, look_ends, look_cut, look_next, now_fits, seen_count}
+use Rattle.frame.proofs.Laws.{Looking}
 use Rattle.frame.proofs.gathering.look.Given as goal
 
 abbrev pub invariant-loop-at : goal.invariant-loop-at

@@ -1,6 +1,5 @@
 use borrow.Author.Tests.{eq-eqb, ne_eqb}
 use Rattle.frame.specs.Gathered.{seen_of}
-use borrow.Author.Rules.{rules}
 use Rattle.frame.proofs.gathering.seen.Goals as goal
 
 pub returns-then-k-first : goal.returns-then-k-first

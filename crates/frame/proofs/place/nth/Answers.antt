@@ -1,9 +1,6 @@
-use Prim.Native.Nat.{◌≤◌, ◌-◌}
+use Prim.Native.Nat.{◌-◌}
 use native.Mathlib.Omega.{arith}
-use lib.ListN.{get_or, length}
-use Rattle.frame.specs.Frames.{apart_of}
-use Rattle.frame.proofs.Laws.{Going, going_starts, going_ends, going_room, going_here, going_on}
-use borrow.Author.Rules.{rules}
+use Rattle.frame.proofs.Laws.{going_starts, going_ends, going_room, going_here, going_on}
 use Rattle.frame.proofs.place.nth.Goals as goal
 
 pub loop-at-init : goal.loop-at-init
@@ -30,11 +27,11 @@ loop-at-smaller c = let h = going_room c.loop-at.invariant.1 c.loop-at-test.true
 pub loop-at-preserved : goal.loop-at-preserved
 loop-at-preserved c =
     let loop-inv = c.loop-at.invariant in
-        let h = going_room loop-inv.1 c.loop-at-test.true in (
-          omega (arith, c.wide-at.ensures.same.0),
-          going_on loop-inv.1 (omega (arith, loop-inv.0, c.loop-at-test.true))
-              c.if-left-eq0.false c.wide-at.ensures.same.0,
-        )
+    let h = going_room loop-inv.1 c.loop-at-test.true in (
+      omega (arith, c.wide-at.ensures.same.0),
+      going_on loop-inv.1 (omega (arith, loop-inv.0, c.loop-at-test.true))
+          c.if-left-eq0.false c.wide-at.ensures.same.0,
+    )
 
 pub returns : goal.returns
 returns c = record { place = going_ends c.loop-at.invariant.1 (omega arith) }

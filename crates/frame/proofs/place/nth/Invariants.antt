@@ -1,8 +1,7 @@
 use Prim.Native.Nat.{◌≤◌, ◌-◌}
-use native.Mathlib.Omega.{arith}
 use lib.ListN.{get_or, length}
 use Rattle.frame.specs.Frames.{apart_of}
-use Rattle.frame.proofs.Laws.{Going, going_starts, going_ends, going_room, going_here, going_on}
+use Rattle.frame.proofs.Laws.{Going}
 use Rattle.frame.proofs.place.nth.Given as goal
 
 abbrev pub invariant-loop-at : goal.invariant-loop-at

@@ -1,5 +1,4 @@
 use Rattle.label_run.proofs.Laws.{label_above, label_seven}
-use borrow.Author.Rules.{rules}
 use Rattle.label_run.proofs.alone.label_good.Goals as goal
 
 pub returns-then-read16-ne0 : goal.returns-then-read16-ne0

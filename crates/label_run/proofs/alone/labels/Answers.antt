@@ -1,9 +1,6 @@
-use Prim.Native.Nat.{◌-◌, ◌≤◌}
+use Prim.Native.Nat.{◌-◌}
 use native.Mathlib.Omega.{arith}
-use borrow.Author.Tests.{not-false}
-use Rattle.label_run.specs.Alone.{AloneTo}
 use Rattle.label_run.proofs.Laws.{none_yet, one_more}
-use borrow.Author.Rules.{rules}
 use Rattle.label_run.proofs.alone.labels.Goals as goal
 
 pub overflow_sub-most : goal.overflow_sub-most
@@ -33,7 +30,7 @@ loop-count-smaller c = omega (arith, c.loop-count-test.true)
 pub loop-count-preserved : goal.loop-count-preserved
 loop-count-preserved c =
     let turn = c.loop-count-test.true in
-        (omega (arith, turn), one_more _ _ c.loop-count.invariant.1 (omega (arith, turn)) (c.is_alone.ensures.alone (c.if-not-is_alone.false)))
+    (omega (arith, turn), one_more _ _ c.loop-count.invariant.1 (omega (arith, turn)) (c.is_alone.ensures.alone (c.if-not-is_alone.false)))
 
 pub returns : goal.returns
 returns c = record { labels = c.loop-count.invariant.1 }

@@ -1,8 +1,5 @@
 use Prim.Native.Nat.{◌-◌, ◌≤◌}
-use native.Mathlib.Omega.{arith}
-use borrow.Author.Tests.{not-false}
 use Rattle.label_run.specs.Alone.{AloneTo}
-use Rattle.label_run.proofs.Laws.{none_yet, one_more}
 use Rattle.label_run.proofs.alone.labels.Given as goal
 
 abbrev pub invariant-loop-count : goal.invariant-loop-count

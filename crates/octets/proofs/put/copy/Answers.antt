@@ -4,7 +4,7 @@ use native.Mathlib.Omega.{arith}
 use lib.Seq.{take-length}
 use lib.ListN.{length, length-set}
 use mathlib.Core.Path.{◌≡◌, refl, ◌∙◌}
-use Prim.Native.Nat.{◌-◌, ◌≤◌}
+use Prim.Native.Nat.{◌-◌}
 use borrow.Author.Rules.{rules}
 use Rattle.octets.proofs.put.copy.Goals as goal
 
@@ -23,8 +23,8 @@ loop-i-smaller c = omega arith
 pub loop-i-preserved : goal.loop-i-preserved
 loop-i-preserved c =
     let l = c.loop-i in
-        let a = c.args in
-        (omega arith, length-set l.out _ _ ∙ l.invariant.1, rw l.invariant.2 (copied_more a.out.now a.src.now l.i (omega arith) (omega arith)))
+    let a = c.args in
+    (omega arith, length-set l.out _ _ ∙ l.invariant.1, rw l.invariant.2 (copied_more a.out.now a.src.now l.i (omega arith) (omega arith)))
 
 pub shape_of-out : goal.shape_of-out
 shape_of-out c = c.loop-i.invariant.1

@@ -1,9 +1,6 @@
-use Rattle.octets.specs.Octets.{over}
-use Rattle.octets.proofs.Laws.{copied, copied_more}
-use native.Mathlib.Omega.{arith}
-use lib.Seq.{take-length}
-use lib.ListN.{length, length-set}
-use mathlib.Core.Path.{◌≡◌, refl, ◌∙◌}
+use Rattle.octets.proofs.Laws.{copied}
+use lib.ListN.{length}
+use mathlib.Core.Path.{◌≡◌}
 use Prim.Native.Nat.{◌-◌, ◌≤◌}
 use Rattle.octets.proofs.put.copy.Given as goal
 

@@ -1,5 +1,4 @@
 use Rattle.octets.proofs.Laws.{placed_back}
-use borrow.Author.Rules.{rules}
 use Rattle.octets.proofs.put.lay.Goals as goal
 
 pub returns : goal.returns

@@ -1,5 +1,4 @@
 use Rattle.octets.proofs.Laws.{part_taken}
-use borrow.Author.Rules.{rules}
 use Rattle.octets.proofs.take.part40.Goals as goal
 
 pub returns : goal.returns

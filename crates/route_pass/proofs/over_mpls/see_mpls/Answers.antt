@@ -1,7 +1,6 @@
-use Prim.Native.Nat.{◌≤◌, ◌-◌, ◌+◌, ◌%◌, ◌*◌}
+use Prim.Native.Nat.{◌-◌, ◌+◌, ◌*◌}
 use native.Mathlib.Omega.{arith}
-use borrow.Author.Tests.{not-false}
-use mathlib.Core.Path.{◌≡◌, refl, ◌∙◌, subst}
+use mathlib.Core.Path.{refl, ◌∙◌, subst}
 use lib.ListN.{length}
 use Rattle.forms.specs.declared.Form.{Form}
 use Rattle.forms.specs.Forms.{mpls_form}
@@ -10,7 +9,7 @@ use Rattle.subobject.proofs.Laws.{sound_length}
 use Rattle.frame.proofs.Laws.{headed_sized, fits_made}
 use Rattle.route_pass.specs.Settled.{SettledBy, stray_worth}
 use Rattle.route_pass.proofs.Laws.{fours_of, rules_of, head_of_lem, s_bit}
-use Rattle.route_pass.proofs.Pass.{Gone, gone_on, good_made, settled_by, unsettled}
+use Rattle.route_pass.proofs.Pass.{gone_on, good_made, settled_by, unsettled}
 use Rattle.route_pass.proofs.Labels.{gone_labels}
 use borrow.Author.Rules.{rules}
 use Rattle.route_pass.proofs.over_mpls.see_mpls.Goals as goal
@@ -18,7 +17,7 @@ use Rattle.route_pass.proofs.over_mpls.see_mpls.Goals as goal
 pub labels-count-requires : goal.labels-count-requires
 labels-count-requires c =
     let h = headed_sized _ _ c.requires.0 in
-        (omega (arith, h.low), c.requires.1)
+    (omega (arith, h.low), c.requires.1)
 
 pub overflow_mul-at : goal.overflow_mul-at
 overflow_mul-at c = omega (arith, c.labels-count.ensures.labels.room, c.requires.1)
@@ -29,19 +28,19 @@ overflow_add-at c = omega (arith, c.labels-count.ensures.labels.room, c.requires
 pub loop-at-init : goal.loop-at-init
 loop-at-init c =
     let room = c.labels-count.ensures.labels.room in (
-          omega arith,
-          room,
-          omega arith,
-          omega arith,
-          omega arith,
-          rw c.mpls-form.ensures.form (gone_labels _ _ _ _ c.labels-count.ensures.labels),
-        )
+      omega arith,
+      room,
+      omega arith,
+      omega arith,
+      omega arith,
+      rw c.mpls-form.ensures.form (gone_labels _ _ _ _ c.labels-count.ensures.labels),
+    )
 
 pub head_at-h-requires : goal.head_at-h-requires
 head_at-h-requires c =
     let h = headed_sized _ _ c.requires.0 in
-        let inv = c.loop-at.invariant in
-        omega (arith, h.four, inv.1, inv.2, c.loop-at-test.true)
+    let inv = c.loop-at.invariant in
+    omega (arith, h.four, inv.1, inv.2, c.loop-at-test.true)
 
 pub returns-then-h-kind : goal.returns-then-h-kind
 returns-then-h-kind c = record { settled = unsettled }
@@ -49,12 +48,12 @@ returns-then-h-kind c = record { settled = unsettled }
 pub mpls_head_sound-requires : goal.mpls_head_sound-requires
 mpls_head_sound-requires c =
     let read = c.head_at-h in
-        let sized = headed_sized _ _ c.requires.0 in
-        let inv = c.loop-at.invariant in (
-          omega (arith, sized.four, inv.1, inv.2, c.loop-at-test.true),
-          read.ensures.read ∙ head_of_lem c.mpls-form.ensures.form _ _ _,
-          read.ensures.small.0,
-        )
+    let sized = headed_sized _ _ c.requires.0 in
+    let inv = c.loop-at.invariant in (
+      omega (arith, sized.four, inv.1, inv.2, c.loop-at-test.true),
+      read.ensures.read ∙ head_of_lem c.mpls-form.ensures.form _ _ _,
+      read.ensures.small.0,
+    )
 
 pub returns-then-not-mpls_head_sound : goal.returns-then-not-mpls_head_sound
 returns-then-not-mpls_head_sound c = record { settled = unsettled }
@@ -68,8 +67,8 @@ returns-then-end-at c = record { settled = unsettled }
 pub structure_sound-requires : goal.structure_sound-requires
 structure_sound-requires c =
     let known = c.mpls-form.ensures.form in
-        let rules = rules_of known _ _ _ (c.mpls_head_sound.ensures.sound (c.if-not-mpls_head_sound.false)) in
-        (sound_length _ _ rules.2, omega (arith, c.if-end-at.false, c.loop-at.invariant.1))
+    let rules = rules_of known _ _ _ (c.mpls_head_sound.ensures.sound (c.if-not-mpls_head_sound.false)) in
+    (sound_length _ _ rules.2, omega (arith, c.if-end-at.false, c.loop-at.invariant.1))
 
 pub returns-then-not-structure_sound : goal.returns-then-not-structure_sound
 returns-then-not-structure_sound c = record { settled = unsettled }
@@ -77,11 +76,11 @@ returns-then-not-structure_sound c = record { settled = unsettled }
 pub mpls_label_sound-requires : goal.mpls_label_sound-requires
 mpls_label_sound-requires c =
     let rules = c.mpls_head_sound.ensures.sound (c.if-not-mpls_head_sound.false) in
-        let read = c.head_at-h in (
-          rules.2,
-          s_bit _ _ _ _ _ read.ensures.read,
-          (sound_length _ _ rules.2, omega (arith, c.if-end-at.false, c.loop-at.invariant.1)),
-        )
+    let read = c.head_at-h in (
+      rules.2,
+      s_bit _ _ _ _ _ read.ensures.read,
+      (sound_length _ _ rules.2, omega (arith, c.if-end-at.false, c.loop-at.invariant.1)),
+    )
 
 pub returns-then-not-mpls_label_sound : goal.returns-then-not-mpls_label_sound
 returns-then-not-mpls_label_sound c = record { settled = unsettled }
@@ -89,14 +88,14 @@ returns-then-not-mpls_label_sound c = record { settled = unsettled }
 pub stray_of-stray-requires : goal.stray_of-stray-requires
 stray_of-stray-requires c =
     let known = c.mpls-form.ensures.form in
-        let rules = rules_of known _ _ _ (c.mpls_head_sound.ensures.sound (c.if-not-mpls_head_sound.false)) in
-        let h = c.head_at-h.result in
-        let fours = fours_of mpls_form known h.nt h.s h.t refl (omega arith) refl (mpls_fours h.nt) in
-        let size = sound_length _ _ rules.2 in (
-          rw known (omega (arith, size, fours.1, c.if-end-at.false, c.loop-at.invariant.1)),
-          rw known mpls_sized,
-          (size, omega (arith, c.if-end-at.false, c.loop-at.invariant.1)),
-        )
+    let rules = rules_of known _ _ _ (c.mpls_head_sound.ensures.sound (c.if-not-mpls_head_sound.false)) in
+    let h = c.head_at-h.result in
+    let fours = fours_of mpls_form known h.nt h.s h.t refl (omega arith) refl (mpls_fours h.nt) in
+    let size = sound_length _ _ rules.2 in (
+      rw known (omega (arith, size, fours.1, c.if-end-at.false, c.loop-at.invariant.1)),
+      rw known mpls_sized,
+      (size, omega (arith, c.if-end-at.false, c.loop-at.invariant.1)),
+    )
 
 pub overflow_add-stray : goal.overflow_add-stray
 overflow_add-stray c = omega (arith, c.stray_of-stray.ensures.one.1, c.loop-at.invariant.4, c.loop-at.invariant.3, c.loop-at.invariant.1)
@@ -111,45 +110,47 @@ overflow_add-at-in-loop-at c = omega (arith, c.if-end-at.false, c.loop-at.invari
 pub loop-at-smaller : goal.loop-at-smaller
 loop-at-smaller c =
     let known = c.mpls-form.ensures.form in
-        let rules = rules_of known _ _ _ (c.mpls_head_sound.ensures.sound (c.if-not-mpls_head_sound.false)) in
-        let h = c.head_at-h.result in
-        let fours = fours_of mpls_form known h.nt h.s h.t refl (omega arith) refl (mpls_fours h.nt) in
-        let size = sound_length _ _ rules.2 in
-        omega (arith, size, fours.1, c.if-end-at.false, c.loop-at.invariant.1)
+    let rules = rules_of known _ _ _ (c.mpls_head_sound.ensures.sound (c.if-not-mpls_head_sound.false)) in
+    let h = c.head_at-h.result in
+    let fours = fours_of mpls_form known h.nt h.s h.t refl (omega arith) refl (mpls_fours h.nt) in
+    let size = sound_length _ _ rules.2 in
+    omega (arith, size, fours.1, c.if-end-at.false, c.loop-at.invariant.1)
 
 pub loop-at-preserved : goal.loop-at-preserved
 loop-at-preserved c =
     let inv = c.loop-at.invariant in
-        let known = c.mpls-form.ensures.form in
-        let rules = rules_of known _ _ _ (c.mpls_head_sound.ensures.sound (c.if-not-mpls_head_sound.false)) in
-        let read = c.head_at-h in
-        let h = read.result in
-        let fours = fours_of mpls_form known h.nt h.s h.t refl (omega arith) refl (mpls_fours h.nt) in
-        let size = sound_length _ _ rules.2 in
-        let labels = c.mpls_label_sound.ensures.sound (c.if-not-mpls_label_sound.false) in
-        let good = good_made _ _ _ _ _ _ read.ensures.read (c.if-h-kind.false ∙ c.wide-kind.ensures.same.0) rules.0 rules.1 rules.2 rules.3
-        (c.structure_sound.ensures.sound (c.if-not-structure_sound.false)) (rw known labels.0) (rw known labels.1) in
-        let room-left = length c.args.s.now - c.loop-at.at in
-        let fits = fits_made h.size room-left (omega (arith, size, fours.1)) (omega (arith, size, fours.0)) (omega (arith, c.if-end-at.false, inv.1)) in (
-          omega (arith, inv.0),
-          omega (arith, c.if-end-at.false, inv.1),
-          omega (arith, inv.2, size, fours.0),
-          omega (arith, inv.3, size, fours.1),
-          omega (arith, inv.4, c.stray_of-stray.ensures.one.1),
-          gone_on inv.5 _ _ (omega (arith, inv.1, c.loop-at-test.true)) read.ensures.read fits good c.stray_of-stray.ensures.one.0,
-        )
+    let known = c.mpls-form.ensures.form in
+    let rules = rules_of known _ _ _ (c.mpls_head_sound.ensures.sound (c.if-not-mpls_head_sound.false)) in
+    let read = c.head_at-h in
+    let h = read.result in
+    let fours = fours_of mpls_form known h.nt h.s h.t refl (omega arith) refl (mpls_fours h.nt) in
+    let size = sound_length _ _ rules.2 in
+    let labels = c.mpls_label_sound.ensures.sound (c.if-not-mpls_label_sound.false) in
+    let good = good_made _ _ _ _ _ _ read.ensures.read (c.if-h-kind.false ∙ c.wide-kind.ensures.same.0) rules.0 rules.1 rules.2 rules.3
+    (c.structure_sound.ensures.sound (c.if-not-structure_sound.false)) (rw known labels.0) (rw known labels.1) in
+    let room-left = length c.args.s.now - c.loop-at.at in
+    let fits = fits_made h.size room-left (omega (arith, size, fours.1)) (omega (arith, size, fours.0)) (omega (arith, c.if-end-at.false, inv.1)) in (
+      omega (arith, inv.0),
+      omega (arith, c.if-end-at.false, inv.1),
+      omega (arith, inv.2, size, fours.0),
+      omega (arith, inv.3, size, fours.1),
+      omega (arith, inv.4, c.stray_of-stray.ensures.one.1),
+      gone_on inv.5 _ _ (omega (arith, inv.1, c.loop-at-test.true)) read.ensures.read fits good c.stray_of-stray.ensures.one.0,
+    )
 
 pub overflow_mul-result : goal.overflow_mul-result
 overflow_mul-result c =
     let inv = c.loop-at.invariant in
-        omega (arith, inv.4, inv.3, inv.1, c.requires.1)
+    omega (arith, inv.4, inv.3, inv.1, c.requires.1)
 
 pub overflow_add-result : goal.overflow_add-result
 overflow_add-result c =
     let inv = c.loop-at.invariant in
-        omega (arith, inv.4, inv.3, inv.1, c.requires.1)
+    omega (arith, inv.4, inv.3, inv.1, c.requires.1)
 
 pub returns : goal.returns
 returns c =
-    let inv = c.loop-at.invariant in let x = c.loop-at.count + stray_worth * c.loop-at.stray in record { settled = subst (λ (form : Form). SettledBy form c.args.s.now c.args.ero c.args.n x) c.mpls-form.ensures.form
-        (settled_by _ _ _ _ inv.5 (omega arith) c.requires.0 (omega (arith, inv.3, inv.1, c.requires.1)) inv.4) }
+    let inv = c.loop-at.invariant in let x = c.loop-at.count + stray_worth * c.loop-at.stray in record {
+      settled = subst (λ (form : Form). SettledBy form c.args.s.now c.args.ero c.args.n x) c.mpls-form.ensures.form
+          (settled_by _ _ _ _ inv.5 (omega arith) c.requires.0 (omega (arith, inv.3, inv.1, c.requires.1)) inv.4);
+    }

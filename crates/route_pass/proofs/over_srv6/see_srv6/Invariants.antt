@@ -1,20 +1,9 @@
 -- The invariant `Gone`: the places gone over are of subobjects of the form's type that break no rule, and the frame from `at` on stands behind them. A turn tests one
 -- subobject more; at the object's end all is settled.
-use Prim.Native.Nat.{◌≤◌, ◌-◌, ◌+◌, ◌%◌, ◌*◌}
-use native.Mathlib.Omega.{arith}
-use borrow.Author.Tests.{not-false}
-use mathlib.Core.Path.{◌≡◌, refl, sym, ◌∙◌, ap, subst}
+use Prim.Native.Nat.{◌≤◌, ◌-◌, ◌%◌}
+use mathlib.Core.Path.{◌≡◌}
 use lib.ListN.{length}
-use Rattle.forms.specs.declared.Form.{Form}
-use Rattle.forms.specs.Forms.{srv6_form}
-use Rattle.forms.proofs.Laws.{srv6_fours}
-use Rattle.subobject.specs.Layout.{expected_length}
-use Rattle.subobject_strays.specs.Strays.{stray_one, strays_by}
-use Rattle.subobject.proofs.Laws.{sound_length}
-use Rattle.frame.proofs.Laws.{headed_sized, fits_made}
-use Rattle.route_pass.specs.Settled.{SettledBy, stray_worth}
-use Rattle.route_pass.proofs.Laws.{fours_of}
-use Rattle.route_pass.proofs.Pass.{Gone, gone_starts, gone_on, good_made, settled_by, unsettled}
+use Rattle.route_pass.proofs.Pass.{Gone}
 use Rattle.route_pass.proofs.over_srv6.see_srv6.Given as goal
 
 abbrev pub invariant-loop-at : goal.invariant-loop-at

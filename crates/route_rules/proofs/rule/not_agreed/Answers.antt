@@ -1,5 +1,4 @@
 use Rattle.route_rules.specs.SessionRules.{rule13}
-use borrow.Author.Rules.{rules}
 use Rattle.route_rules.proofs.rule.not_agreed.Goals as goal
 
 pub returns : goal.returns

@@ -1,13 +1,10 @@
 -- Two loops, two invariants: outside `Left`, what is left of the subobjects answers the whole; inside `Checking`, what is left of one's checks does.
 -- Behind the checks the subobject is known to be of its expected length, so its strays are there to be looked at.
 use Prim.Native.Nat.{◌≤◌, ◌-◌}
-use native.Mathlib.Omega.{arith}
-use mathlib.Core.Path.{◌∙◌}
 use lib.ListN.{length}
-use Rattle.subobject.specs.Layout.{expected_length}
 use Rattle.subobject.specs.Rules.{subject_at, rule_count, broken_by}
 use Rattle.route_walk.specs.Walk.{walk_of}
-use Rattle.route_walk.proofs.Laws.{Left, Checking, ending, walk_starts, stray_ends, left_ends, left_room, begin, stops, passes, checked_length, counted, head_size, asked, refused_at}
+use Rattle.route_walk.proofs.Laws.{Left, Checking, ending}
 use Rattle.route_walk.proofs.subobjects.walk.Given as goal
 
 abbrev pub invariant-loop-k : goal.invariant-loop-k

@@ -2,13 +2,6 @@
 use native.Mathlib.Omega.{arith}
 use Rattle.octets.specs.Octets.{octet_of}
 use Rattle.subobject.proofs.Laws.{head_made}
-use Rattle.subobject.proofs.head.head_at.Reads as reads
-use Rattle.subobject.proofs.head.head_at.Lts as lts
-use Rattle.forms.proofs.flag.Reads as flag-reads
-use Rattle.octets.proofs.wide.Reads as wide-reads
-use Rattle.subobject.proofs.head.kind.Reads as kind-reads
-use Rattle.subobject.proofs.head.only.Reads as only-reads
-use borrow.Author.Rules.{rules}
 use Rattle.subobject.proofs.head.head_at.Goals as goal
 
 pub returns : goal.returns

@@ -1,5 +1,4 @@
 use Rattle.subobject.specs.Layout.{kind_of}
-use borrow.Author.Rules.{rules}
 use Rattle.subobject.proofs.head.kind.Goals as goal
 
 pub returns-then-ero : goal.returns-then-ero

@@ -1,5 +1,4 @@
 use Rattle.subobject.specs.Rules.{has_structure}
-use borrow.Author.Rules.{rules}
 use Rattle.subobject.proofs.head.structured.Goals as goal
 
 pub returns : goal.returns

@@ -1,12 +1,5 @@
 use native.Mathlib.Omega.{arith}
 use Rattle.subobject.proofs.Laws.{expected_structured, expected_sid, expected_plain}
-use Rattle.subobject.proofs.parts.expected.Reads as reads
-use Rattle.subobject.proofs.parts.expected.Lts as lts
-use Rattle.forms.proofs.nai_length.Reads as nai-length-reads
-use Rattle.octets.proofs.wide.Reads as wide-reads
-use Rattle.subobject.proofs.parts.structure_there.Reads as structure-there-reads
-use Rattle.subobject.proofs.parts.sum_of.Reads as sum-of-reads
-use borrow.Author.Rules.{rules}
 use Rattle.subobject.proofs.parts.expected.Goals as goal
 
 pub returns-then-structure_there : goal.returns-then-structure_there

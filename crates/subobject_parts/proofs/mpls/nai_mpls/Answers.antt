@@ -4,7 +4,6 @@ use Rattle.forms.specs.declared.Form.{Form}
 use Rattle.forms.specs.Forms.{mpls_form, nai_length}
 use Rattle.subobject_parts.proofs.Pieces.{no_run}
 use Rattle.subobject_parts.proofs.Nais.{nai_part, nai_room, mpls_none, mpls_node_4, mpls_node, mpls_adjacency_4, mpls_adjacency, mpls_unnumbered, mpls_last}
-use borrow.Author.Rules.{rules}
 use Rattle.subobject_parts.proofs.mpls.nai_mpls.Goals as goal
 
 pub returns-then-nt-eq-NO_NAI : goal.returns-then-nt-eq-NO_NAI
@@ -13,8 +12,8 @@ returns-then-nt-eq-NO_NAI c = record { part = nai_part mpls_form _ 0 (mpls_none 
 pub part40-requires : goal.part40-requires
 part40-requires c =
     let four : c.nai_length.result ≡ 4 = c.nai_length.ensures.length.0 ∙ ap (λ (f : Form). nai_length f 1) c.mpls.ensures.form ∙ mpls_node_4 1 refl in
-        let room = nai_room mpls_form _ 4 (mpls_node_4 _ c.if-nt-eq-IPV4_NODE.true) _ _ c.requires.0 in
-        (omega (arith, room, four), omega arith)
+    let room = nai_room mpls_form _ 4 (mpls_node_4 _ c.if-nt-eq-IPV4_NODE.true) _ _ c.requires.0 in
+    (omega (arith, room, four), omega arith)
 
 pub returns-then-nt-eq-IPV4_NODE : goal.returns-then-nt-eq-IPV4_NODE
 returns-then-nt-eq-IPV4_NODE c = let read = c.nai_length in let four : read.result ≡ 4 = read.ensures.length.0 ∙ ap (λ (f : Form). nai_length f 1) c.mpls.ensures.form ∙ mpls_node_4 1 refl in record { part = nai_part mpls_form _ 4 (mpls_node_4 _ c.if-nt-eq-IPV4_NODE.true) _ _ (rw four at c.part40.ensures.part) }
@@ -46,10 +45,10 @@ returns-then-nt-eq-UNNUMBERED c = record { part = nai_part mpls_form _ 16 (mpls_
 pub nai_40-requires : goal.nai_40-requires
 nai_40-requires c =
     let last = mpls_last _ c.if-nt-eq-NO_NAI.false c.if-nt-eq-IPV4_NODE.false c.if-nt-eq-NODE.false
-        c.if-nt-eq-IPV4_ADJACENCY.false c.if-nt-eq-ADJACENCY.false c.if-nt-eq-UNNUMBERED.false c.requires.1 in
-        nai_room mpls_form _ 40 last _ _ c.requires.0
+    c.if-nt-eq-IPV4_ADJACENCY.false c.if-nt-eq-ADJACENCY.false c.if-nt-eq-UNNUMBERED.false c.requires.1 in
+    nai_room mpls_form _ 40 last _ _ c.requires.0
 
 pub returns : goal.returns
 returns c =
     let last = mpls_last _ c.if-nt-eq-NO_NAI.false c.if-nt-eq-IPV4_NODE.false c.if-nt-eq-NODE.false
-        c.if-nt-eq-IPV4_ADJACENCY.false c.if-nt-eq-ADJACENCY.false c.if-nt-eq-UNNUMBERED.false c.requires.1 in record { part = nai_part mpls_form _ 40 last _ _ c.nai_40.ensures.part }
+    c.if-nt-eq-IPV4_ADJACENCY.false c.if-nt-eq-ADJACENCY.false c.if-nt-eq-UNNUMBERED.false c.requires.1 in record { part = nai_part mpls_form _ 40 last _ _ c.nai_40.ensures.part }

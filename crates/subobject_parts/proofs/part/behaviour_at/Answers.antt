@@ -1,6 +1,5 @@
 use native.Mathlib.Omega.{arith}
 use Rattle.forms.proofs.Laws.{fixed_eight}
-use borrow.Author.Rules.{rules}
 use Rattle.subobject_parts.proofs.part.behaviour_at.Goals as goal
 
 pub read16-requires : goal.read16-requires

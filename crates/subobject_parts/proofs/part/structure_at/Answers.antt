@@ -1,7 +1,6 @@
 use native.Mathlib.Omega.{arith}
 use Rattle.octets.proofs.Said.{there_room}
 use Rattle.subobject_parts.proofs.Pieces.{part_there, part_absent}
-use borrow.Author.Rules.{rules}
 use Rattle.subobject_parts.proofs.part.structure_at.Goals as goal
 
 pub part4-requires : goal.part4-requires

@@ -1,7 +1,6 @@
 use Rattle.forms.specs.Forms.{srv6_form}
 use Rattle.subobject_parts.proofs.Pieces.{no_run}
 use Rattle.subobject_parts.proofs.Nais.{nai_part, nai_room, srv6_none, srv6_node, srv6_adjacency, srv6_last}
-use borrow.Author.Rules.{rules}
 use Rattle.subobject_parts.proofs.srv6.nai_srv6.Goals as goal
 
 pub returns-then-nt-eq-NO_NAI : goal.returns-then-nt-eq-NO_NAI
@@ -22,7 +21,7 @@ returns-then-nt-eq-ADJACENCY c = record { part = nai_part srv6_form _ 32 (srv6_a
 pub nai_40-requires : goal.nai_40-requires
 nai_40-requires c =
     let last = srv6_last _ c.if-nt-eq-NO_NAI.false c.if-nt-eq-NODE.false c.if-nt-eq-ADJACENCY.false c.requires.1 in
-        nai_room srv6_form _ 40 last _ _ c.requires.0
+    nai_room srv6_form _ 40 last _ _ c.requires.0
 
 pub returns : goal.returns
 returns c = let last = srv6_last _ c.if-nt-eq-NO_NAI.false c.if-nt-eq-NODE.false c.if-nt-eq-ADJACENCY.false c.requires.1 in record { part = nai_part srv6_form _ 40 last _ _ c.nai_40.ensures.part }

@@ -1,6 +1,5 @@
 use Rattle.octets.proofs.Said.{there_room}
 use Rattle.subobject_parts.proofs.Pieces.{part_there, part_absent}
-use borrow.Author.Rules.{rules}
 use Rattle.subobject_parts.proofs.srv6.sid_srv6.Goals as goal
 
 pub sid_16-requires : goal.sid_16-requires

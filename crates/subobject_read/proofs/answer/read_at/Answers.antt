@@ -1,7 +1,6 @@
 use native.Mathlib.Omega.{arith}
 use Rattle.forms.proofs.Laws.{fixed_least}
 use Rattle.subobject_read.proofs.Laws.{read_short, read_cut, read_whole}
-use borrow.Author.Rules.{rules}
 use Rattle.subobject_read.proofs.answer.read_at.Goals as goal
 
 pub returns-then-room-wide : goal.returns-then-room-wide

@@ -1,5 +1,4 @@
 use Rattle.subobject.specs.Rules.{rule11}
-use borrow.Author.Rules.{rules}
 use Rattle.subobject_rules.proofs.rule.eleven.Goals as goal
 
 pub returns : goal.returns

@@ -1,5 +1,4 @@
 use Rattle.subobject.specs.Rules.{malformed}
-use borrow.Author.Rules.{rules}
 use Rattle.subobject_rules.proofs.rule.is_malformed.Goals as goal
 
 pub returns : goal.returns

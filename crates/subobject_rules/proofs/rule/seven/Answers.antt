@@ -1,5 +1,4 @@
 use Rattle.subobject.specs.Rules.{rule7}
-use borrow.Author.Rules.{rules}
 use Rattle.subobject_rules.proofs.rule.seven.Goals as goal
 
 pub returns : goal.returns

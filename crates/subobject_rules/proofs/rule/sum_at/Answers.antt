@@ -1,4 +1,3 @@
-use borrow.Author.Rules.{rules}
 use Rattle.subobject_rules.proofs.rule.sum_at.Goals as goal
 
 pub returns : goal.returns

@@ -2,7 +2,6 @@ use mathlib.Core.Path.{sym, ◌∙◌}
 use native.Mathlib.Omega.{arith}
 use Rattle.subobject.specs.Rules.{rule30}
 use Rattle.forms.proofs.Laws.{fixed_most}
-use borrow.Author.Rules.{rules}
 use Rattle.subobject_rules_by_number.proofs.rule.bad_format.Goals as goal
 
 pub time_at-requires : goal.time_at-requires

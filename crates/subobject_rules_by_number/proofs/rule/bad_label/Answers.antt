@@ -2,7 +2,6 @@ use mathlib.Core.Path.{sym, ◌∙◌}
 use native.Mathlib.Omega.{arith}
 use Rattle.subobject.specs.Rules.{rule29}
 use Rattle.forms.proofs.Laws.{fixed_most}
-use borrow.Author.Rules.{rules}
 use Rattle.subobject_rules_by_number.proofs.rule.bad_label.Goals as goal
 
 pub label_at-requires : goal.label_at-requires

@@ -1,6 +1,5 @@
 use Rattle.octets.proofs.Tests.{tests}
 use Rattle.subobject.specs.Rules.{broken_by}
-use borrow.Author.Rules.{rules}
 use Rattle.subobject_rules_by_number.proofs.rule.breaks.Goals as goal
 
 pub returns-then-number-eq-NAI_UNKNOWN : goal.returns-then-number-eq-NAI_UNKNOWN

@@ -1,7 +1,6 @@
 use Rattle.octets.proofs.Tests.{tests}
 use Rattle.subobject.specs.Rules.{place_by}
 use Rattle.subobject_rules_by_number.proofs.Laws.{unplaced}
-use borrow.Author.Rules.{rules}
 use Rattle.subobject_rules_by_number.proofs.rule.place.Goals as goal
 
 pub returns-then-number-eq-NAI_UNKNOWN : goal.returns-then-number-eq-NAI_UNKNOWN

@@ -1,5 +1,4 @@
 use Rattle.subobject_shape.proofs.Shapes.{kept_at}
-use borrow.Author.Rules.{rules}
 use Rattle.subobject_shape.proofs.shape.mpls_head_sound.Goals as goal
 
 pub returns : goal.returns

@@ -1,6 +1,5 @@
 use Rattle.octets.specs.Octets.{octet_of}
 use Rattle.subobject.specs.Rules.{label_at}
-use borrow.Author.Rules.{rules}
 use Rattle.subobject_sound.proofs.sound.label_in.Goals as goal
 
 pub returns : goal.returns

@@ -2,7 +2,6 @@ use mathlib.Core.Path.{◌∙◌, ap}
 use Rattle.forms.specs.declared.Form.{Form}
 use Rattle.subobject.specs.Segments.{flags_octet}
 use Rattle.writer_spare.proofs.Laws.{known_srv6, known_mpls}
-use borrow.Author.Rules.{rules}
 use Rattle.writer_fixed.proofs.head.flags.Goals as goal
 
 pub flags_in-requires : goal.flags_in-requires

@@ -1,15 +1,16 @@
 use Rattle.subobject.specs.Segments.{flags_octet}
-use borrow.Author.Rules.{rules}
 use Rattle.writer_fixed.proofs.head.flags_in.Goals as goal
 
 pub returns : goal.returns
 unfolding flags_octet
 returns c =
-    record { flags = rw (
-          c.worth.ensures.worth.0,
-          c.worth-2.ensures.worth.0,
-          c.worth-3.ensures.worth.0,
-          c.worth-4.ensures.worth.0,
-          c.worth-5.ensures.worth.0,
-          c.worth-6.ensures.worth.0,
-        ) }
+    record {
+      flags = rw (
+        c.worth.ensures.worth.0,
+        c.worth-2.ensures.worth.0,
+        c.worth-3.ensures.worth.0,
+        c.worth-4.ensures.worth.0,
+        c.worth-5.ensures.worth.0,
+        c.worth-6.ensures.worth.0,
+      );
+    }

@@ -1,11 +1,10 @@
 use mathlib.Core.Path.{◌∙◌}
 use Prim.Native.Nat.{◌+◌, ◌*◌}
-use mathlib.Core.List.{[], ◌∷◌}
+use mathlib.Core.List.{◌∷◌}
 use lib.ListN.{length-set}
 use lib.Seq.{sets-eq}
 use native.Mathlib.Omega.{arith}
 use Rattle.octets.specs.Octets.{over}
-use borrow.Author.Rules.{rules}
 use Rattle.writer_fixed.proofs.head.four.Goals as goal
 
 pub bounds-out-1 : goal.bounds-out-1
@@ -17,5 +16,7 @@ bounds-out-2 c = simp length-set (omega arith)
 pub returns : goal.returns
 unfolding over
 returns c =
-    let a = c.args in let h = a.h in record { four = sets-eq ((h.l * 128 + c.kind.result) ∷ a.size ∷ (h.nt * 16) ∷ c.flags.result ∷ []) a.out.now 0 c.requires.4
-        ∙ rw (c.flags.ensures.flags, c.kind.ensures.kind, c.requires.3) }
+    let a = c.args in let h = a.h in record {
+      four = sets-eq ((h.l * 128 + c.kind.result) ∷ a.size ∷ (h.nt * 16) ∷ c.flags.result ∷ []) a.out.now 0 c.requires.4
+          ∙ rw (c.flags.ensures.flags, c.kind.ensures.kind, c.requires.3);
+    }

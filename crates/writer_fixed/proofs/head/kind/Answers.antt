@@ -1,7 +1,6 @@
 use mathlib.Core.Path.{sym, ◌∙◌, ap}
 use Rattle.forms.specs.declared.Form.{Form}
 use Rattle.writer_spare.proofs.Laws.{known_srv6, known_mpls}
-use borrow.Author.Rules.{rules}
 use Rattle.writer_fixed.proofs.head.kind.Goals as goal
 
 pub returns-then-form : goal.returns-then-form

@@ -1,5 +1,4 @@
 use Rattle.writer_fixed.proofs.Laws.{worth_none, worth_some}
-use borrow.Author.Rules.{rules}
 use Rattle.writer_fixed.proofs.head.worth.Goals as goal
 
 pub returns-then-flag-eq0 : goal.returns-then-flag-eq0

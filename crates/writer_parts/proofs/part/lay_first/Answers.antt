@@ -1,6 +1,5 @@
 use mathlib.Core.Path.{refl}
 use Rattle.writer_parts.proofs.Laws.{laid_first, first_long, first_room}
-use borrow.Author.Rules.{rules}
 use Rattle.writer_parts.proofs.part.lay_first.Goals as goal
 
 pub slice_bounds-lay-end : goal.slice_bounds-lay-end

@@ -2,7 +2,6 @@
 use mathlib.Core.Path.{◌∙◌}
 use native.Mathlib.Omega.{arith}
 use Rattle.writer_parts.proofs.Laws.{laid_none, nai_octets_40, nai_octets_32, nai_octets_16, nai_octets_8, nai_octets_4}
-use borrow.Author.Rules.{rules}
 use Rattle.writer_parts.proofs.part.lay_nai.Goals as goal
 
 pub returns-then-n-eq0 : goal.returns-then-n-eq0

@@ -1,5 +1,4 @@
 use Rattle.writer_parts.proofs.Laws.{laid_there, laid_absent, room_there}
-use borrow.Author.Rules.{rules}
 use Rattle.writer_parts.proofs.part.lay_structure.Goals as goal
 
 pub lay-requires : goal.lay-requires
