@@ -7,9 +7,10 @@ use Rattle.route.proofs.Answer.{frame_bounds, accepted_none, accepted_lying, pic
 use Rattle.route.proofs.Answer.{whole_not_refused, whole_same}
 use borrow.Author.Rules.{rules}
 use Rattle.route.proofs.picking.segment_as.Goals as goal
+use Rattle.route.proofs.picking.segment_as.Goals.{After-judge-v}
 
 -- The verdict is that of the form.
-judged : (c : goal.After-judge-v)
+judged : (c : After-judge-v)
     → (let args = c.args in c.judge-v.result ≡ judge_as args.form args.s.now args.ero args.session args.pst)
 unfolding judge_of
 judged c =
@@ -19,39 +20,39 @@ judged c =
 pub returns-then-v-ne0 : goal.returns-then-v-ne0
 returns-then-v-ne0 c =
     let args = c.args in record { picked = pick_stops args.form args.s.now args.ero args.session args.pst args.i _
-        (judged c) c.if-v-ne0.true c.nothing.ensures.nothing }
+        (judged (goal.at.returns-then-v-ne0 c).After-judge-v) c.if-v-ne0.true c.nothing.ensures.nothing }
 
 pub returns-then-i-v : goal.returns-then-i-v
 returns-then-i-v c =
     let args = c.args in record { picked = pick_beyond args.form args.s.now args.ero args.session args.pst args.i _
-        (judged c) c.if-v-ne0.false
+        (judged (goal.at.returns-then-i-v c).After-judge-v) c.if-v-ne0.false
         c.if-i-v.true c.refused.ensures.refused c.nothing-then-i-v.ensures.nothing }
 
 pub nth-at-requires : goal.nth-at-requires
 nth-at-requires c =
     let args = c.args in
-        let z = rw (judged c) at c.if-v-ne0.false in
+        let z = rw (judged (goal.at.nth-at-requires c).After-judge-v) at c.if-v-ne0.false in
         frame_bounds args.ero args.s.now (accepted_none args.form args.s.now args.ero args.session args.pst z).0
-        (omega (arith, c.shared_slice_known-1.given 2))
-        (omega (arith, c.shared_slice_known-1.given 3))
+        (omega (arith, c.type_inv.s 2))
+        (omega (arith, c.type_inv.s 3))
 
 pub read_at-requires : goal.read_at-requires
 read_at-requires c =
     let args = c.args in
-        let z = rw (judged c) at c.if-v-ne0.false in
+        let z = rw (judged (goal.at.read_at-requires c).After-judge-v) at c.if-v-ne0.false in
         let l = rw
         (pick_count args.form args.s.now args.ero args.session args.pst args.i _
-        (judged c) c.if-v-ne0.false) at c.if-i-v.false in
+        (judged (goal.at.read_at-requires c).After-judge-v) c.if-v-ne0.false) at c.if-i-v.false in
         let lies = (accepted_lying args.form args.s.now args.ero args.session args.pst args.i z l).inside in
         (omega (arith, c.nth-at.ensures.place), c.requires.0)
 
 pub segment_at-requires : goal.segment_at-requires
 segment_at-requires c =
     let args = c.args in
-        let z = rw (judged c) at c.if-v-ne0.false in
+        let z = rw (judged (goal.at.segment_at-requires c).After-judge-v) at c.if-v-ne0.false in
         let l = rw
         (pick_count args.form args.s.now args.ero args.session args.pst args.i _
-        (judged c) c.if-v-ne0.false) at
+        (judged (goal.at.segment_at-requires c).After-judge-v) c.if-v-ne0.false) at
         c.if-i-v.false in
         let lies = (accepted_lying args.form args.s.now args.ero args.session args.pst args.i z
         l).inside in
@@ -59,9 +60,9 @@ segment_at-requires c =
 
 pub returns-in-Refused : goal.returns-in-Refused
 returns-in-Refused c =
-    let args = c.args in let z = rw (judged c) at c.if-v-ne0.false in let l = rw
+    let args = c.args in let z = rw (judged (goal.at.returns-in-Refused c).After-judge-v) at c.if-v-ne0.false in let l = rw
         (pick_count args.form args.s.now args.ero args.session args.pst args.i _
-        (judged c) c.if-v-ne0.false) at
+        (judged (goal.at.returns-in-Refused c).After-judge-v) c.if-v-ne0.false) at
         c.if-i-v.false in record { picked = absurd
         (whole_not_refused
         (sym
@@ -71,7 +72,7 @@ returns-in-Refused c =
 
 pub returns-in-Whole : goal.returns-in-Whole
 returns-in-Whole c =
-    let by_form = judged c in let args = c.args in let z = rw by_form at c.if-v-ne0.false in let l = rw
+    let by_form = judged (goal.at.returns-in-Whole c).After-judge-v in let args = c.args in let z = rw by_form at c.if-v-ne0.false in let l = rw
         (pick_count args.form args.s.now args.ero args.session args.pst args.i _ by_form
         c.if-v-ne0.false) at c.if-i-v.false in let whole = picked_whole args.form args.s.now args.ero args.session args.pst args.i _ _ z l
         c.nth-at.ensures.place c.read_at.ensures.answer in record { picked = pick_there args.form args.s.now args.ero args.session args.pst args.i _ by_form
