@@ -1,6 +1,7 @@
 // What the values of TLV 34 and of its sub-TLVs 26 and 27 carry: a form where its setup type is listed, 2 where its sub-TLV is not there, and both in one answer
 // (document 01, "The OPEN object"; document 02, C-16).
 #![tactic(auto)]
+
 ghost use Rattle.std.specs.Prelude.{◌≡◌, length};
 ghost use Rattle.tlvs.specs.Places.{Inside, value_at};
 ghost use Rattle.open_walk.specs.Walk.{Listed};

@@ -4,6 +4,7 @@
 // Of several TLVs 34, or wanted sub-TLVs, the first is used and the others are only walked.
 // Cut: a TLV does not fit, or the first TLV 34 does not hold its padded list and whole sub-TLVs.
 #![tactic(auto)]
+
 ghost use Rattle.std.specs.Prelude.{◌≡◌, ◌-◌, ◌≤◌, ◌<◌, length};
 ghost use Rattle.octets.specs.Octets.{end16, part};
 ghost use Rattle.open_walk.specs.Walk.{sight_of, open_walk, Bounds};

@@ -6,11 +6,11 @@ use borrow.Author.Tests.{eq-eqb, ne_eqb}
 use mathlib.Core.Bool.{false}
 use mathlib.Core.Path.{◌≡◌}
 use native.Mathlib.Omega.{arith}
-use borrow.Author.Rules.{rules}
 use Rattle.open_carried.proofs.listed.Goals as goal
+use Rattle.open_carried.proofs.listed.Goals.{Else-list-eq-NOWHERE}
 
 -- where TLV 34 is known
-there : (c : goal.Else-list-eq-NOWHERE) → missing_of c.args.list ≡ false
+there : (c : Else-list-eq-NOWHERE) → missing_of c.args.list ≡ false
 there c = ne_eqb _ _ c.if-list-eq-NOWHERE.false
 
 pub returns-then-list-eq-NOWHERE : goal.returns-then-list-eq-NOWHERE
@@ -19,10 +19,12 @@ returns-then-list-eq-NOWHERE c = let a = c.args in record { listed = rw (value_m
 pub lists-requires : goal.lists-requires
 lists-requires c =
     let a = c.args in
-        rw (part_lent a.s.now a.list.from a.list.len, length_part a.s.now a.list.from a.list.len (omega arith))
-        (c.requires.1 (there c))
+    rw (part_lent a.s.now a.list.from a.list.len, length_part a.s.now a.list.from a.list.len (omega arith))
+    (c.requires.1 (there (goal.at.lists-requires c).Else-list-eq-NOWHERE))
 
 pub returns : goal.returns
 returns c =
-    let a = c.args in record { listed = rw (value_there a.s.now a.list (there c))
-        (rw (part_lent a.s.now a.list.from a.list.len) at c.lists.ensures.listed) }
+    let a = c.args in record {
+      listed = rw (value_there a.s.now a.list (there (goal.at.returns c).Else-list-eq-NOWHERE))
+          (rw (part_lent a.s.now a.list.from a.list.len) at c.lists.ensures.listed);
+    }

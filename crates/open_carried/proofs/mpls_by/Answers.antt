@@ -2,7 +2,6 @@
 use Rattle.octets.proofs.Laws.{part_lent}
 use Rattle.tlvs.proofs.Spans.{value_missing, value_there}
 use borrow.Author.Tests.{eq-eqb, ne_eqb}
-use borrow.Author.Rules.{rules}
 use Rattle.open_carried.proofs.mpls_by.Goals as goal
 
 pub returns-then-sub-eq-NOWHERE : goal.returns-then-sub-eq-NOWHERE
