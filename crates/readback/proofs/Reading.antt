@@ -451,4 +451,5 @@ module _ (ero : Bool) (pst : ℕ) (gs : List Segment) (b : List ℕ) (w : Writer
   written_zero =
       let s = object_of (form_of pst) gs ero in
       let inside : zeros (ignored_in (form_of pst) s ero (places_of s)) ≡ true = rw places (ignored_all body) in
-      rw m.object (zeros_cons (octet_of s 1 % 16) (ignored_in (form_of pst) s ero (places_of s)) (header_zero (form_of pst) ero gs) inside)
+      ap (λ (x : List ℕ). zeros (ignored_of (form_of pst) x ero)) m.object
+      ∙ zeros_cons (octet_of s 1 % 16) (ignored_in (form_of pst) s ero (places_of s)) (header_zero (form_of pst) ero gs) inside
