@@ -2,6 +2,7 @@
 //
 // A list that isn't a multiple of 16 octets: 28.
 #![tactic(auto)]
+
 ghost use Rattle.std.specs.Prelude.{◌≡◌};
 ghost use Rattle.head_end.specs.Addresses.{usable_list, has_address};
 

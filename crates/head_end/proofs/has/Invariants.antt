@@ -1,12 +1,7 @@
-use Rattle.octets.proofs.Laws.{part_lent}
-use Rattle.head_end.proofs.Laws.{among_hit, among_miss, among_end}
-use Rattle.same_octets.specs.Same.{same_octets}
-use Rattle.head_end.specs.Addresses.{address_size, among_first, has_address}
-use Rattle.octets.specs.Octets.{part}
+use Rattle.head_end.specs.Addresses.{among_first, has_address}
 use lib.ListN.{length}
-use native.Mathlib.Omega.{arith}
-use mathlib.Core.Path.{◌≡◌, refl, ◌∙◌}
-use Prim.Native.Nat.{◌-◌, ◌*◌, ◌/◌, ◌≤◌}
+use mathlib.Core.Path.{◌≡◌}
+use Prim.Native.Nat.{◌/◌, ◌≤◌}
 use Rattle.head_end.proofs.has.Given as goal
 
 abbrev pub invariant-loop-left : goal.invariant-loop-left

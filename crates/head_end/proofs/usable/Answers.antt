@@ -1,6 +1,5 @@
 use Rattle.head_end.specs.Addresses.{usable_list}
 use mathlib.Core.Path.{refl}
-use borrow.Author.Rules.{rules}
 use Rattle.head_end.proofs.usable.Goals as goal
 
 pub returns : goal.returns

@@ -16,7 +16,7 @@ returns-then-not-is_headed c = record { settled = unsettled }
 pub see_mpls-requires : goal.see_mpls-requires
 unfolding be16
 see_mpls-requires c =
-    let known = c.shared_slice_known-1.given in
+    let known = c.type_inv.s in
         let headed = sym c.is_headed.ensures.headed ∙ c.if-not-is_headed.false in
         (headed, omega (arith, (headed_sized _ _ headed).read, known 2, known 3))
 
@@ -26,7 +26,7 @@ returns-then-pst-eq-MPLS_SETUP c = let args = c.args in record { settled = subst
 pub see_srv6-requires : goal.see_srv6-requires
 unfolding be16
 see_srv6-requires c =
-    let known = c.shared_slice_known-1.given in
+    let known = c.type_inv.s in
         let headed = sym c.is_headed.ensures.headed ∙ c.if-not-is_headed.false in
         (headed, omega (arith, (headed_sized _ _ headed).read, known 2, known 3))
 
