@@ -1,6 +1,7 @@
 // The board's calls that take a path or marks away, with the record by value (document 01, "The board"): remove and compact hand it
 // back, changed or after a refusal as it was. Each lends the record's arrays to the call of board_remove or board_compact.
 #![tactic(auto)]
+
 mod answer;
 
 ghost use Rattle.std.specs.Prelude.{◌≡◌};

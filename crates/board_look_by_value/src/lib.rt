@@ -2,6 +2,7 @@
 // and its form by a call of its own; next hands out a change, moved says if a key of a range changed. Each lends the record's arrays
 // to the call of board_body or board_look.
 #![tactic(auto)]
+
 mod path;
 
 ghost use Rattle.std.specs.Prelude.{◌≡◌};

@@ -1,6 +1,7 @@
 // Report with the record by value (document 01, "The board"): it is handed back, changed or after a refusal as it was. The record's arrays
 // are lent to the call of board_report_call.
 #![tactic(auto)]
+
 ghost use Rattle.std.specs.Prelude.{◌≡◌};
 ghost use Rattle.board_report_by_value.specs.ByValue.{report_by_value, report_store_by_value};
 

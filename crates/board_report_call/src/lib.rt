@@ -1,6 +1,7 @@
 // Report on a record whose parts are lent, for a head end whose addresses are lent (document 02, C-15 and C-16): 28, then the
 // report in the session of the form that the PST names, under the limit that holds for this route. A refusal writes nothing.
 #![tactic(auto)]
+
 ghost use Rattle.std.specs.Prelude.{◌≡◌};
 ghost use Rattle.board_record.specs.Record.{board_of};
 ghost use Rattle.board_rules.specs.OnRecord.{result_of};

@@ -2,6 +2,7 @@
 // one line: number, place, count and stray segments of the first refusal, or of the ERO's answer (document 01, the last
 // paragraph of "Examples on either side"). What it answers is `checker_verdict::check`.
 #![tactic(auto)]
+
 fn main() {
     let mut input = io::large_buffer();
     let n = io::read_full(libc::STDIN_FILENO, &mut input);

@@ -3,6 +3,7 @@
 // behind the ERO are ignored (document 01, the last paragraph of "Examples on either side"). A and R stand at the positions
 // 0 and 1, and the head end has no addresses (document 02, C-15).
 #![tactic(auto)]
+
 ghost use Rattle.std.specs.Prelude.{◌≡◌};
 ghost use Rattle.checker_verdict.specs.Checking.{checked_of};
 

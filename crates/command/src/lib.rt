@@ -2,6 +2,7 @@
 // that they say (console.md). A line out of form is `Bad`, whatever its words mean; empty lines and lines
 // that begin with `#` are `Skip`.
 #![tactic(auto)]
+
 ghost use Rattle.std.specs.Prelude.{◌≡◌, ◌*◌, ◌≤◌, length};
 ghost use Rattle.io.specs.Counts.{IsPrefixLen};
 ghost use Rattle.octets.specs.Octets.{over};

@@ -1,6 +1,7 @@
 // The commands of the console: their names, and the form of the words behind them (console.md, the table of
 // commands). A name that is none is `Bad`.
 #![tactic(auto)]
+
 mod form;
 mod verb;
 

@@ -1,6 +1,7 @@
 // The rows of the table of commands by what they touch (console.md): routes that are asked about, what the session is
 // made from, the writer, the board that changes, the board that is looked at.
 #![tactic(auto)]
+
 ghost use Rattle.std.specs.Prelude.{◌≡◌};
 ghost use Rattle.command_rows.specs.Rows.{row_verb};
 

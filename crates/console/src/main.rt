@@ -2,6 +2,7 @@
 // edges: lines out of form, numbers and octets at their bounds, lines that are too long, a last line without a
 // newline.
 #![tactic(auto)]
+
 fn main() {
     let end = console_dialogue::converse();
 }

@@ -1,5 +1,6 @@
 // The segment of a line `add L V NT BEHAVIOUR SID NAI STRUCTURE M C`.
 #![tactic(auto)]
+
 ghost use Rattle.std.specs.Prelude.{◌≤◌, ◌≡◌, length};
 ghost use Rattle.subobject.specs.Layout.{sid_size, nai_size};
 ghost use Rattle.console_state.specs.Spelled.{octets_in};

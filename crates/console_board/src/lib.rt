@@ -1,6 +1,7 @@
 // The console's commands about the board: report, remove, compact, body, next, moved, mark, board, chain (console.md). `room`
 // takes the octets that the line spells.
 #![tactic(auto)]
+
 mod change;
 mod look;
 

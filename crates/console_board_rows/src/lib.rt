@@ -1,6 +1,7 @@
 // The rows of the console's table about the board (console.md): report, remove, compact, which may change it; body,
 // next, moved, mark, board, chain, which look at it.
 #![tactic(auto)]
+
 ghost use Rattle.std.specs.Prelude.{◌+◌, ◌*◌, ◌≤◌, ◌≡◌, length};
 ghost use Rattle.printing.specs.Text.{Behind, field_size};
 ghost use Rattle.board_record.specs.Sizes.{places};

@@ -1,5 +1,6 @@
 // `chain` of the console (console.md): the used places from the oldest change to the newest, out of the board's order.
 #![tactic(auto)]
+
 ghost use Rattle.std.specs.Prelude.{◌≤◌, ◌≡◌, length, take};
 ghost use Rattle.board_record.specs.Sizes.{places};
 ghost use Rattle.console_chain.specs.Chain.{chain_of};

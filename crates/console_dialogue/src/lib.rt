@@ -9,6 +9,7 @@
 // the octets handed to be written are, one answer behind the other, what the console says to the octets that were read (`say_all`). Not proved: that these are the
 // octets of standard input, that a write reaches standard output, and that the reading goes on to the input's end.
 #![tactic(auto)]
+
 mod heard;
 mod line;
 mod listening;

@@ -1,6 +1,7 @@
 // A part of what was read, up to the end of a line, and the number of a line (console.md): "A line is what lies between two
 // newlines; the newline is no part of it, a carriage return is"; "N counting all lines from 1".
 #![tactic(auto)]
+
 ghost use Rattle.std.specs.Prelude.{◌≡◌, ◌+◌, ◌%◌, ◌^◌, ◌≤◌, length, drop};
 ghost use Rattle.words.specs.Words.{newline, until_mark};
 

@@ -1,6 +1,7 @@
 // The rows of the console's table that ask about a route under the session: ero, rro, ero-segment, rro-segment
 // (console.md).
 #![tactic(auto)]
+
 ghost use Rattle.std.specs.Prelude.{◌≤◌, length};
 ghost use Rattle.printing.specs.Text.{Behind};
 ghost use Rattle.console_fields.specs.Shown.{long};

@@ -1,6 +1,7 @@
 // The console's commands about OPENs and routes: pcc, pce, ero, rro, ero-segment, rro-segment, addresses (console.md).
 // `room` takes the octets that the line spells; the head end's addresses lie in `memory`, behind the writer's part.
 #![tactic(auto)]
+
 ghost use Rattle.std.specs.Prelude.{◌-◌, ◌*◌, ◌≤◌, ◌≡◌, length, take};
 ghost use Rattle.printing.specs.Text.{Behind};
 ghost use Rattle.console_lines.specs.Lines.{short};

@@ -2,6 +2,7 @@
 // octets of its memory are lent to the writer, where A and R stand, and how many octets the head end's addresses have.
 // The store and the memory are lent to each call; the addresses lie in the memory behind the writer's part.
 #![tactic(auto)]
+
 mod answer;
 mod cut;
 mod state;

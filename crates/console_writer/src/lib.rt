@@ -1,6 +1,7 @@
 // The console's commands about the writer: begin, add, finish, lent (console.md). `memory` is where the writer's
 // buffer lies, at its start; `room` takes the octets that the line spells.
 #![tactic(auto)]
+
 mod begin;
 mod end;
 mod grow;

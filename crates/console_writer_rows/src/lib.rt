@@ -1,6 +1,7 @@
 // The rows of the console's table about the writer: begin, add, finish, lent (console.md). `memory` is the writer's part,
 // whole; its buffer lies at the start.
 #![tactic(auto)]
+
 ghost use Rattle.std.specs.Prelude.{◌+◌, ◌*◌, ◌≤◌, ◌≡◌, length, take};
 ghost use Rattle.printing.specs.Text.{Behind};
 ghost use Rattle.command_forms.specs.Forms.{most_size};

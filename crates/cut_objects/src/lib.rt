@@ -2,6 +2,7 @@
 // counting the 4 octets of the header. Where too little is left, or the length is under 4, the object is
 // all the rest (document 01, the checking program).
 #![tactic(auto)]
+
 ghost use Rattle.std.specs.Prelude.{◌≡◌, ◌≤◌, length};
 ghost use Rattle.cut_objects.specs.Cutting.{cut_of, first_object, rest_objects};
 

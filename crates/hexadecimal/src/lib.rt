@@ -1,6 +1,7 @@
 // What a word says as octets: pairs of hexadecimal digits with nothing between them, in either case;
 // `-` stands for no octets at all (console.md). A pair is one octet, its first digit worth 16.
 #![tactic(auto)]
+
 ghost use Rattle.std.specs.Prelude.{◌≡◌, ◌+◌, ◌*◌, ◌≤◌, length};
 ghost use Rattle.octets.specs.Octets.{over};
 ghost use Rattle.hexadecimal.specs.Hexadecimal.{no_digit, hex_code, pair_of, all_pairs, is_octets, octets_of, is_sid, is_nai};

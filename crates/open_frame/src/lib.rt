@@ -1,6 +1,7 @@
 // The frame of an OPEN object: class (1 octet), type in the high 4 bits of the next octet (the low 4 are ignored), and a 2-octet length that counts the 4 header
 // octets. OPEN is class 1, type 1; its body is an octet whose top 3 bits are the version, which must be 1, then keepalive, dead timer, session number, then TLVs.
 #![tactic(auto)]
+
 ghost use Rattle.std.specs.Prelude.{◌≡◌, true, ◌<◌, length};
 ghost use Rattle.octets.specs.Octets.{end16};
 ghost use Rattle.open_frame.specs.Framed.{framed};

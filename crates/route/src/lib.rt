@@ -7,6 +7,7 @@
 // of those in which something is set that ought to be 0 (document 02, C-18).
 // Segment i, from 0, is asked for with the same object, session and PST: the same checks, then 15.
 #![tactic(auto)]
+
 mod judgement;
 mod picking;
 

@@ -2,6 +2,7 @@
 // the form that the setup type names, under the limit that holds for this route. In an RRO, and for MPLS, too a list that isn't a multiple
 // of 16 octets is 28. Only SRv6's session has flags that raise the limit.
 #![tactic(auto)]
+
 ghost use Rattle.std.specs.Prelude.{◌≡◌};
 ghost use Rattle.route.specs.Parts.{session_by};
 ghost use Rattle.route_call.specs.Called.{judged_in, judged_for, segment_in, segment_for};

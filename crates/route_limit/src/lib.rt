@@ -5,6 +5,7 @@
 // octets of its NAI, which are its local address, are one of the head end's addresses. Whether it has a SID is no matter.
 // H.Encaps' v then permits v + 1; what Segments Left permits stays. Only SRv6's session has A and R, so the segment is read in SRv6's form.
 #![tactic(auto)]
+
 ghost use Rattle.std.specs.Prelude.{◌≡◌, ◌+◌, ◌≤◌};
 ghost use Rattle.objects.specs.Objects.{header};
 ghost use Rattle.forms.specs.Forms.{srv6_form, flag_in};

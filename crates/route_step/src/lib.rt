@@ -4,6 +4,7 @@
 // Refused: 15, a place under 4, no multiple of 4, or at or past the end; 4, a subobject that doesn't fit; 14, one that isn't the form's; then 8, 9, 7, 11
 // at its place, and 29, 30. What hangs on a session is judging's to ask.
 #![tactic(auto)]
+
 mod over_mpls;
 mod over_srv6;
 mod stepping;

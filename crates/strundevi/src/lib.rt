@@ -4,6 +4,7 @@
 // none keeps anything between calls, and none asks anything of its caller but buffers that are there and apart. What is
 // wrong with a number, a length or a record is refused by the call's own number.
 #![tactic(auto)]
+
 mod boards;
 mod opens;
 mod routes;

@@ -1,6 +1,7 @@
 // The checking program's answer to many inputs, one to a line as pairs of hexadecimal digits: cuts at every place,
 // lengths that are too small or too large, refused OPENs before and behind, octets behind the ERO.
 #![tactic(auto)]
+
 ghost use Rattle.std.specs.Prelude.{◌≤◌, ◌<◌, length};
 
 use words::{NEWLINE, word};

@@ -1,5 +1,6 @@
 // The writer's state, and what its calls answer (document 01, "Writing a route"). The state goes in by value and each call hands it back, unchanged on refusal.
 #![tactic(auto)]
+
 ghost use Rattle.std.specs.Prelude.{◌≡◌};
 ghost use Rattle.writer_state.specs.Answers.{refused_as, accepted_as};
 

@@ -1,6 +1,7 @@
 // The tests that writing a route object makes (document 01, "Writing a route"): whether a segment is unfit, its structure too long, its label bad, and
 // whether the place is bad or the object passes its end.
 #![tactic(auto)]
+
 mod place;
 mod test;
 

@@ -1,5 +1,4 @@
 use Rattle.board_by_value.proofs.Laws.{compact_back}
-use borrow.Author.Rules.{rules}
 use Rattle.board_by_value.proofs.compact.Goals as goal
 
 pub returns : goal.returns

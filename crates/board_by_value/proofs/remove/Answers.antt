@@ -1,5 +1,4 @@
 use Rattle.board_by_value.proofs.Laws.{remove_back}
-use borrow.Author.Rules.{rules}
 use Rattle.board_by_value.proofs.remove.Goals as goal
 
 pub returns : goal.returns

@@ -1,4 +1,3 @@
-use borrow.Author.Rules.{rules}
 use Rattle.board_look_by_value.proofs.body_number.Goals as goal
 
 pub returns : goal.returns

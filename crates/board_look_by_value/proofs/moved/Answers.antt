@@ -1,4 +1,3 @@
-use borrow.Author.Rules.{rules}
 use Rattle.board_look_by_value.proofs.moved.Goals as goal
 
 pub returns : goal.returns

@@ -1,5 +1,4 @@
 use Rattle.board_report_by_value.proofs.Laws.{report_back}
-use borrow.Author.Rules.{rules}
 use Rattle.board_report_by_value.proofs.report.Goals as goal
 
 pub returns : goal.returns

@@ -16,17 +16,17 @@ seg c = segment_with (outline_in c.args.outline) c.args.sid.now c.args.nai.now c
 pub returns-then-writer-gt1 : goal.returns-then-writer-gt1
 returns-then-writer-gt1 c =
     let b = c.args.buffer.now in
-        by_writer (λ (w : Writer). add_answer b w (seg c)) (λ (w : Writer). add_buffer b w (seg c)) _ _ _ _ c.args.writer c.writer_in.ensures.writer
-        c.added-w.ensures.answer c.added-w.ensures.octets c.written_out.ensures.written
+    by_writer (λ (w : Writer). add_answer b w (seg c)) (λ (w : Writer). add_buffer b w (seg c)) _ _ _ _ c.args.writer c.writer_in.ensures.writer
+    c.added-w.ensures.answer c.added-w.ensures.octets c.written_out.ensures.written
 
 pub placed-requires : goal.placed-requires
 placed-requires c =
     let w = c.writer_in.ensures.writer in
-        let s = state_kept c.args.buffer.now c.writer_in.result (seg c) c.added-w.result c.added-w.ensures.answer in
-        (flag_back c.args.writer.ero c.if-writer-gt1.false ∙ ap bit (sym (s.0 ∙ ap (λ (a : Writer). a.ero) w)), sym (s.1 ∙ ap (λ (a : Writer). a.form) w))
+    let s = state_kept c.args.buffer.now c.writer_in.result (seg c) c.added-w.result c.added-w.ensures.answer in
+    (flag_back c.args.writer.ero c.if-writer-gt1.false ∙ ap bit (sym (s.0 ∙ ap (λ (a : Writer). a.ero) w)), sym (s.1 ∙ ap (λ (a : Writer). a.form) w))
 
 pub returns : goal.returns
 returns c =
     let b = c.args.buffer.now in
-        by_writer (λ (w : Writer). add_answer b w (seg c)) (λ (w : Writer). add_buffer b w (seg c)) _ _ _ _ c.args.writer c.writer_in.ensures.writer
-        c.added-w.ensures.answer c.added-w.ensures.octets c.placed.ensures.placed
+    by_writer (λ (w : Writer). add_answer b w (seg c)) (λ (w : Writer). add_buffer b w (seg c)) _ _ _ _ c.args.writer c.writer_in.ensures.writer
+    c.added-w.ensures.answer c.added-w.ensures.octets c.placed.ensures.placed

@@ -1,5 +1,4 @@
 use Rattle.command.proofs.Laws.{skipped_empty, skipped_first}
-use borrow.Author.Rules.{rules}
 use Rattle.command.proofs.is_skipped.Goals as goal
 
 pub returns-then-line-eq0 : goal.returns-then-line-eq0

@@ -1,6 +1,5 @@
 use Rattle.decimal.specs.Decimal.{decimal_value}
 use mathlib.Core.Path.{◌∙◌, ap}
-use borrow.Author.Rules.{rules}
 use Rattle.command.proofs.number_at.Goals as goal
 
 pub returns : goal.returns

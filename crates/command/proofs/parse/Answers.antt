@@ -7,9 +7,7 @@ use Rattle.command_forms.specs.Forms.{rows, the_ero}
 use Rattle.command_forms.specs.Rows.{place_named, verb_at}
 use Rattle.command_forms.proofs.Laws.{verb_named_lem}
 use Rattle.command.proofs.Laws.{read_skipped, read_long, read_out_of_form, read_in_form}
-use borrow.Author.Tests.{not-true, not-false}
 use mathlib.Core.Path.{sym, ◌∙◌, ap}
-use borrow.Author.Rules.{rules}
 use Rattle.command.proofs.parse.Goals as goal
 
 pub returns-then-is_skipped : goal.returns-then-is_skipped
@@ -20,20 +18,24 @@ returns-then-line-gt-LONGEST_LINE c = record { read = c.alone-then-line-gt-LONGE
 
 pub returns-then-not-is_formed : goal.returns-then-not-is_formed
 returns-then-not-is_formed c =
-    let e = ap verb_at (c.place_named-place.ensures.place ∙ ap (place_named rows) c.word.ensures.word.0) ∙ verb_named_lem _ in record { read = c.alone-then-not-is_formed.ensures.bare
-        ∙ read_out_of_form _
-        (sym c.is_skipped.ensures.skipped ∙ c.if-is_skipped.false)
-        c.if-line-gt-LONGEST_LINE.false
-        (rw (← e) (sym c.is_formed.ensures.formed ∙ c.if-not-is_formed.true)) }
+    let e = ap verb_at (c.place_named-place.ensures.place ∙ ap (place_named rows) c.word.ensures.word.0) ∙ verb_named_lem _ in record {
+      read = c.alone-then-not-is_formed.ensures.bare
+          ∙ read_out_of_form _
+          (sym c.is_skipped.ensures.skipped ∙ c.if-is_skipped.false)
+          c.if-line-gt-LONGEST_LINE.false
+          (rw (← e) (sym c.is_formed.ensures.formed ∙ c.if-not-is_formed.true));
+    }
 
 pub returns : goal.returns
 returns c =
     let e = ap verb_at (c.place_named-place.ensures.place ∙ ap (place_named rows) c.word.ensures.word.0)
-        ∙ verb_named_lem _ in record { read = made _ (c.verb_at-verb.ensures.verb ∙ e)
-        (c.same-ero.ensures.same
-        ∙ ap (λ (w : List ℕ). same_octets w the_ero) c.word-2.ensures.word.0)
-        c.number_at-one.ensures.number c.number_at-two.ensures.number
-        c.number_at-three.ensures.number c.number_at-four.ensures.number
-        ∙ read_in_form _ (sym c.is_skipped.ensures.skipped ∙ c.if-is_skipped.false)
-        c.if-line-gt-LONGEST_LINE.false
-        (rw (← e) (sym c.is_formed.ensures.formed ∙ c.if-not-is_formed.false)) }
+    ∙ verb_named_lem _ in record {
+      read = made _ (c.verb_at-verb.ensures.verb ∙ e)
+          (c.same-ero.ensures.same
+          ∙ ap (λ (w : List ℕ). same_octets w the_ero) c.word-2.ensures.word.0)
+          c.number_at-one.ensures.number c.number_at-two.ensures.number
+          c.number_at-three.ensures.number c.number_at-four.ensures.number
+          ∙ read_in_form _ (sym c.is_skipped.ensures.skipped ∙ c.if-is_skipped.false)
+          c.if-line-gt-LONGEST_LINE.false
+          (rw (← e) (sym c.is_formed.ensures.formed ∙ c.if-not-is_formed.false));
+    }

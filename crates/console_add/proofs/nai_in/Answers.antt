@@ -11,6 +11,9 @@ use Rattle.console_add.proofs.nai_in.Goals as goal
 pub returns : goal.returns
 unfolding part_of part nai_in
 returns c =
-    record { nai = c.part40.ensures.part
+    record {
+      nai = c.part40.ensures.part
           ∙ ap (λ (x : List ℕ). over x (replicate 40 0))
-          (spelled _ _ c.octets_at-n.ensures.octets); room = c.octets_at-n.ensures.room }
+          (spelled _ _ c.octets_at-n.ensures.octets);
+      room = c.octets_at-n.ensures.room;
+    }

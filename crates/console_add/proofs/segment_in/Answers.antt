@@ -16,10 +16,13 @@ shape_of-room c = c.nai_in-nai.ensures.room ∙ c.sid_in-sid.ensures.room
 
 pub returns : goal.returns
 returns c =
-    record { segment = segment_made c.args.c
-              c.args.line.now c.sid_in-sid.ensures.sid
-              c.nai_in-nai.ensures.nai
-              (c.is_none.ensures.none ∙ ap is_none c.word-2.ensures.word.0)
-              (c.is_none-2.ensures.none ∙ ap is_none c.word-3.ensures.word.0)
-              (c.structure-structure.ensures.structure ∙ ap structure_of c.word.ensures.word.0)
-              c.number_at-labelled.ensures.number c.number_at-complete.ensures.number; room = c.nai_in-nai.ensures.room ∙ c.sid_in-sid.ensures.room }
+    record {
+      segment = segment_made c.args.c
+          c.args.line.now c.sid_in-sid.ensures.sid
+          c.nai_in-nai.ensures.nai
+          (c.is_none.ensures.none ∙ ap is_none c.word-2.ensures.word.0)
+          (c.is_none-2.ensures.none ∙ ap is_none c.word-3.ensures.word.0)
+          (c.structure-structure.ensures.structure ∙ ap structure_of c.word.ensures.word.0)
+          c.number_at-labelled.ensures.number c.number_at-complete.ensures.number;
+      room = c.nai_in-nai.ensures.room ∙ c.sid_in-sid.ensures.room;
+    }

@@ -11,6 +11,9 @@ use Rattle.console_add.proofs.sid_in.Goals as goal
 pub returns : goal.returns
 unfolding part_of part sid_in
 returns c =
-    record { sid = c.part16.ensures.part
+    record {
+      sid = c.part16.ensures.part
           ∙ ap (λ (x : List ℕ). over x (replicate 16 0))
-          (spelled _ _ c.octets_at-n.ensures.octets); room = c.octets_at-n.ensures.room }
+          (spelled _ _ c.octets_at-n.ensures.octets);
+      room = c.octets_at-n.ensures.room;
+    }

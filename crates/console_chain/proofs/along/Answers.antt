@@ -1,10 +1,7 @@
-use Prim.Native.Nat.{◌≤◌, ◌-◌}
+use Prim.Native.Nat.{◌-◌}
 use native.Mathlib.Omega.{arith}
-use mathlib.Core.Path.{◌≡◌, refl, sym, ◌∙◌}
-use lib.ListN.{length}
-use Rattle.board_record.specs.Sizes.{places}
-use Rattle.console_chain.proofs.Laws.{Along, along_none, along_more, along_stop, along_end}
-use borrow.Author.Rules.{rules}
+use mathlib.Core.Path.{refl, sym, ◌∙◌}
+use Rattle.console_chain.proofs.Laws.{along_none, along_more, along_stop, along_end}
 use Rattle.console_chain.proofs.along.Goals as goal
 
 pub loop-i-init : goal.loop-i-init
@@ -22,8 +19,8 @@ bounds-laid-i c = omega (arith, c.loop-i.invariant.2.long, c.loop-i-test.true)
 pub loop-i-preserved : goal.loop-i-preserved
 loop-i-preserved c =
     let inv = c.loop-i.invariant in
-        let l = c.loop-i-test.true in
-        (inv.0, omega (arith, l), along_more _ _ _ _ inv.2 inv.0 l refl c.if-n-eq0.false)
+    let l = c.loop-i-test.true in
+    (inv.0, omega (arith, l), along_more _ _ _ _ inv.2 inv.0 l refl c.if-n-eq0.false)
 
 pub shape_of-laid : goal.shape_of-laid
 shape_of-laid c = c.loop-i.invariant.2.long ∙ sym c.requires.1

@@ -1,9 +1,8 @@
 use Prim.Native.Nat.{◌≤◌, ◌-◌}
-use native.Mathlib.Omega.{arith}
-use mathlib.Core.Path.{◌≡◌, refl, sym, ◌∙◌}
+use mathlib.Core.Path.{◌≡◌}
 use lib.ListN.{length}
 use Rattle.board_record.specs.Sizes.{places}
-use Rattle.console_chain.proofs.Laws.{Along, along_none, along_more, along_stop, along_end}
+use Rattle.console_chain.proofs.Laws.{Along}
 use Rattle.console_chain.proofs.along.Given as goal
 
 abbrev pub invariant-loop-i : goal.invariant-loop-i

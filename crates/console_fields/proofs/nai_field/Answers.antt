@@ -17,16 +17,19 @@ slice_bounds-nai-end c = omega (arith, most c)
 pub slice_bounds-octets_field-end : goal.slice_bounds-octets_field-end
 slice_bounds-octets_field-end c =
     let e : length c.args.t4 ≡ 40 = search rules in
-        sym (length-take-le c.nai_length-n.result c.args.t4 (omega (arith, most c)))
+    sym (length-take-le c.nai_length-n.result c.args.t4 (omega (arith, most c)))
 
 pub octets_field-requires : goal.octets_field-requires
 octets_field-requires c = simp length-take (omega (arith, most c))
 
 pub returns : goal.returns
 returns c =
-    record { behind = rw c.nai_length-n.ensures.length.0 at c.octets_field.ensures.behind; short = omega (
-            arith,
-            c.octets_field.ensures.short,
-            length-take c.nai_length-n.result c.args.t4,
-            most c,
-          ) }
+    record {
+      behind = rw c.nai_length-n.ensures.length.0 at c.octets_field.ensures.behind;
+      short = omega (
+        arith,
+        c.octets_field.ensures.short,
+        length-take c.nai_length-n.result c.args.t4,
+        most c,
+      );
+    }

@@ -16,16 +16,19 @@ slice_bounds-sid-end c = omega (arith, most c)
 pub slice_bounds-octets_field-end : goal.slice_bounds-octets_field-end
 slice_bounds-octets_field-end c =
     let e : length c.args.t4 ≡ 16 = search rules in
-        sym (length-take-le c.pick-k.result c.args.t4 (omega (arith, most c)))
+    sym (length-take-le c.pick-k.result c.args.t4 (omega (arith, most c)))
 
 pub octets_field-requires : goal.octets_field-requires
 octets_field-requires c = simp length-take (omega (arith, most c, c.requires.0))
 
 pub returns : goal.returns
 returns c =
-    record { behind = rw (c.pick-k.ensures.picked.0, c.wide.ensures.same.0) at c.octets_field.ensures.behind; short = omega (
-            arith,
-            c.octets_field.ensures.short,
-            length-take c.pick-k.result c.args.t4,
-            most c,
-          ) }
+    record {
+      behind = rw (c.pick-k.ensures.picked.0, c.wide.ensures.same.0) at c.octets_field.ensures.behind;
+      short = omega (
+        arith,
+        c.octets_field.ensures.short,
+        length-take c.pick-k.result c.args.t4,
+        most c,
+      );
+    }

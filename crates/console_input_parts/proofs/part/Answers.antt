@@ -1,7 +1,6 @@
 use Rattle.words.specs.Words.{newline, until_mark, word_of}
 use Rattle.octets.proofs.Laws.{rest_lent}
-use Rattle.std.proofs.Common.{ℕ, List, ap, ◌∙◌, arith, length-drop, rules}
-use borrow.Author.Rules.{rules}
+use Rattle.std.proofs.Common.{ℕ, List, ap, ◌∙◌, arith, length-drop}
 use Rattle.console_input_parts.proofs.part.Goals as goal
 
 pub returns : goal.returns

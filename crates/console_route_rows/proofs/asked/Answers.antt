@@ -3,7 +3,6 @@ use Rattle.printing.proofs.Laws.{behind_by}
 use Rattle.command_rows.specs.declared.Asking.{Asking}
 use Rattle.console_state.specs.State.{list_in}
 use Rattle.console_route_rows.specs.Asked.{asked_line}
-use borrow.Author.Rules.{rules}
 use Rattle.console_route_rows.proofs.asked.Goals as goal
 
 pub returns-in-Ero : goal.returns-in-Ero

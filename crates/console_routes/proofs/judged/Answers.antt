@@ -8,4 +8,4 @@ pub returns : goal.returns
 unfolding route_line
 returns c =
     let a = c.args in let e = judged_told a.ero a.sessions a.c.one (spelled _ _ c.octets_at-n.ensures.octets) c.listed-list.ensures.listed
-        c.judge-v.ensures.judged in record { told = rw (← e) c.counted.ensures.told }
+    c.judge-v.ensures.judged in record { told = rw (← e) c.counted.ensures.told }

@@ -1,6 +1,5 @@
 use lib.Seq.{length-take-le}
 use mathlib.Core.Path.{sym}
-use borrow.Author.Rules.{rules}
 use Rattle.cut_objects.proofs.first.Goals as goal
 
 pub slice_bounds-result-end : goal.slice_bounds-result-end

@@ -1,6 +1,5 @@
 use Rattle.octets.proofs.Laws.{rest_lent}
 use mathlib.Core.Path.{◌∙◌}
-use borrow.Author.Rules.{rules}
 use Rattle.cut_objects.proofs.rest.Goals as goal
 
 pub returns : goal.returns

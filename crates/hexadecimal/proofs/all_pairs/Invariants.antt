@@ -1,8 +1,7 @@
-use Rattle.hexadecimal.proofs.Laws.{all_hex, pairs_even, pairs_odd, hex_miss, hex_hit, hex_end}
+use Rattle.hexadecimal.proofs.Laws.{all_hex}
 use lib.ListN.{length, drop}
 use Prim.Native.Nat.{◌-◌, ◌≤◌}
-use mathlib.Core.Path.{◌≡◌, refl, sym, ◌∙◌}
-use native.Mathlib.Omega.{arith}
+use mathlib.Core.Path.{◌≡◌}
 use Rattle.hexadecimal.proofs.all_pairs.Given as goal
 
 abbrev pub invariant-loop-i : goal.invariant-loop-i

@@ -1,8 +1,8 @@
 use Rattle.hexadecimal.proofs.Laws.{length_octets, octets_at, copied_all}
 use Rattle.hexadecimal.specs.Hexadecimal.{octets_of}
-use Rattle.octets.proofs.Laws.{copied, copied_more}
+use Rattle.octets.proofs.Laws.{copied_more}
 use lib.ListN.{length, length-set}
-use Prim.Native.Nat.{◌-◌, ◌*◌, ◌/◌, ◌≤◌}
+use Prim.Native.Nat.{◌-◌}
 use mathlib.Core.Path.{◌≡◌, refl, ◌∙◌}
 use native.Mathlib.Omega.{arith}
 use borrow.Author.Rules.{rules}
@@ -38,13 +38,13 @@ loop-n-smaller c = omega arith
 pub loop-n-preserved : goal.loop-n-preserved
 loop-n-preserved c =
     let args = c.args in (
-          omega arith,
-          simp length-set c.loop-n.invariant.1,
-          c.loop-n.invariant.2,
-          rw (c.loop-n.invariant.3, c.pair.ensures.pair, ← octets_at args.word.now c.loop-n.n (omega arith))
-              (copied_more args.out.now (octets_of args.word.now) c.loop-n.n (omega arith)
-              (omega (arith, length_octets args.word.now))),
-        )
+      omega arith,
+      simp length-set c.loop-n.invariant.1,
+      c.loop-n.invariant.2,
+      rw (c.loop-n.invariant.3, c.pair.ensures.pair, ← octets_at args.word.now c.loop-n.n (omega arith))
+          (copied_more args.out.now (octets_of args.word.now) c.loop-n.n (omega arith)
+          (omega (arith, length_octets args.word.now))),
+    )
 
 pub shape_of-out : goal.shape_of-out
 shape_of-out c = c.loop-n.invariant.1

@@ -1,10 +1,8 @@
-use Rattle.hexadecimal.proofs.Laws.{length_octets, octets_at, copied_all}
 use Rattle.hexadecimal.specs.Hexadecimal.{octets_of}
-use Rattle.octets.proofs.Laws.{copied, copied_more}
-use lib.ListN.{length, length-set}
+use Rattle.octets.proofs.Laws.{copied}
+use lib.ListN.{length}
 use Prim.Native.Nat.{◌-◌, ◌*◌, ◌/◌, ◌≤◌}
-use mathlib.Core.Path.{◌≡◌, refl, ◌∙◌}
-use native.Mathlib.Omega.{arith}
+use mathlib.Core.Path.{◌≡◌}
 use Rattle.hexadecimal.proofs.decode.Given as goal
 
 abbrev pub invariant-loop-n : goal.invariant-loop-n

@@ -1,5 +1,4 @@
 use Rattle.hexadecimal.specs.Hexadecimal.{is_octets}
-use borrow.Author.Rules.{rules}
 use Rattle.hexadecimal.proofs.is_octets.Goals as goal
 
 pub returns : goal.returns

@@ -1,6 +1,5 @@
 use Rattle.hexadecimal.specs.Hexadecimal.{pair_of}
 use Prim.Native.Nat.{◌-◌}
-use borrow.Author.Rules.{rules}
 use Rattle.hexadecimal.proofs.pair.Goals as goal
 
 pub returns : goal.returns

@@ -27,17 +27,17 @@ loop-i-smaller c = omega arith
 pub loop-i-preserved : goal.loop-i-preserved
 loop-i-preserved c =
     let number = c.number-end in
-        let push = c.push-end in
-        let loop = c.loop-i in (
-          omega (arith, c.loop-i-test.true),
-          omega (arith, loop.invariant.1, push.ensures.behind.ends, number.ensures.short),
-          loop.invariant.2,
-          number.ensures.behind.room ∙ push.ensures.behind.room ∙ loop.invariant.3,
-          rw
-              (← further_more c.args.s.now loop.i _
-              c.loop-i-test.true c.wide-x.ensures.same.0)
-              (then loop.invariant.4 (then push.ensures.behind number.ensures.behind)),
-        )
+    let push = c.push-end in
+    let loop = c.loop-i in (
+      omega (arith, c.loop-i-test.true),
+      omega (arith, loop.invariant.1, push.ensures.behind.ends, number.ensures.short),
+      loop.invariant.2,
+      number.ensures.behind.room ∙ push.ensures.behind.room ∙ loop.invariant.3,
+      rw
+          (← further_more c.args.s.now loop.i _
+          c.loop-i-test.true c.wide-x.ensures.same.0)
+          (then loop.invariant.4 (then push.ensures.behind number.ensures.behind)),
+    )
 
 pub shape_of-out : goal.shape_of-out
 shape_of-out c = c.loop-i.invariant.3

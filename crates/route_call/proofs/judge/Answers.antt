@@ -1,7 +1,6 @@
 use mathlib.Core.Path.{ap, ◌∙◌}
 use Rattle.session.specs.declared.Session.{Session}
 use Rattle.route_call.specs.Called.{judged_in}
-use borrow.Author.Rules.{rules}
 use Rattle.route_call.proofs.judge.Goals as goal
 
 pub returns : goal.returns

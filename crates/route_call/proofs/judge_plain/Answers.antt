@@ -1,17 +1,19 @@
 use mathlib.Core.Path.{refl}
 use Rattle.route.specs.Parts.{session_by}
 use Rattle.route_call.proofs.Laws.{judged_28, judged_own}
-use borrow.Author.Tests.{not-true, not-false}
-use borrow.Author.Rules.{rules}
 use Rattle.route_call.proofs.judge_plain.Goals as goal
 
 pub returns-then-not-usable : goal.returns-then-not-usable
 returns-then-not-usable c =
-    let args = c.args in record { judged = judged_28 args.s.now args.ero (session_by args.agreed args.n args.has args.most) args.pst args.addresses.now
-        c.usable.ensures.usable (c.if-not-usable.true)
-        c.refused.ensures.refused }
+    let args = c.args in record {
+      judged = judged_28 args.s.now args.ero (session_by args.agreed args.n args.has args.most) args.pst args.addresses.now
+          c.usable.ensures.usable (c.if-not-usable.true)
+          c.refused.ensures.refused;
+    }
 
 pub returns : goal.returns
 returns c =
-    let args = c.args in record { judged = judged_own args.s.now args.ero (session_by args.agreed args.n args.has args.most) args.pst args.addresses.now c.usable.ensures.usable
-        (c.if-not-usable.false) refl refl refl c.judge_parts.ensures.judged }
+    let args = c.args in record {
+      judged = judged_own args.s.now args.ero (session_by args.agreed args.n args.has args.most) args.pst args.addresses.now c.usable.ensures.usable
+          (c.if-not-usable.false) refl refl refl c.judge_parts.ensures.judged;
+    }

@@ -1,5 +1,4 @@
 use Rattle.route_limit.specs.FirstOff.{is_adjacency}
-use borrow.Author.Rules.{rules}
 use Rattle.route_limit.proofs.adjacency.Goals as goal
 
 pub returns : goal.returns

@@ -1,6 +1,5 @@
 use Rattle.route_limit.proofs.Laws.{in_rro, by_r, by_none, without_encaps, by_a, not_by_a}
 use borrow.Author.Tests.{not-true, not-false}
-use borrow.Author.Rules.{rules}
 use Rattle.route_limit.proofs.limit_for.Goals as goal
 
 pub returns-then-not-ero : goal.returns-then-not-ero
@@ -17,8 +16,10 @@ returns-then-v-ge-ABSENT c = let args = c.args in record { limit = without_encap
 
 pub returns-then-own_adjacency : goal.returns-then-own_adjacency
 returns-then-own_adjacency c =
-    let args = c.args in record { limit = by_a args.s.now args.ero args.session args.addresses.now (c.if-not-ero.false)
-        (not-false _ c.if-not-session.false) c.own_adjacency.ensures.own c.if-own_adjacency.true c.one_more-then-own_adjacency.ensures.more }
+    let args = c.args in record {
+      limit = by_a args.s.now args.ero args.session args.addresses.now (c.if-not-ero.false)
+          (not-false _ c.if-not-session.false) c.own_adjacency.ensures.own c.if-own_adjacency.true c.one_more-then-own_adjacency.ensures.more;
+    }
 
 pub returns : goal.returns
 returns c = let args = c.args in record { limit = not_by_a args.s.now args.ero args.session args.addresses.now c.if-session.false c.own_adjacency.ensures.own c.if-own_adjacency.false }

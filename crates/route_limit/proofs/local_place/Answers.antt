@@ -1,8 +1,9 @@
 use Rattle.route_limit.proofs.Laws.{place_told}
-use borrow.Author.Rules.{rules}
 use Rattle.route_limit.proofs.local_place.Goals as goal
 
 pub returns : goal.returns
 returns c =
-    record { place = place_told c.args.flags c.srv6-form.ensures.form c.wide-fixed.ensures.same.0 c.wide-sid.ensures.same.0
-        c.flag.ensures.flag.0 c.pick.ensures.picked.0 c.pick.ensures.picked.1 }
+    record {
+      place = place_told c.args.flags c.srv6-form.ensures.form c.wide-fixed.ensures.same.0 c.wide-sid.ensures.same.0
+          c.flag.ensures.flag.0 c.pick.ensures.picked.0 c.pick.ensures.picked.1;
+    }

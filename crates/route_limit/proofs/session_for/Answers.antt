@@ -1,5 +1,4 @@
 use Rattle.route_limit.specs.FirstOff.{session_for}
-use borrow.Author.Rules.{rules}
 use Rattle.route_limit.proofs.session_for.Goals as goal
 
 pub returns : goal.returns

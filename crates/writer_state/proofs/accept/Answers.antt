@@ -1,4 +1,3 @@
-use borrow.Author.Rules.{rules}
 use Rattle.writer_state.proofs.accept.Goals as goal
 
 pub returns : goal.returns

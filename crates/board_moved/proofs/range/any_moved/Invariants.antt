@@ -1,10 +1,9 @@
 use Prim.Native.Nat.{◌≤◌, ◌-◌, ◌*◌}
-use native.Mathlib.Omega.{arith}
 use mathlib.Core.Path.{◌≡◌}
 use mathlib.Core.Bool.{true}
 use Rattle.board_record.specs.Sizes.{group, groups}
 use Rattle.board_record.specs.Tops.{in_tops}
-use Rattle.board_moved.proofs.Ranges.{Still, still_none, still_looked, still_passed, moved_here, none_moved}
+use Rattle.board_moved.proofs.Ranges.{Still}
 use Rattle.board_moved.proofs.range.any_moved.Given as goal
 
 abbrev pub invariant-loop-g : goal.invariant-loop-g

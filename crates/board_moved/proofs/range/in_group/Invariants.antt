@@ -1,12 +1,9 @@
 use Prim.Native.Nat.{◌≤◌, ◌<◌, ◌-◌, ◌+◌, ◌*◌}
-use native.Mathlib.Omega.{arith}
-use mathlib.Core.Path.{◌≡◌, refl, sym, ap, ◌∙◌}
+use mathlib.Core.Path.{◌≡◌}
 use mathlib.Core.Bool.{false}
 use Rattle.board_record.specs.Sizes.{group, groups}
 use Rattle.board_record.specs.Lists.{any_below}
 use Rattle.board_record.specs.Search.{moved_b}
-use Rattle.board_record.proofs.Looks.{any_none, any_more, any_of}
-use Rattle.board_moved.proofs.Ranges.{place_moved}
 use Rattle.board_moved.proofs.range.in_group.Given as goal
 
 abbrev pub invariant-loop-j : goal.invariant-loop-j

@@ -1,7 +1,6 @@
 use mathlib.Core.Path.{◌∙◌}
 use native.Mathlib.Omega.{arith}
 use borrow.Author.Tests.{eq-eqb, ne_eqb, le-leb, lt-leb}
-use borrow.Author.Rules.{rules}
 use Rattle.board_moved.proofs.range.is_moved.Goals as goal
 
 pub returns-then-key-eq0 : goal.returns-then-key-eq0

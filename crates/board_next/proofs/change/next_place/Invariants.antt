@@ -1,9 +1,8 @@
 -- The invariant: no place before number i is wanted. A way out is a wanted place, or the end of the places.
 use Prim.Native.Nat.{◌-◌}
-use native.Mathlib.Omega.{arith}
 use Rattle.board_record.specs.Sizes.{places}
 use Rattle.board_record.specs.Table.{table_of}
-use Rattle.board_next.proofs.Along.{Along, on_chain, along_start, along_more, found_newer, found_path, none_here, none_left}
+use Rattle.board_next.proofs.Along.{Along}
 use Rattle.board_next.proofs.change.next_place.Given as goal
 
 abbrev pub invariant-loop-i : goal.invariant-loop-i

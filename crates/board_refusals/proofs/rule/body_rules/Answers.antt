@@ -2,7 +2,6 @@ use Rattle.octets.proofs.Tests.{tests}
 use mathlib.Core.Path.{◌∙◌}
 use Rattle.board_rules.specs.Body.{body_rules}
 use Rattle.board_rules.specs.Rules.{in_range}
-use borrow.Author.Rules.{rules}
 use Rattle.board_refusals.proofs.rule.body_rules.Goals as goal
 
 pub returns-then-key-lt-KEY_LEAST : goal.returns-then-key-lt-KEY_LEAST

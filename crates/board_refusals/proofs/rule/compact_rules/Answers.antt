@@ -1,7 +1,6 @@
 use Rattle.octets.proofs.Tests.{tests}
 use mathlib.Core.Path.{◌∙◌}
 use Rattle.board_rules.specs.Compact.{compact_rules}
-use borrow.Author.Rules.{rules}
 use Rattle.board_refusals.proofs.rule.compact_rules.Goals as goal
 
 pub returns-then-version-c : goal.returns-then-version-c

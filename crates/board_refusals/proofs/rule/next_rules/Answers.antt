@@ -2,7 +2,6 @@ use Rattle.board_rules.proofs.Shared.{larger_below, larger_from}
 use Rattle.octets.proofs.Tests.{tests}
 use mathlib.Core.Path.{◌∙◌}
 use Rattle.board_rules.specs.Next.{next_rules}
-use borrow.Author.Rules.{rules}
 use Rattle.board_refusals.proofs.rule.next_rules.Goals as goal
 
 pub returns-then-version-s : goal.returns-then-version-s

@@ -2,7 +2,6 @@ use Rattle.octets.proofs.Tests.{tests}
 use Rattle.board_rules.specs.Rules.{is_board}
 use Rattle.board_rules.specs.OnRecord.{is_record}
 use Rattle.board_rules.proofs.Shared.{board_long}
-use borrow.Author.Rules.{rules}
 use Rattle.board_rule17.proofs.places.is_board.Goals as goal
 
 pub returns-then-n-lt-STORE_SIZE : goal.returns-then-n-lt-STORE_SIZE

@@ -1,7 +1,6 @@
 use Rattle.octets.proofs.Tests.{tests}
 use mathlib.Core.Path.{◌∙◌}
 use Rattle.board_rules.specs.Parts.{in_column}
-use borrow.Author.Rules.{rules}
 use Rattle.board_rule17.proofs.places.length_in.Goals as goal
 
 pub returns-then-at-lt-PLACES : goal.returns-then-at-lt-PLACES

@@ -1,5 +1,4 @@
 use Rattle.octets.proofs.Tests.{tests}
-use borrow.Author.Rules.{rules}
 use Rattle.board_sweep.proofs.sweeping.is_dropped.Goals as goal
 
 pub returns-then-l-ne0 : goal.returns-then-l-ne0

@@ -1,11 +1,9 @@
 -- The invariant: the first i places are swept, the others as they were, and nothing changed so far if nothing was dropped. A turn empties a place (`sweep_take`) or
 -- passes it (`sweep_skip`).
-use native.Mathlib.Omega.{arith}
 use Prim.Native.Nat.{◌≤◌, ◌-◌}
-use mathlib.Core.Path.{◌≡◌, refl}
+use mathlib.Core.Path.{◌≡◌}
 use mathlib.Core.Bool.{false}
-use Rattle.board_record.proofs.Logic.{true≢false}
-use Rattle.board_sweep.proofs.Sweeps.{Sweeping, sweep_none, sweep_take, sweep_skip, sweep_keys, sweep_versions}
+use Rattle.board_sweep.proofs.Sweeps.{Sweeping}
 use Rattle.board_sweep.proofs.sweeping.sweep.Given as goal
 
 abbrev pub invariant-loop-i : goal.invariant-loop-i

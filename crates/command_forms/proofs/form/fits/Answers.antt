@@ -2,7 +2,6 @@
 use Rattle.command_forms.proofs.Laws.{by_letter, no_letter}
 use Rattle.command_forms.specs.Forms.Kind.{number, bit, octet, two_octets, size, octets, side, sid, nai, structure}
 use Rattle.decimal.proofs.Laws.{or}
-use borrow.Author.Rules.{rules}
 use Rattle.command_forms.proofs.form.fits.Goals as goal
 
 pub returns-in-110 : goal.returns-in-110
@@ -25,8 +24,10 @@ returns-in-111 c = record { fits = by_letter octets _ c.in-111.is c.is_octets.en
 
 pub returns-in-101 : goal.returns-in-101
 returns-in-101 c =
-    record { fits = by_letter side _ c.in-101.is
-        (or c.either.ensures.either c.same.ensures.same c.same-in-101.ensures.same) }
+    record {
+      fits = by_letter side _ c.in-101.is
+          (or c.either.ensures.either c.same.ensures.same c.same-in-101.ensures.same);
+    }
 
 pub returns-in-115 : goal.returns-in-115
 returns-in-115 c = record { fits = by_letter sid _ c.in-115.is c.is_sid.ensures.sid }

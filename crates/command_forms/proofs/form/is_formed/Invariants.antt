@@ -1,14 +1,12 @@
 -- The letters of the row's form are found in the table's text (`form_in`). Then a walk over them: `LettersLeft` says that what is left of the letters gives
 -- the whole answer, with one law for each way out of a turn.
-use Rattle.command_forms.proofs.Laws.{form_in, LettersLeft, other_number, fitting_start, fitting_miss, fitting_hit, fitting_end}
+use Rattle.command_forms.proofs.Laws.{LettersLeft}
 use Rattle.command_forms.specs.Forms.{kinds_of}
-use Rattle.command_forms.specs.Rows.{verb_at, letter, fits_letter}
-use borrow.Author.Tests.{not-true, not-false}
-use Prim.Native.Nat.{ℕ, ◌-◌}
-use mathlib.Core.List.{List, map}
-use mathlib.Core.Path.{◌≡◌, refl, sym, ◌∙◌, ap}
-use lib.ListN.{length, get_or}
-use native.Mathlib.Omega.{arith}
+use Rattle.command_forms.specs.Rows.{verb_at, letter}
+use Prim.Native.Nat.{◌-◌}
+use mathlib.Core.List.{map}
+use mathlib.Core.Path.{◌≡◌}
+use lib.ListN.{length}
 use Rattle.command_forms.proofs.form.is_formed.Given as goal
 
 abbrev pub invariant-loop-i : goal.invariant-loop-i

@@ -1,5 +1,4 @@
 use Rattle.command_forms.proofs.Laws.{no_place}
-use borrow.Author.Rules.{rules}
 use Rattle.command_forms.proofs.verb.verb_at.Goals as goal
 
 pub returns-in_default : goal.returns-in_default

@@ -1,4 +1,3 @@
-use borrow.Author.Rules.{rules}
 use Rattle.console_board.proofs.change.removed.Goals as goal
 
 pub returns : goal.returns

@@ -2,7 +2,6 @@ use native.Mathlib.Omega.{arith}
 use Rattle.console_state.proofs.Laws.{spelled}
 use Rattle.board_report_by_value.specs.ByValue.{report_by_value, report_store_by_value}
 use mathlib.Core.Path.{◌∙◌}
-use borrow.Author.Rules.{rules}
 use Rattle.console_board.proofs.change.reported.Goals as goal
 
 pub counted-requires : goal.counted-requires

@@ -1,7 +1,6 @@
 use Rattle.console_board.specs.BoardLines.{moved_line}
 use Rattle.console_state.proofs.Laws.{told_refused, told_accepted}
 use Rattle.console_lines.specs.Lines.{one_line}
-use borrow.Author.Rules.{rules}
 use Rattle.console_board.proofs.look.moved.Goals as goal
 
 pub returns-then-v-ne0 : goal.returns-then-v-ne0

@@ -1,7 +1,6 @@
 use Rattle.octets.specs.Octets.{part}
 use Prim.Native.Nat.{◌*◌}
 use native.Mathlib.Nat.{add-sub_cancel_left}
-use borrow.Author.Rules.{rules}
 use Rattle.console_board.proofs.look.named.Goals as goal
 
 pub returns : goal.returns

@@ -12,13 +12,13 @@ slice_bounds-answered-end c = sym (length-take-le c.args.h.kept c.args.line.now 
 pub answered-turn-requires : goal.answered-turn-requires
 answered-turn-requires c =
     let p = c.requires in
-        record {
-          spells = omega (arith, length-take-le c.args.h.kept c.args.line.now p.within, p.within, p.rooms.spells);
-          buffer = p.rooms.buffer;
-          stored = p.rooms.stored;
-          lent = p.rooms.lent;
-          listed = omega (arith, length-take-le c.args.h.kept c.args.line.now p.within, p.within, p.rooms.listed);
-        }
+    record {
+      spells = omega (arith, length-take-le c.args.h.kept c.args.line.now p.within, p.within, p.rooms.spells);
+      buffer = p.rooms.buffer;
+      stored = p.rooms.stored;
+      lent = p.rooms.lent;
+      listed = omega (arith, length-take-le c.args.h.kept c.args.line.now p.within, p.within, p.rooms.listed);
+    }
 
 pub returns : goal.returns
 unfolding next_number

@@ -5,5 +5,8 @@ use Rattle.console_dialogue.proofs.line.keep.Goals as goal
 
 pub returns : goal.returns
 returns c =
-    let a = c.args in record { kept = kept_more a.line.now a.part.now c.lay.new.out a.kept c.fit-n.result
-              c.requires c.fit-n.ensures.1 c.lay.ensures.laid; within = omega (arith, c.fit-n.ensures.1, c.requires) }
+    let a = c.args in record {
+      kept = kept_more a.line.now a.part.now c.lay.new.out a.kept c.fit-n.result
+          c.requires c.fit-n.ensures.1 c.lay.ensures.laid;
+      within = omega (arith, c.fit-n.ensures.1, c.requires);
+    }

@@ -10,23 +10,22 @@ use borrow.Author.Rules.{rules}
 use Rattle.console_dialogue.proofs.listening.go_on.Goals as goal
 
 pub loop-turns-init : goal.loop-turns-init
-loop-turns-init c =
-    (
-          refl,
-          refl,
-          refl,
-          refl,
-          refl,
-          omega arith,
-          reached_start
-              (start_made c.args.line.now c.args.memory.now c.start-state.ensures.start c.requires.0),
-        )
+loop-turns-init c = (
+  refl,
+  refl,
+  refl,
+  refl,
+  refl,
+  omega arith,
+  reached_start
+      (start_made c.args.line.now c.args.memory.now c.start-state.ensures.start c.requires.0),
+)
 
 pub listen-l-requires : goal.listen-l-requires
 listen-l-requires c =
     let i = c.loop-turns.invariant in
-        let p = c.requires in
-        still_ready p.1 i.0 i.1 i.2 i.3 i.4 i.5
+    let p = c.requires in
+    still_ready p.1 i.0 i.1 i.2 i.3 i.4 i.5
 
 pub overflow_sub-turns : goal.overflow_sub-turns
 overflow_sub-turns c = omega arith
@@ -37,15 +36,15 @@ loop-turns-smaller c = omega arith
 pub loop-turns-preserved : goal.loop-turns-preserved
 loop-turns-preserved c =
     let t = c.listen-l in
-        let i = c.loop-turns.invariant in (
-          t.auto.1.0 ∙ i.0,
-          t.auto.1.1.0 ∙ i.1,
-          t.auto.1.1.1.0 ∙ i.2,
-          t.auto.1.1.1.1.0 ∙ i.3,
-          t.auto.1.1.1.1.1.0 ∙ i.4,
-          omega (arith, t.ensures.1, i.0),
-          t.ensures.0 i.6,
-        )
+    let i = c.loop-turns.invariant in (
+      t.auto.1.0 ∙ i.0,
+      t.auto.1.1.0 ∙ i.1,
+      t.auto.1.1.1.0 ∙ i.2,
+      t.auto.1.1.1.1.0 ∙ i.3,
+      t.auto.1.1.1.1.1.0 ∙ i.4,
+      omega (arith, t.ensures.1, i.0),
+      t.ensures.0 i.6,
+    )
 
 pub shape_of-line-else-more : goal.shape_of-line-else-more
 shape_of-line-else-more c = c.loop-turns.invariant.0

@@ -13,14 +13,14 @@ returns-then-got-gt0 c = let take-all-ensures = c.take_all-heard.ensures in reco
 pub slice_bounds-write_all-end : goal.slice_bounds-write_all-end
 slice_bounds-write_all-end c =
     let answer-ensures-1-0 = c.answer-said.ensures.1.0 in
-        omega (arith, text_within answer-ensures-1-0, answer-ensures-1-0.room)
+    omega (arith, text_within answer-ensures-1-0, answer-ensures-1-0.room)
 
 pub slice_bounds-write_all-end-2 : goal.slice_bounds-write_all-end-2
 slice_bounds-write_all-end-2 c =
     let answer = c.answer-said in
-        sym
-        (length-take-le answer.result.end answer.new.1.1.1.1.1.0
-        (omega (arith, text_within answer.ensures.1.0, answer.ensures.1.0.room)))
+    sym
+    (length-take-le answer.result.end answer.new.1.1.1.1.1.0
+    (omega (arith, text_within answer.ensures.1.0, answer.ensures.1.0.room)))
 
 pub returns : goal.returns
 returns c = let answer-ensures = c.answer-said.ensures in record { reached = λ r. reached_ended answer-ensures.0 r; within = omega (arith, answer-ensures.1.1) }

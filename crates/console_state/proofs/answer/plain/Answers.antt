@@ -1,7 +1,6 @@
 use Rattle.console_state.proofs.Laws.{told_refused, told_accepted}
 use Rattle.console_lines.specs.Lines.{done_line}
 use Rattle.console_state.specs.Answers.{plain_line}
-use borrow.Author.Rules.{rules}
 use Rattle.console_state.proofs.answer.plain.Goals as goal
 
 pub returns-then-v-ne0 : goal.returns-then-v-ne0

@@ -2,7 +2,6 @@ use lib.Seq.{length-take-le}
 use lib.ListN.{length}
 use mathlib.Core.Path.{sym}
 use native.Mathlib.Omega.{arith}
-use borrow.Author.Rules.{rules}
 use Rattle.console_state.proofs.cut.fit.Goals as goal
 
 pub returns-then-n-s : goal.returns-then-n-s

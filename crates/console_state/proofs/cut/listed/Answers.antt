@@ -1,5 +1,4 @@
 use Rattle.console_state.proofs.Laws.{list_short, list_part}
-use borrow.Author.Rules.{rules}
 use Rattle.console_state.proofs.cut.listed.Goals as goal
 
 pub returns-then-memory-lt-MOST_SIZE : goal.returns-then-memory-lt-MOST_SIZE

@@ -1,4 +1,3 @@
-use borrow.Author.Rules.{rules}
 use Rattle.console_state.proofs.state.start.Goals as goal
 
 pub returns : goal.returns

@@ -23,8 +23,8 @@ loop-i-smaller c = omega arith
 pub loop-i-preserved : goal.loop-i-preserved
 loop-i-preserved c =
     let l = c.loop-i in
-        let b = c.args.buffer.now in
-        (omega arith, length-set l.buffer _ _ ∙ l.invariant.1, rw l.invariant.2 (filled_more b l.i (omega arith)))
+    let b = c.args.buffer.now in
+    (omega arith, length-set l.buffer _ _ ∙ l.invariant.1, rw l.invariant.2 (filled_more b l.i (omega arith)))
 
 pub shape_of-buffer : goal.shape_of-buffer
 shape_of-buffer c = c.loop-i.invariant.1

@@ -4,7 +4,6 @@ use native.Mathlib.Omega.{arith}
 use borrow.Author.Tests.{leb-true}
 use Rattle.forms.specs.declared.Form.{Form}
 use Rattle.route_rules.specs.SessionRules.{rule13}
-use borrow.Author.Rules.{rules}
 use Rattle.route.proofs.judgement.accepts.Goals as goal
 
 pub returns-then-x-eq0 : goal.returns-then-x-eq0

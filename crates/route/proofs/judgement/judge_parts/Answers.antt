@@ -1,6 +1,5 @@
 use mathlib.Core.Path.{◌∙◌}
 use Rattle.route.proofs.Setups.{pass_accepts}
-use borrow.Author.Rules.{rules}
 use Rattle.route.proofs.judgement.judge_parts.Goals as goal
 
 pub returns-then-accepts : goal.returns-then-accepts

@@ -1,4 +1,3 @@
-use borrow.Author.Rules.{rules}
 use Rattle.route.proofs.judgement.made.Goals as goal
 
 pub returns-then-has : goal.returns-then-has

@@ -1,13 +1,11 @@
 use mathlib.Core.Path.{sym, ◌∙◌, subst}
 use native.Mathlib.Omega.{arith}
-use borrow.Author.Tests.{not-false}
 use Rattle.octets.specs.Octets.{be16}
 use Rattle.forms.specs.declared.Form.{Form}
 use Rattle.forms.proofs.Laws.{form_mpls, form_srv6}
 use Rattle.frame.proofs.Laws.{headed_sized}
 use Rattle.route_pass.specs.Settled.{SettledBy}
 use Rattle.route_pass.proofs.Pass.{unsettled}
-use borrow.Author.Rules.{rules}
 use Rattle.route.proofs.judgement.seen.Goals as goal
 
 pub returns-then-not-is_headed : goal.returns-then-not-is_headed
@@ -17,8 +15,8 @@ pub see_mpls-requires : goal.see_mpls-requires
 unfolding be16
 see_mpls-requires c =
     let known = c.type_inv.s in
-        let headed = sym c.is_headed.ensures.headed ∙ c.if-not-is_headed.false in
-        (headed, omega (arith, (headed_sized _ _ headed).read, known 2, known 3))
+    let headed = sym c.is_headed.ensures.headed ∙ c.if-not-is_headed.false in
+    (headed, omega (arith, (headed_sized _ _ headed).read, known 2, known 3))
 
 pub returns-then-pst-eq-MPLS_SETUP : goal.returns-then-pst-eq-MPLS_SETUP
 returns-then-pst-eq-MPLS_SETUP c = let args = c.args in record { settled = subst (λ (form : Form). SettledBy form args.s.now args.ero args.n c.see_mpls.result) (form_mpls args.pst c.if-pst-eq-MPLS_SETUP.true) c.see_mpls.ensures.settled }
@@ -27,8 +25,8 @@ pub see_srv6-requires : goal.see_srv6-requires
 unfolding be16
 see_srv6-requires c =
     let known = c.type_inv.s in
-        let headed = sym c.is_headed.ensures.headed ∙ c.if-not-is_headed.false in
-        (headed, omega (arith, (headed_sized _ _ headed).read, known 2, known 3))
+    let headed = sym c.is_headed.ensures.headed ∙ c.if-not-is_headed.false in
+    (headed, omega (arith, (headed_sized _ _ headed).read, known 2, known 3))
 
 pub returns : goal.returns
 returns c = let args = c.args in record { settled = subst (λ (form : Form). SettledBy form args.s.now args.ero args.n c.see_srv6.result) (form_srv6 args.pst c.if-pst-eq-MPLS_SETUP.false) c.see_srv6.ensures.settled }

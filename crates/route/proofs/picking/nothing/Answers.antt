@@ -1,4 +1,3 @@
-use borrow.Author.Rules.{rules}
 use Rattle.route.proofs.picking.nothing.Goals as goal
 
 pub returns : goal.returns

@@ -1,6 +1,5 @@
 use Rattle.forms.proofs.Laws.{sized_by}
 use Rattle.route.proofs.Setups.{picked_named}
-use borrow.Author.Rules.{rules}
 use Rattle.route.proofs.picking.segment.Goals as goal
 
 pub segment_as-requires : goal.segment_as-requires

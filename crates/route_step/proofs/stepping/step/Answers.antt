@@ -1,6 +1,5 @@
 use Rattle.forms.proofs.Laws.{form_mpls, form_srv6}
 use Rattle.route_step.proofs.Laws.{by_named}
-use borrow.Author.Rules.{rules}
 use Rattle.route_step.proofs.stepping.step.Goals as goal
 
 pub returns-then-pst-eq-MPLS_SETUP : goal.returns-then-pst-eq-MPLS_SETUP

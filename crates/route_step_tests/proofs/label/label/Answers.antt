@@ -1,6 +1,5 @@
 use mathlib.Core.Path.{◌∙◌}
 use Rattle.route_step_tests.proofs.Laws.{entry_label}
-use borrow.Author.Rules.{rules}
 use Rattle.route_step_tests.proofs.label.label.Goals as goal
 
 pub returns : goal.returns

@@ -1,5 +1,4 @@
 use Rattle.route_step_tests.proofs.Laws.{in_the_header, no_multiple_of_4, by_the_end}
-use borrow.Author.Rules.{rules}
 use Rattle.route_step_tests.proofs.place.is_outside.Goals as goal
 
 pub returns-then-at-lt-HEADER : goal.returns-then-at-lt-HEADER

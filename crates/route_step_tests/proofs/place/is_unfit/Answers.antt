@@ -1,6 +1,5 @@
 use Rattle.octets.specs.Octets.{octet_of}
 use Rattle.route_step_tests.proofs.Laws.{unfit_unit, unfit_room, unfit_multiple, unfit_short}
-use borrow.Author.Rules.{rules}
 use Rattle.route_step_tests.proofs.place.is_unfit.Goals as goal
 
 pub returns-then-room-lt-UNIT : goal.returns-then-room-lt-UNIT

@@ -2,7 +2,6 @@ use Rattle.octets.proofs.Said.{said_no, said_yes}
 use Rattle.writer_front.proofs.Laws.{before_stray, before_sid, before_structure, before_spare, before_none}
 use mathlib.Core.Path.{ap}
 use mathlib.Core.Bool.{not}
-use borrow.Author.Rules.{rules}
 use Rattle.writer_front.proofs.lengths.before.Goals as goal
 
 pub returns-then-not-sid_tidy : goal.returns-then-not-sid_tidy

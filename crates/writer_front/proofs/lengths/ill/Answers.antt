@@ -1,6 +1,5 @@
 use Rattle.forms.specs.Forms.{mpls_form}
 use Rattle.writer_front.proofs.Laws.{ill_labelled, ill_other}
-use borrow.Author.Rules.{rules}
 use Rattle.writer_front.proofs.lengths.ill.Goals as goal
 
 pub returns-then-o : goal.returns-then-o

@@ -2,7 +2,6 @@ use mathlib.Core.Path.{◌∙◌}
 use native.Mathlib.Omega.{arith}
 use Rattle.forms.proofs.Laws.{nai_none}
 use Rattle.writer_front.proofs.Laws.{nai_longest}
-use borrow.Author.Rules.{rules}
 use Rattle.writer_front.proofs.lengths.nai_octets.Goals as goal
 
 pub returns-then-nt-eq-NO_NAI : goal.returns-then-nt-eq-NO_NAI

@@ -1,5 +1,4 @@
 use Rattle.writer_tests.specs.Places.{bad_place}
-use borrow.Author.Rules.{rules}
 use Rattle.writer_tests.proofs.place.misplaced.Goals as goal
 
 pub returns : goal.returns

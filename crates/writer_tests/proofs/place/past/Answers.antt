@@ -1,5 +1,4 @@
 use Rattle.writer_tests.specs.Places.{passes}
-use borrow.Author.Rules.{rules}
 use Rattle.writer_tests.proofs.place.past.Goals as goal
 
 pub returns : goal.returns

@@ -5,7 +5,6 @@ use borrow.Author.Tests.{ltb-false}
 use Rattle.octets.proofs.Said.{either_false}
 use Rattle.writer_tests.specs.Places.{most_octets}
 use Rattle.writer_tests.proofs.Laws.{crowd_low, crowd_odd, crowd_end}
-use borrow.Author.Rules.{rules}
 use Rattle.writer_tests.proofs.test.crowded.Goals as goal
 
 pub returns-then-either : goal.returns-then-either

@@ -4,7 +4,6 @@ use borrow.Author.Tests.{not-true}
 use Rattle.writer_tests.proofs.Laws.{no_label}
 use mathlib.Core.Path.{ap}
 use mathlib.Core.Bool.{not}
-use borrow.Author.Rules.{rules}
 use Rattle.writer_tests.proofs.test.label_bad.Goals as goal
 
 pub returns-then-not-labelled : goal.returns-then-not-labelled

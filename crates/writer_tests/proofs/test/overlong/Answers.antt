@@ -1,7 +1,6 @@
 use borrow.Author.Tests.{not-true, not-false}
 use mathlib.Core.Path.{ap}
 use mathlib.Core.Bool.{not}
-use borrow.Author.Rules.{rules}
 use Rattle.writer_tests.proofs.test.overlong.Goals as goal
 
 pub returns-then-not-structured : goal.returns-then-not-structured
