@@ -14,13 +14,13 @@ put e f g = λ i. record { verdict = e i; segment = f i; strays = g i }
 pub returns-then-not-usable : goal.returns-then-not-usable
 returns-then-not-usable c =
     let args = c.args in record {
-      picked = picked_28 args.s.now args.ero args.own_val args.pst args.addresses.now args.i c.usable.ensures.usable
+      picked = picked_28 args.s.now args.ero args.own args.pst args.addresses.now args.i c.usable.ensures.usable
           (c.if-not-usable.true) (put c.refused.ensures.refused c.no_segment.ensures.zeros c.no_strays.ensures.none);
     }
 
 pub returns : goal.returns
 returns c =
     let args = c.args in record {
-      picked = picked_under args.s.now args.ero args.own_val args.pst args.addresses.now args.i c.usable.ensures.usable
+      picked = picked_under args.s.now args.ero args.own args.pst args.addresses.now args.i c.usable.ensures.usable
           (c.if-not-usable.false) refl c.session_for-here.ensures.session c.segment.ensures.picked;
     }
