@@ -10,8 +10,8 @@ rm -rf "$out"
 mkdir -p "$out"
 console() { "${STRUNDEVI_BIN:-rust/target/release}/reference-console"; }
 if [ "${1:-}" = proved ]; then
-    rt check console > "$out/log" 2>&1 || { cat "$out/log"; exit 1; }
-    console() { tests/emulate.sh target/bin/console; }
+    (cd crates/console && rt run) < /dev/null > "$out/log" 2>&1 || { cat "$out/log"; exit 1; }
+    console() { tests/emulate.sh crates/console/out/console; }
 fi
 faults=0
 fault() {

@@ -3,7 +3,7 @@
 #
 #     tests/planted.py [WORD ..]      only the faults that have one of these words in their names
 #
-# Needs the archive (`rt staticlib strundevi`); STRUNDEVI_LIB names the folder of another, such as that of `tools/native`. Prints a line for each fault and ends
+# Needs the archive (`tools/archive`); STRUNDEVI_LIB names the folder of another, such as that of `tools/native`. Prints a line for each fault and ends
 # with status 1 if one was let pass, or does not compile and so shows nothing. It takes some minutes, and is no part of the gate.
 import filecmp
 import os

@@ -12,8 +12,8 @@ mkdir -p "$out"
 program=${STRUNDEVI_BIN:-$PWD/rust/target/release}/strundevi
 checker() { "${STRUNDEVI_BIN:-rust/target/release}/reference-checker"; }
 if [ "${1:-}" = proved ]; then
-    rt check checker > "$out/log" 2>&1 || { cat "$out/log"; exit 1; }
-    checker() { tests/emulate.sh target/bin/checker; }
+    (cd crates/checker && rt run) < /dev/null > "$out/log" 2>&1 || { cat "$out/log"; exit 1; }
+    checker() { tests/emulate.sh crates/checker/out/checker; }
 fi
 faults=0
 fault() {

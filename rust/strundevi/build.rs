@@ -1,4 +1,4 @@
-//! Links the archive that `rt staticlib strundevi` writes. STRUNDEVI_LIB names its folder; else it is the repository's target/staticlib.
+//! Links the archive that `tools/archive` writes. STRUNDEVI_LIB names its folder; else it is the repository's target/staticlib.
 
 use std::env;
 use std::path::PathBuf;
@@ -10,7 +10,7 @@ fn main() {
     };
     let archive = folder.join("libstrundevi.a");
     if !archive.is_file() {
-        panic!("no {}: run `rt staticlib strundevi` first, or set STRUNDEVI_LIB to the folder that has it", archive.display());
+        panic!("no {}: run `tools/archive` first, or set STRUNDEVI_LIB to the folder that has it", archive.display());
     }
     println!("cargo:rustc-link-search=native={}", folder.display());
     println!("cargo:rustc-link-lib=static=strundevi");

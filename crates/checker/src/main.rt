@@ -3,11 +3,19 @@
 // paragraph of "Examples on either side"). What it answers is `checker_verdict::check`.
 #![tactic(auto)]
 
-fn main() {
-    let mut input = io::large_buffer();
-    let n = io::read_full(libc::STDIN_FILENO, &mut input);
+use std::io;
+use streams::Streams;
+
+// the octets of the input that are judged
+const MOST_READ: usize = 65536;
+
+fn main(rt: HostRuntime) -> io::Result<()> {
+    let mut streams = Streams::new(rt.stdin(), rt.stdout());
+    let mut input = [0u8; MOST_READ];
+    let n = streams.read_full(&mut input);
     let verdict = checker_verdict::check(&input[..n]);
     let mut out = [0u8; console_lines::SHORT];
     let end = console_lines::whole(&mut out, verdict);
-    io::write_all(libc::STDOUT_FILENO, &out[..end]);
+    streams.write(&out[..end]);
+    streams.finish()
 }

@@ -3,6 +3,11 @@
 // newline.
 #![tactic(auto)]
 
-fn main() {
-    let end = console_dialogue::converse();
+use std::io;
+use streams::Streams;
+
+fn main(rt: HostRuntime) -> io::Result<()> {
+    let mut streams = Streams::new(rt.stdin(), rt.stdout());
+    let end = console_dialogue::converse(&mut streams);
+    streams.finish()
 }

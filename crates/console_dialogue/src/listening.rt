@@ -1,4 +1,4 @@
-// Standard input, each line answered as soon as it has been read.
+// The input, each line answered as soon as it has been read.
 ghost use Rattle.std.specs.Prelude.{◌+◌, ◌*◌, ◌≤◌, ◌≡◌, length};
 ghost use Rattle.console_state.specs.State.{store_at_start};
 ghost use Rattle.console_dialogue.specs.Input.{ReadyToHear, heard_of, hear_all};
@@ -10,6 +10,8 @@ use board_record::STORE_SIZE;
 use command::LONGEST_LINE;
 use command_forms::MOST_SIZE;
 use console_fields::LONG;
+use std::io::{Read, Write};
+use streams::Streams;
 
 // one octet more than the longest line has
 const KEPT: usize = LONGEST_LINE + 1;
@@ -23,8 +25,12 @@ const MEMORY: usize = MOST_SIZE + SPELLED;
 // a line of octets, and words before them
 const ANSWER: usize = 2 * MOST_SIZE + LONG;
 
+// the octets that are read at once
+const MOST_READ: usize = 65536;
+
 // Takes in all that was read, and writes the answer to each line that ends there.
-fn take_all(
+fn take_all<R: Read, W: Write>(
+    streams: &mut Streams<R, W>,
     h: Hearing,
     read: &[u8],
     line: &mut [u8],
@@ -44,7 +50,7 @@ fn take_all(
     while at < read.len() {
         let onward = take_in(heard, read, at, line, store, memory, room, out);
         let end = onward.end;
-        let wrote = io::write_all(libc::STDOUT_FILENO, &out[..end]);
+        streams.write(&out[..end]);
         let next = onward.hearing;
         heard = next;
         at = onward.next;
@@ -60,7 +66,8 @@ struct Listened {
 }
 
 // Reads what there is. At the input's end the last line is answered: after a newline that is an empty one.
-fn listen(
+fn listen<R: Read, W: Write>(
+    streams: &mut Streams<R, W>,
     h: Hearing,
     line: &mut [u8],
     store: &mut [u8],
@@ -74,11 +81,10 @@ fn listen(
         (Reached before → Reached after) }
     ensures within { result.hearing.kept ≤ length line.old }
 {
-    let mut read = io::large_buffer();
-    let got = libc::read(libc::STDIN_FILENO, &mut read);
-    if got > 0 {
-        let n = io::count(got, &read);
-        let heard = take_all(h, &read[..n], line, store, memory, room, out);
+    let mut read = [0u8; MOST_READ];
+    let n = streams.read(&mut read);
+    if n > 0 {
+        let heard = take_all(streams, h, &read[..n], line, store, memory, room, out);
         return Listened {
             hearing: heard,
             more: true,
@@ -86,7 +92,7 @@ fn listen(
     }
     let said = answer(h, line, store, memory, room, out);
     let end = said.end;
-    let wrote = io::write_all(libc::STDOUT_FILENO, &out[..end]);
+    streams.write(&out[..end]);
     let last = said.hearing;
     Listened {
         hearing: last,
@@ -96,7 +102,8 @@ fn listen(
 
 // A proved loop has to end, and nothing says that the input does: so it counts its turns down, from a number that
 // no run uses up.
-fn go_on(
+fn go_on<R: Read, W: Write>(
+    streams: &mut Streams<R, W>,
     line: &mut [u8],
     store: &mut [u8],
     memory: &mut [u8],
@@ -115,7 +122,7 @@ fn go_on(
     let mut more = true;
     let mut turns = u64::MAX;
     while turns > 0 && more {
-        let l = listen(h, line, store, memory, room, out);
+        let l = listen(streams, h, line, store, memory, room, out);
         let next = l.hearing;
         h = next;
         more = l.more;
@@ -124,8 +131,8 @@ fn go_on(
     h
 }
 
-// Answers every line of standard input, and hands back how the console then stands.
-pub fn converse() -> Hearing
+// Answers every line of the input, and hands back how the console then stands.
+pub fn converse<R: Read, W: Write>(streams: &mut Streams<R, W>) -> Hearing
     ensures ended { Ended result }
 {
     let mut line = [0u8; KEPT];
@@ -133,5 +140,12 @@ pub fn converse() -> Hearing
     let mut memory = [0u8; MEMORY];
     let mut room = [0u8; SPELLED];
     let mut out = [0u8; ANSWER];
-    go_on(&mut line, &mut store, &mut memory, &mut room, &mut out)
+    go_on(
+        streams,
+        &mut line,
+        &mut store,
+        &mut memory,
+        &mut room,
+        &mut out,
+    )
 }

@@ -4,11 +4,17 @@
 
 ghost use Rattle.std.specs.Prelude.{◌≤◌, ◌<◌, length};
 
+use std::io;
+use std::io::{Read, Write};
+use streams::Streams;
 use words::{NEWLINE, word};
 
+// the octets of the input that are read
+const MOST_READ: usize = 65536;
+
 // Answers one input.
-fn answer(line: &[u8]) {
-    let mut octets = io::large_buffer();
+fn answer<R: Read, W: Write>(streams: &mut Streams<R, W>, line: &[u8]) {
+    let mut octets = [0u8; MOST_READ];
     if octets.len() < line.len() {
         return;
     }
@@ -18,16 +24,16 @@ fn answer(line: &[u8]) {
     }
     let mut out = [0u8; console_lines::SHORT];
     let end = console_lines::whole(&mut out, checker_verdict::check(&octets[..n]));
-    io::write_all(libc::STDOUT_FILENO, &out[..end]);
+    streams.write(&out[..end]);
 }
 
 // Answers the line at `at`, and hands back where the next one begins.
-fn onward(input: &[u8], at: usize) -> usize
+fn onward<R: Read, W: Write>(streams: &mut Streams<R, W>, input: &[u8], at: usize) -> usize
     requires { at < length input.now }
     ensures { (at < result) × (result ≤ length input.now) }
 {
     let line = word(&input[at..], NEWLINE, 0);
-    answer(line);
+    answer(streams, line);
     let end = at + line.len();
     if end < input.len() {
         return end + 1;
@@ -35,15 +41,17 @@ fn onward(input: &[u8], at: usize) -> usize
     input.len()
 }
 
-fn answer_all(input: &[u8]) {
+fn answer_all<R: Read, W: Write>(streams: &mut Streams<R, W>, input: &[u8]) {
     let mut at: usize = 0;
     while at < input.len() {
-        at = onward(input, at);
+        at = onward(streams, input, at);
     }
 }
 
-fn main() {
-    let mut input = io::large_buffer();
-    let n = io::read_full(libc::STDIN_FILENO, &mut input);
-    answer_all(&input[..n]);
+fn main(rt: HostRuntime) -> io::Result<()> {
+    let mut streams = Streams::new(rt.stdin(), rt.stdout());
+    let mut input = [0u8; MOST_READ];
+    let n = streams.read_full(&mut input);
+    answer_all(&mut streams, &input[..n]);
+    streams.finish()
 }

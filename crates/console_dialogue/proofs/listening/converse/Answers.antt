@@ -2,12 +2,11 @@ use Rattle.console_state.specs.State.{store_at_start}
 use lib.ListN.{length-replicate}
 use mathlib.Core.Path.{refl}
 use native.Mathlib.Omega.{arith}
-use borrow.Author.Rules.{rules}
 use Rattle.console_dialogue.proofs.listening.converse.Goals as goal
 
 pub go_on-requires : goal.go_on-requires
 unfolding store_at_start
-go_on-requires c = (
+go_on-requires g c = (
   refl,
   record {
     within = omega arith;

@@ -1,16 +1,13 @@
 -- The invariant: the lent lengths stay, what is kept of a line lies within it, and some input leaves the console as it stands.
-use Rattle.console_dialogue.proofs.HearingLaws.{still_ready}
-use Rattle.console_dialogue.proofs.ReachedLaws.{start_made, reached_start}
 use Rattle.console_dialogue.specs.Reached.{Reached}
 use Rattle.console_dialogue.specs.Input.{heard_of}
 use lib.ListN.{length}
-use mathlib.Core.Path.{◌≡◌, refl, ◌∙◌}
+use mathlib.Core.Path.{◌≡◌}
 use Prim.Native.Nat.{◌≤◌}
-use native.Mathlib.Omega.{arith}
 use Rattle.console_dialogue.proofs.listening.go_on.Given as goal
 
 abbrev pub invariant-loop-turns : goal.invariant-loop-turns
-invariant-loop-turns l =
+invariant-loop-turns g l =
     (length l.line ≡ length l.initial.line)
     × (length l.store ≡ length l.initial.store)
     × (length l.memory ≡ length l.initial.memory)
@@ -20,4 +17,4 @@ invariant-loop-turns l =
     × Reached (heard_of l.h l.store l.memory l.line)
 
 abbrev pub decreases-loop-turns : goal.decreases-loop-turns
-decreases-loop-turns l = l.turns
+decreases-loop-turns g l = l.turns

@@ -1,16 +1,12 @@
 -- A walk over what was read: what is left of it, heard from here on, gives the whole. All lent lengths stay.
-use Rattle.console_dialogue.proofs.HearingLaws.{still_ready}
-use Rattle.console_dialogue.proofs.ReachedLaws.{heard_all}
 use Rattle.console_dialogue.specs.Input.{heard_of, hear_all}
-use lib.Seq.{length-take-le}
 use lib.ListN.{length, drop}
-use mathlib.Core.Path.{◌≡◌, refl, sym, ◌∙◌}
+use mathlib.Core.Path.{◌≡◌}
 use Prim.Native.Nat.{◌≤◌, ◌-◌}
-use native.Mathlib.Omega.{arith}
 use Rattle.console_dialogue.proofs.listening.take_all.Given as goal
 
 abbrev pub invariant-loop-at : goal.invariant-loop-at
-invariant-loop-at l =
+invariant-loop-at g l =
     (l.at ≤ length l.read)
     × (length l.line ≡ length l.initial.line)
     × (length l.store ≡ length l.initial.store)
@@ -21,4 +17,4 @@ invariant-loop-at l =
     × (hear_all (heard_of l.heard l.store l.memory l.line) (drop l.at l.read) ≡ hear_all (heard_of l.initial.heard l.initial.store l.initial.memory l.initial.line) l.read)
 
 abbrev pub decreases-loop-at : goal.decreases-loop-at
-decreases-loop-at l = length l.read - l.at
+decreases-loop-at g l = length l.read - l.at
