@@ -1,5 +1,6 @@
 // What the calls of writing and next hand back, as records that cross the border (include/strundevi.h).
 #![tactic(auto)]
+
 mod change;
 mod writing;
 

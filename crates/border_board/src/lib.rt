@@ -1,6 +1,7 @@
 // What changes the board, on a record whose parts are lent one by one, over the records of the border (include/strundevi.h).
 // A refusal writes nothing.
 #![tactic(auto)]
+
 mod taking;
 
 ghost use Rattle.std.specs.Prelude.{◌≡◌};

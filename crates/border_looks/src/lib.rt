@@ -1,6 +1,7 @@
 // What only looks at the board: a path's octets, what a follower is handed, and the mark it begins with, over the records of
 // the border (include/strundevi.h).
 #![tactic(auto)]
+
 ghost use Rattle.std.specs.Prelude.{◌≡◌};
 ghost use Rattle.octets.specs.Octets.{part};
 ghost use Rattle.board_record.specs.Record.{board_of};

@@ -1,5 +1,6 @@
 // Reading an OPEN object, and the sessions of two answers, over the records of the border (include/strundevi.h).
 #![tactic(auto)]
+
 ghost use Rattle.std.specs.Prelude.{◌≡◌};
 ghost use Rattle.session.specs.Sessions.{sessions_of};
 ghost use Rattle.open.specs.Open.{open_of};

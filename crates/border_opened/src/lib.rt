@@ -1,5 +1,6 @@
 // The answer to an OPEN as it crosses the border to C and Rust, and where A and R stand (include/strundevi.h).
 #![tactic(auto)]
+
 mod opened;
 mod positions;
 

@@ -4,6 +4,7 @@
 // value that is out of range. A limit is a flag and a number: without the flag the number does not count, and an
 // answer has 0 there; so are v and m.
 #![tactic(auto)]
+
 mod depth;
 mod flag;
 mod limit;

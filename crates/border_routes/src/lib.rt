@@ -1,5 +1,6 @@
 // Judging a route, asking for its segments and stepping through it, over the records of the border (include/strundevi.h). `ero` is a flag: an ERO, else an RRO.
 #![tactic(auto)]
+
 ghost use Rattle.std.specs.Prelude.{◌≡◌};
 ghost use Rattle.route_call.specs.Called.{judged_for, segment_for};
 ghost use Rattle.border_records.specs.Records.{is_yes, verdict_out};

@@ -1,5 +1,6 @@
 // A segment as it crosses the border to C and Rust, and what asking for one and stepping through a route hand back (include/strundevi.h).
 #![tactic(auto)]
+
 mod picking;
 mod segment;
 mod stepping;

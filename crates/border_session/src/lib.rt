@@ -1,6 +1,7 @@
 // The sessions of the two forms: SRv6 agreed or not, the PCC's N; A and R agreed or not, the PCC's v, m and limit; then MPLS agreed or not,
 // the PCC's N and limit. The 16 octets are handed on in two registers, so a limit has 16 bits: no route has as many segments.
 #![tactic(auto)]
+
 ghost use Rattle.std.specs.Prelude.{◌≡◌};
 ghost use Rattle.session.specs.Sessions.{session_under};
 ghost use Rattle.border_session.specs.Agreed.{srv6_in, mpls_in, sessions_in, sessions_out};

@@ -1,6 +1,7 @@
 // Writing a route over the records of the border (include/strundevi.h): begun, given one segment at a time, and finished.
 // The writer's small state goes in and comes back.
 #![tactic(auto)]
+
 ghost use Rattle.std.specs.Prelude.{◌≡◌};
 ghost use Rattle.subobject.specs.Segments.{segment_with};
 ghost use Rattle.writer_begin_finish.specs.Ends.{begin_answer, begin_buffer, finish_answer, finish_buffer};

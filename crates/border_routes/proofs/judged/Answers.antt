@@ -7,13 +7,17 @@ use Rattle.border_routes.proofs.judged.Goals as goal
 
 pub returns-then-pst-eq-MPLS_SETUP : goal.returns-then-pst-eq-MPLS_SETUP
 returns-then-pst-eq-MPLS_SETUP c =
-    let args = c.args in record { judged = mpls_judged args.octets.now args.addresses.now args.kind args.session args.pst c.if-pst-eq-MPLS_SETUP.true
-        c.yes.ensures.yes c.yes-then-pst-eq-MPLS_SETUP.ensures.yes c.yes-then-pst-eq-MPLS_SETUP-2.ensures.yes c.judge_plain.ensures.judged }
+    let args = c.args in record {
+      judged = mpls_judged args.octets.now args.addresses.now args.kind args.session args.pst c.if-pst-eq-MPLS_SETUP.true
+          c.yes.ensures.yes c.yes-then-pst-eq-MPLS_SETUP.ensures.yes c.yes-then-pst-eq-MPLS_SETUP-2.ensures.yes c.judge_plain.ensures.judged;
+    }
 
 pub returns-then-flagged : goal.returns-then-flagged
 returns-then-flagged c = let args = c.args in record { judged = c.judge_in.ensures.judged ∙ ap (λ (x : Session). judged_in args.octets.now args.kind x args.pst args.addresses.now) c.session_under-own.ensures.session }
 
 pub returns : goal.returns
 returns c =
-    let args = c.args in let none = sym c.flagged.ensures.flagged ∙ c.if-flagged.false in record { judged = srv6_judged args.octets.now args.addresses.now args.kind args.session args.pst c.if-pst-eq-MPLS_SETUP.false none
-        c.yes-2.ensures.yes c.yes-3.ensures.yes c.yes-4.ensures.yes c.judge_plain-2.ensures.judged }
+    let args = c.args in let none = sym c.flagged.ensures.flagged ∙ c.if-flagged.false in record {
+      judged = srv6_judged args.octets.now args.addresses.now args.kind args.session args.pst c.if-pst-eq-MPLS_SETUP.false none
+          c.yes-2.ensures.yes c.yes-3.ensures.yes c.yes-4.ensures.yes c.judge_plain-2.ensures.judged;
+    }
