@@ -2,6 +2,7 @@
 // digits in upper case, `-` for no octets, lists of numbers joined by commas (console.md). Each call takes the text's end
 // and hands its new end back.
 #![tactic(auto)]
+
 ghost use Rattle.std.specs.Prelude.{◌+◌, ◌*◌, ◌≤◌, ◌≡◌, length};
 ghost use Rattle.printing.specs.Text.{Behind, number_size, field_size, decimal_of, glyph_of, hex_of, octets_text, further_text, list_text, spaced};
 

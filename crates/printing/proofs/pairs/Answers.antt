@@ -28,19 +28,18 @@ pub loop-i-smaller : goal.loop-i-smaller
 loop-i-smaller c = omega arith
 
 pub loop-i-preserved : goal.loop-i-preserved
-loop-i-preserved c =
-    (
-          omega arith,
-          omega (arith, c.push-end.ensures.behind.ends),
-          omega arith,
-          c.push-end.ensures.behind.room ∙ c.loop-i.invariant.3,
-          rw (
-            ← hex_more c.args.s.now c.loop-i.i
-                c.loop-i-test.true,
-            ← c.glyph.ensures.glyph,
-            ← c.glyph-in-loop-i.ensures.glyph,
-          ) (then c.loop-i.invariant.4 c.push-end.ensures.behind),
-        )
+loop-i-preserved c = (
+  omega arith,
+  omega (arith, c.push-end.ensures.behind.ends),
+  omega arith,
+  c.push-end.ensures.behind.room ∙ c.loop-i.invariant.3,
+  rw (
+    ← hex_more c.args.s.now c.loop-i.i
+        c.loop-i-test.true,
+    ← c.glyph.ensures.glyph,
+    ← c.glyph-in-loop-i.ensures.glyph,
+  ) (then c.loop-i.invariant.4 c.push-end.ensures.behind),
+)
 
 pub shape_of-out : goal.shape_of-out
 shape_of-out c = c.loop-i.invariant.3

@@ -5,5 +5,7 @@ use Rattle.printing.proofs.push.Goals as goal
 
 pub returns : goal.returns
 returns c =
-    record { behind = rw c.lay.ensures.laid
-        (behind_placed c.args.out.now c.args.src.now c.args.at c.requires) }
+    record {
+      behind = rw c.lay.ensures.laid
+          (behind_placed c.args.out.now c.args.src.now c.args.at c.requires);
+    }
