@@ -1,6 +1,7 @@
 // The lines of an acceptance: `0 0`, words separated by one space, and a newline (console.md). Each call lays a line over
 // the start of a lent buffer and hands its end back.
 #![tactic(auto)]
+
 ghost use Rattle.std.specs.Prelude.{◌+◌, ◌*◌, ◌≤◌, length};
 ghost use Rattle.printing.specs.Text.{Behind, field_size};
 ghost use Rattle.console_lines.specs.Lines.{short, done_line, one_line, two_line, octets_line, form_line, list_line, path_line, removed_line, level_line};

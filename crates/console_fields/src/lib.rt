@@ -1,6 +1,7 @@
 // What an OPEN carries and what a segment says, as lines (console.md). Each call lays a line over the start of a
 // lent buffer and hands its end back.
 #![tactic(auto)]
+
 ghost use Rattle.std.specs.Prelude.{◌+◌, ◌*◌, ◌≤◌, ◌≡◌, cond, true, length, take};
 ghost use Rattle.subobject.specs.Layout.{sid_size, nai_size};
 ghost use Rattle.forms.specs.Forms.{nai_length};

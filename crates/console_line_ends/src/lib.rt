@@ -1,6 +1,7 @@
 // How the lines of an OPEN and of a segment end (console.md): the words behind the first ones, laid behind a text. Each
 // call takes the text's end and hands its new end back.
 #![tactic(auto)]
+
 ghost use Rattle.std.specs.Prelude.{◌+◌, ◌≤◌, ◌≡◌, length};
 ghost use Rattle.printing.specs.Text.{Behind, field_size, spaced};
 ghost use Rattle.msd.specs.Msd.{depth_in};

@@ -2,6 +2,7 @@
 // (console.md). Each call lays a line over the start of a lent buffer and hands its end back. What is said when a call
 // accepts: `console_accepted`.
 #![tactic(auto)]
+
 ghost use Rattle.std.specs.Prelude.{◌≤◌, length};
 ghost use Rattle.printing.specs.Text.{Behind};
 ghost use Rattle.console_lines.specs.Lines.{short, refusal_line, open_refusal_line, bad_line, verdict_line};

@@ -5,9 +5,12 @@ use Rattle.console_accepted.proofs.list.Goals as goal
 
 pub returns : goal.returns
 returns c =
-    record { told = (then c.push-at.ensures.behind
-              (then c.list_field-at.ensures.behind c.push.ensures.behind)); within = omega (
-            arith,
-            c.push-at.ensures.behind.ends,
-            c.push.ensures.behind.ends,
-          ) }
+    record {
+      told = (then c.push-at.ensures.behind
+          (then c.list_field-at.ensures.behind c.push.ensures.behind));
+      within = omega (
+        arith,
+        c.push-at.ensures.behind.ends,
+        c.push.ensures.behind.ends,
+      );
+    }

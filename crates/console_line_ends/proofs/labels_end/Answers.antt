@@ -6,10 +6,13 @@ use Rattle.console_line_ends.proofs.labels_end.Goals as goal
 
 pub returns : goal.returns
 returns c =
-    record { behind = (then (rw c.bit.ensures.bit at c.field-end.ensures.behind)
-              (then (rw c.bit-2.ensures.bit at c.field-end-2.ensures.behind) c.strays_end.ensures.behind)); short = omega (
-            arith,
-            c.field-end.ensures.short,
-            c.field-end-2.ensures.short,
-            c.strays_end.ensures.short,
-          ) }
+    record {
+      behind = (then (rw c.bit.ensures.bit at c.field-end.ensures.behind)
+          (then (rw c.bit-2.ensures.bit at c.field-end-2.ensures.behind) c.strays_end.ensures.behind));
+      short = omega (
+        arith,
+        c.field-end.ensures.short,
+        c.field-end-2.ensures.short,
+        c.strays_end.ensures.short,
+      );
+    }

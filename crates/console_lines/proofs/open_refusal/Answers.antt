@@ -5,5 +5,8 @@ use Rattle.console_lines.proofs.open_refusal.Goals as goal
 
 pub returns : goal.returns
 returns c =
-    record { told = (then c.number-at.ensures.behind
-              (then c.field-at.ensures.behind (then c.field-at-2.ensures.behind c.push.ensures.behind))); within = omega (arith, c.push.ensures.behind.ends) }
+    record {
+      told = (then c.number-at.ensures.behind
+          (then c.field-at.ensures.behind (then c.field-at-2.ensures.behind c.push.ensures.behind)));
+      within = omega (arith, c.push.ensures.behind.ends);
+    }

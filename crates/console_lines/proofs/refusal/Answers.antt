@@ -5,6 +5,9 @@ use Rattle.console_lines.proofs.refusal.Goals as goal
 
 pub returns : goal.returns
 returns c =
-    record { told = (then c.number-at.ensures.behind
+    record {
+      told = (then c.number-at.ensures.behind
           (then c.field-at.ensures.behind
-          c.push.ensures.behind)); within = omega (arith, c.push.ensures.behind.ends) }
+          c.push.ensures.behind));
+      within = omega (arith, c.push.ensures.behind.ends);
+    }

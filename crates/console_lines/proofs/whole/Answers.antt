@@ -5,7 +5,10 @@ use Rattle.console_lines.proofs.whole.Goals as goal
 
 pub returns : goal.returns
 returns c =
-    record { told = (then c.number-at.ensures.behind
-              (then c.field-at.ensures.behind
-              (then c.field-at-2.ensures.behind
-              (then c.field-at-3.ensures.behind c.push.ensures.behind)))); within = omega (arith, c.push.ensures.behind.ends) }
+    record {
+      told = (then c.number-at.ensures.behind
+          (then c.field-at.ensures.behind
+          (then c.field-at-2.ensures.behind
+          (then c.field-at-3.ensures.behind c.push.ensures.behind))));
+      within = omega (arith, c.push.ensures.behind.ends);
+    }
