@@ -64,7 +64,8 @@ plain_judged : (s : List ℕ) (ero : Bool) (session : Session) (pst : ℕ) (addr
 unfolding judged_in judge_of judge_as
 plain_judged s ero session pst addresses e =
     let none = either_false session.a session.r e in
-    rw (own_session s ero (plain_of session) pst addresses refl refl, own_session s ero session pst addresses none.0 none.1)
+    let judged : Session → Verdict = λ x. cond (rule28 addresses) (refused_by not_usable 0) (judge_of s ero x pst) in
+    ap judged (own_session s ero (plain_of session) pst addresses refl refl) ∙ sym (ap judged (own_session s ero session pst addresses none.0 none.1))
 
 -- The parts that are handed on are those of the session that the setup type names.
 module _ (s addresses : List ℕ) (ero : Bool) (session : SessionRecord) (pst : ℕ) {agreed n has : Bool} where

@@ -9,8 +9,9 @@ use Rattle.border_looks.proofs.body.Goals as goal
 pub returns-then-verdict-ne0 : goal.returns-then-verdict-ne0
 returns-then-verdict-ne0 c =
     let args = c.args in
-    part_none (with_rows (table_of args.keys.now args.versions.now args.lengths.now args.version args.floor args.forms.now) args.order.now args.tops.now)
-    args.store.now args.key _ c.body_number-verdict.ensures.number c.if-verdict-ne0.true
+    let t = table_of args.keys.now args.versions.now args.lengths.now args.version args.floor args.forms.now in
+    let told = part_none (with_rows t args.order.now args.tops.now) args.store.now args.key _ c.body_number-verdict.ensures.number c.if-verdict-ne0.true in
+    record { part = told.0; octets = told.1.0; form = told.1.1 }
 
 pub overflow_mul-result : goal.overflow_mul-result
 overflow_mul-result c =
@@ -23,6 +24,7 @@ overflow_mul-result c =
 pub returns : goal.returns
 returns c =
     let args = c.args in
-    part_here (with_rows (table_of args.keys.now args.versions.now args.lengths.now args.version args.floor args.forms.now) args.order.now args.tops.now)
-    args.store.now args.key _ _ _ _ c.body_number-verdict.ensures.number
-    c.if-verdict-ne0.false c.place_in-at.ensures.place c.length_in.ensures.length c.form_in.ensures.form
+    let t = table_of args.keys.now args.versions.now args.lengths.now args.version args.floor args.forms.now in
+    let told = part_here (with_rows t args.order.now args.tops.now) args.store.now args.key _ _ _ _ c.body_number-verdict.ensures.number
+    c.if-verdict-ne0.false c.place_in-at.ensures.place c.length_in.ensures.length c.form_in.ensures.form in
+    record { part = told.0; octets = told.1.0; form = told.1.1 }

@@ -7,10 +7,10 @@ use Rattle.border_writing.proofs.begin.Goals as goal
 
 pub returns : goal.returns
 returns c =
-    let e = (c.begin-w.ensures.answer, c.begin-w.ensures.buffer) in
     let args = c.args in
     let b = args.buffer.now in
     let kind = is_yes args.ero in
-    let f = rw c.yes.ensures.yes at e in
-    by_writer (λ (w : Writer). begin_answer b w kind args.pst) (λ (w : Writer). begin_buffer b w kind) _ _ _ _ args.writer
-    c.writer_in.ensures.writer f.0 f.1 c.handed.ensures.handed
+    let told = by_writer (λ (w : Writer). begin_answer b w kind args.pst) (λ (w : Writer). begin_buffer b w kind) _ _ _ _ args.writer
+    c.writer_in.ensures.writer (rw c.yes.ensures.yes at c.begin-w.ensures.answer) (rw c.yes.ensures.yes at c.begin-w.ensures.buffer)
+    c.handed.ensures.handed in
+    record { answer = told.0; octets = told.1 }

@@ -5,7 +5,7 @@ use Rattle.border_writing.proofs.finish.Goals as goal
 
 pub returns : goal.returns
 returns c =
-    let e = (c.finish.ensures.answer, c.finish.ensures.buffer) in
-    let args = c.args in
-    let b = args.buffer.now in
-    by_writer (finish_answer b) (finish_buffer b) _ _ _ _ args.writer c.writer_in.ensures.writer e.0 e.1 c.written_out.ensures.written
+    let b = c.args.buffer.now in
+    let told = by_writer (finish_answer b) (finish_buffer b) _ _ _ _ c.args.writer c.writer_in.ensures.writer c.finish.ensures.answer
+    c.finish.ensures.buffer c.written_out.ensures.written in
+    record { answer = told.0; octets = told.1 }

@@ -5,7 +5,8 @@ use Rattle.console_accepted.proofs.path.Goals as goal
 
 pub returns : goal.returns
 returns c =
-    let push-ensures = c.push-at.ensures.behind in record {
+    let push-ensures = c.push-at.ensures.behind in
+    record {
       told = (then push-ensures
           (then c.field-at.ensures.behind
           (then c.field-at-2.ensures.behind

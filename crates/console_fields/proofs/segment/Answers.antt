@@ -115,7 +115,8 @@ shape_of-out c =
 
 pub returns : goal.returns
 returns c =
-    let push-ensures = c.push-at.ensures.behind in record {
+    let push-ensures = c.push-at.ensures.behind in
+    record {
       told = (then push-ensures
           (then (rw c.bit.ensures.bit at c.field-at.ensures.behind)
           (then (rw c.bit-2.ensures.bit at c.field-at-2.ensures.behind)

@@ -16,7 +16,8 @@ pub push-end-requires : goal.push-end-requires
 push-end-requires c = omega arith
 
 pub number-end-requires : goal.number-end-requires
-number-end-requires c = let push = c.push-end in omega (arith, push.ensures.behind.ends, push.ensures.behind.room)
+number-end-requires c =
+    let push = c.push-end in omega (arith, push.ensures.behind.ends, push.ensures.behind.room)
 
 pub overflow_add-i : goal.overflow_add-i
 overflow_add-i c = omega arith
@@ -43,4 +44,6 @@ pub shape_of-out : goal.shape_of-out
 shape_of-out c = c.loop-i.invariant.3
 
 pub returns : goal.returns
-returns c = let loop = c.loop-i in record { behind = rw (take_all loop.i c.args.s.now c.loop-i-test.false) at loop.invariant.4; short = omega (arith, loop.invariant.0, loop.invariant.1) }
+returns c =
+    let loop = c.loop-i in
+    record { behind = rw (take_all loop.i c.args.s.now c.loop-i-test.false) at loop.invariant.4; short = omega (arith, loop.invariant.0, loop.invariant.1) }

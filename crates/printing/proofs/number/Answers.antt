@@ -14,6 +14,8 @@ push-requires c =
 pub returns : goal.returns
 returns c =
     let k = fewest_20 c.args.n c.decimal-k.result (omega arith)
-    c.decimal-k.ensures.len in let e = c.decimal-k.ensures.1.1
+    c.decimal-k.ensures.len in
+    let e = c.decimal-k.ensures.digits
     ∙ digits_decimal c.decimal-k.result c.args.n k
-    c.decimal-k.ensures.len in record { behind = rw e at c.push.ensures.behind; short = omega (arith, c.push.ensures.behind.ends, c.decimal-k.ensures.in_bounds) }
+    c.decimal-k.ensures.len in
+    record { behind = rw e at c.push.ensures.behind; short = omega (arith, c.push.ensures.behind.ends, c.decimal-k.ensures.in_bounds) }

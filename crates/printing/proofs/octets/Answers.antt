@@ -14,4 +14,6 @@ returns-then-s-eq0 c =
     }
 
 pub returns : goal.returns
-returns c = let s = c.args.s in record { behind = rw (digits_for_some s.now c.if-s-eq0.false) c.pairs.ensures.behind; short = omega (arith, c.pairs.ensures.behind.ends, hex_length s.now) }
+returns c =
+    let s = c.args.s in
+    record { behind = rw (digits_for_some s.now c.if-s-eq0.false) c.pairs.ensures.behind; short = omega (arith, c.pairs.ensures.behind.ends, hex_length s.now) }
