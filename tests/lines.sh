@@ -9,7 +9,7 @@ cd "$(dirname "$0")/.."
 most=200
 
 # Characters, not octets: an octet that goes on with a character (0x80 to 0xBF) is none of its own.
-find crates -name '*.antt' -o -path '*/src/*.rt' | LC_ALL=C sort | LC_ALL=C xargs awk -v most="$most" '
+find crates -path 'crates/*/out' -prune -o \( -name '*.antt' -o -path '*/src/*.rt' \) -print | LC_ALL=C sort | LC_ALL=C xargs awk -v most="$most" '
     { line = $0; gsub(/[\200-\277]/, "", line); n = length(line) }
     n > most { printf "%s:%d: %d characters\n", FILENAME, FNR, n; longer++ }
     END { if (longer) { printf "%d lines of more than %d characters\n", longer, most; exit 1 } }'

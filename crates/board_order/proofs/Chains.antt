@@ -249,7 +249,8 @@ chained_in b order x =
 pub in_chained : (b : Table) (order : List ℕ) → VersionsApart b → in_order b order ≡ true → Chained b order
 unfolding in_order
 in_chained b order apart e =
-    chained_as b (order_of b) order (λ i l. eqb-true (get_or order i 0) (order_number (place_at b i)) (all_at (λ j. eqb (get_or order j 0) (order_number (place_at b j))) 128 e i l) ∙ sym (order_at b i l))
+    chained_as b (order_of b) order
+    (λ i l. eqb-true (get_or order i 0) (order_number (place_at b i)) (all_at (λ j. eqb (get_or order j 0) (order_number (place_at b j))) 128 e i l) ∙ sym (order_at b i l))
     (order_chained b apart)
 
 pub in_order_lem : (b : Table) → VersionsApart b → in_order b (order_of b) ≡ true

@@ -77,7 +77,8 @@ module _ (b : Table) (store : List ℕ) (k : ℕ) (octets : List ℕ) (session :
   store_not_board r e t = rw (board_not b (length store) r e t)
 
   -- ---- the other rules
-  pub report_verdict_lem : (r : Bool) (at n : ℕ) (route v : Verdict) → r ≡ is_board b (length store) → not r ≡ false → at ≡ target_of b k → n ≡ length octets - 4 → route ≡ judge_of octets true session pst
+  pub report_verdict_lem : (r : Bool) (at n : ℕ) (route v : Verdict) → r ≡ is_board b (length store) → not r ≡ false → at ≡ target_of b k → n ≡ length octets - 4 → route
+      ≡ judge_of octets true session pst
       → v ≡ report_rules true k route n b.version at
       → v ≡ report_verdict b store k octets (judge_of octets true session pst)
   unfolding report_verdict

@@ -117,7 +117,8 @@ module _ (b : Board) (store : List ℕ) (k : ℕ) where
 
 -- ---- next
 module _ (b : Board) (store : List ℕ) (s w : ℕ) where
-  pub next_not : (n : ℕ) (r : Bool) (h : Handed) → r ≡ is_record b n → not r ≡ true → h ≡ Refused (refused_by not_a_board 0) → (is_board (table_in b) n ≡ false → h ≡ next_answer (table_in b) store s w)
+  pub next_not : (n : ℕ) (r : Bool) (h : Handed) → r ≡ is_record b n → not r ≡ true → h ≡ Refused (refused_by not_a_board 0) →
+      (is_board (table_in b) n ≡ false → h ≡ next_answer (table_in b) store s w)
       → h ≡ next_on b store s w
   unfolding next_on
   next_not n r h e t q f = no_record b n r (λ x. h ≡ cond x (next_answer (table_in b) store s w) (Refused (refused_by not_a_board 0))) e t q f

@@ -112,7 +112,8 @@ pub all_paths_then : (b : Table) (store : List ℕ) (k : ℕ) (octets : List ℕ
     → report_verdict b store k octets route ≡ refused_by all_paths 0
 all_paths_then b store k octets route r f = reached_rest b store k octets route r ∙ rw (le-leb places (target_of b k) (is_full b k f))
 
-pub all_paths_only : (b : Table) (store : List ℕ) (k : ℕ) (octets : List ℕ) (route : Verdict) → OnlyFullLeft b store k octets route → (report_verdict b store k octets route).number ≡ all_paths → Full b k
+pub all_paths_only : (b : Table) (store : List ℕ) (k : ℕ) (octets : List ℕ) (route : Verdict) → OnlyFullLeft b store k octets route →
+    (report_verdict b store k octets route).number ≡ all_paths → Full b k
 all_paths_only b store k octets route r e = ⊎_elim (λ l. full_is b k l) (λ l. absurd (omega (arith, free l, r.route_taken))) (from? 128 (target_of b k))
   where
     free : target_of b k < 128 → route.number ≡ all_paths

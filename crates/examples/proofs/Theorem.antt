@@ -48,27 +48,39 @@ use Rattle.examples.specs.Table.ExampleAnswer.{judged}
 use Rattle.examples.specs.Mpls.{labelled, mpls_answer, mpls_examples, mpls_answers}
 
 pub table : map example_answer examples ≡ answers
-unfolding octet_of be16 part session_of mpls_session_of session_under tlvs_in tlvs_of list_size lists_type known_msd usable_positions flag_at mpls_sized_of mpls_n_of mpls_x_of depth_of depthless mpls_limit_of sized_of
-    n_of x_of a_of r_of wrong_of h_encaps_of segments_left_of limit_of setup_of mpls_of srv6_of mpls_listed listed framed fitting holding breaks28 breaks1 breaks1_mpls breaks1_srv6 breaks2_mpls breaks2_srv6
-    breaks3_mpls breaks3_srv6 srv6_carried carries_of open_of flag_in nai_length knows expected_length kind_of head_of head_at rule7 rule8 rule9 malformed rule10 rule11 has_structure has_label label_at time_at
-    rule29 rule30 sum_at stray_flags structure_flags reserved_octets strays_at headed fits_in apart apart_of rule4 rule5 rule6 rule6_place rule14 rule12 rule13 judge_as judge_of usable_list stays_off limit_for
+unfolding octet_of be16 part session_of mpls_session_of session_under tlvs_in tlvs_of list_size lists_type known_msd usable_positions flag_at mpls_sized_of mpls_n_of
+    mpls_x_of depth_of depthless mpls_limit_of sized_of
+    n_of x_of a_of r_of wrong_of h_encaps_of segments_left_of limit_of setup_of mpls_of srv6_of mpls_listed listed framed fitting holding breaks28 breaks1 breaks1_mpls
+    breaks1_srv6 breaks2_mpls breaks2_srv6
+    breaks3_mpls breaks3_srv6 srv6_carried carries_of open_of flag_in nai_length knows expected_length kind_of head_of head_at rule7 rule8 rule9 malformed rule10 rule11
+    has_structure has_label label_at time_at
+    rule29 rule30 sum_at stray_flags structure_flags reserved_octets strays_at headed fits_in apart apart_of rule4 rule5 rule6 rule6_place rule14 rule12 rule13 judge_as
+    judge_of usable_list stays_off limit_for
     session_for rule28 judged_in
 table = refl
 
 -- MPLS on either side.
 pub mpls_table : map mpls_answer mpls_examples ≡ mpls_answers
-unfolding octet_of be16 part session_of mpls_session_of session_under tlvs_in tlvs_of list_size lists_type known_msd usable_positions flag_at mpls_sized_of mpls_n_of mpls_x_of depth_of depthless mpls_limit_of sized_of
-    n_of x_of a_of r_of wrong_of h_encaps_of segments_left_of limit_of setup_of mpls_of srv6_of mpls_listed listed framed fitting holding breaks28 breaks1 breaks1_mpls breaks1_srv6 breaks2_mpls breaks2_srv6
-    breaks3_mpls breaks3_srv6 srv6_carried carries_of open_of flag_in nai_length knows expected_length kind_of head_of head_at rule7 rule8 rule9 malformed rule10 rule11 has_structure has_label label_at time_at
-    rule29 rule30 sum_at stray_flags structure_flags reserved_octets strays_at headed fits_in apart apart_of rule4 rule5 rule6 rule6_place rule14 rule12 rule13 judge_as judge_of usable_list stays_off limit_for
+unfolding octet_of be16 part session_of mpls_session_of session_under tlvs_in tlvs_of list_size lists_type known_msd usable_positions flag_at mpls_sized_of mpls_n_of
+    mpls_x_of depth_of depthless mpls_limit_of sized_of
+    n_of x_of a_of r_of wrong_of h_encaps_of segments_left_of limit_of setup_of mpls_of srv6_of mpls_listed listed framed fitting holding breaks28 breaks1 breaks1_mpls
+    breaks1_srv6 breaks2_mpls breaks2_srv6
+    breaks3_mpls breaks3_srv6 srv6_carried carries_of open_of flag_in nai_length knows expected_length kind_of head_of head_at rule7 rule8 rule9 malformed rule10 rule11
+    has_structure has_label label_at time_at
+    rule29 rule30 sum_at stray_flags structure_flags reserved_octets strays_at headed fits_in apart apart_of rule4 rule5 rule6 rule6_place rule14 rule12 rule13 judge_as
+    judge_of usable_list stays_off limit_for
     session_for rule28 judged_in
 mpls_table = refl
 
 -- A good label under PST 1, where MPLS is not agreed: 13.
 pub label_not_agreed : example_answer (route (labelled 0x09 0x71 0x00) mpls_setup) ≡ judged (refused_by not_agreed 0)
-unfolding octet_of be16 part session_of mpls_session_of session_under tlvs_in tlvs_of list_size lists_type known_msd usable_positions flag_at mpls_sized_of mpls_n_of mpls_x_of depth_of depthless mpls_limit_of sized_of
-    n_of x_of a_of r_of wrong_of h_encaps_of segments_left_of limit_of setup_of mpls_of srv6_of mpls_listed listed framed fitting holding breaks28 breaks1 breaks1_mpls breaks1_srv6 breaks2_mpls breaks2_srv6
-    breaks3_mpls breaks3_srv6 srv6_carried carries_of open_of flag_in nai_length knows expected_length kind_of head_of head_at rule7 rule8 rule9 malformed rule10 rule11 has_structure has_label label_at time_at
-    rule29 rule30 sum_at stray_flags structure_flags reserved_octets strays_at headed fits_in apart apart_of rule4 rule5 rule6 rule6_place rule14 rule12 rule13 judge_as judge_of usable_list stays_off limit_for
+unfolding octet_of be16 part session_of mpls_session_of session_under tlvs_in tlvs_of list_size lists_type known_msd usable_positions flag_at mpls_sized_of mpls_n_of
+    mpls_x_of depth_of depthless mpls_limit_of sized_of
+    n_of x_of a_of r_of wrong_of h_encaps_of segments_left_of limit_of setup_of mpls_of srv6_of mpls_listed listed framed fitting holding breaks28 breaks1 breaks1_mpls
+    breaks1_srv6 breaks2_mpls breaks2_srv6
+    breaks3_mpls breaks3_srv6 srv6_carried carries_of open_of flag_in nai_length knows expected_length kind_of head_of head_at rule7 rule8 rule9 malformed rule10 rule11
+    has_structure has_label label_at time_at
+    rule29 rule30 sum_at stray_flags structure_flags reserved_octets strays_at headed fits_in apart apart_of rule4 rule5 rule6 rule6_place rule14 rule12 rule13 judge_as
+    judge_of usable_list stays_off limit_for
     session_for rule28 judged_in
 label_not_agreed = refl

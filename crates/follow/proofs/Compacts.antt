@@ -46,7 +46,8 @@ module _ (b : Table) (c i : ℕ) (l : i < places) where
 -- ---- the table
 
 module _ (b : Table) (st : List ℕ) (h : Story) (c : ℕ) (r : StandsFor b st h) (reached : c ≤ b.version) where
-  here_compacted : (i : ℕ) → i < places → Used (compacted b c) i → (last h (key_at (compacted b c) i) ≡ version_at (compacted b c) i) × (held h (key_at (compacted b c) i) ≡ path_in (compacted b c) st i)
+  here_compacted : (i : ℕ) → i < places → Used (compacted b c) i → (last h (key_at (compacted b c) i) ≡ version_at (compacted b c) i) ×
+      (held h (key_at (compacted b c) i) ≡ path_in (compacted b c) st i)
   unfolding octets_at
   here_compacted i l u =
       let e = stays b c i l (used_stays b c i l u) in

@@ -199,7 +199,8 @@ unframed p s u e = rw (u, e)
 -- The walks of the code and the rules of the paper give the same answer.
 module _ (p : Positions) (s : List ℕ) (u : usable_positions p ≡ true) (e : framed s ≡ true) where
   pub answered : answer_by p (open_walk (drop tlvs_at s) false srv6_capability) (open_walk (drop tlvs_at s) false mpls_capability) ≡ open_of p s
-  unfolding open_walk open_of breaks28 breaks1 breaks1_mpls breaks1_srv6 breaks2_mpls breaks2_srv6 breaks3_mpls breaks3_srv6 fitting holding mpls_listed listed mpls_of srv6_of setup_of carries_of srv6_carried
+  unfolding open_walk open_of breaks28 breaks1 breaks1_mpls breaks1_srv6 breaks2_mpls breaks2_srv6 breaks3_mpls breaks3_srv6 fitting holding mpls_listed listed mpls_of
+      srv6_of setup_of carries_of srv6_carried
   answered = fit (tlvs_whole (open_tlvs s)) (first_tlv (open_tlvs s) path_setup) refl refl
     where
       hold : (v : List ℕ) → tlvs_whole (open_tlvs s) ≡ true → first_tlv (open_tlvs s) path_setup ≡ some v

@@ -6,4 +6,5 @@ use borrow.Author.Rules.{rules}
 use Rattle.border_open.proofs.read_open.Goals as goal
 
 pub returns : goal.returns
-returns c = let s = c.args.octets.now in record { opened = c.opened_out.ensures.opened ∙ ap opened_out (c.read_open.ensures.read ∙ ap (λ (p : Positions). open_of p s) c.positions_in-at.ensures.positions) }
+returns c = let s = c.args.octets.now in
+    record { opened = c.opened_out.ensures.opened ∙ ap opened_out (c.read_open.ensures.read ∙ ap (λ (p : Positions). open_of p s) c.positions_in-at.ensures.positions) }

@@ -13,7 +13,8 @@ returns-then-pst-eq-MPLS_SETUP c =
     }
 
 pub returns-then-flagged : goal.returns-then-flagged
-returns-then-flagged c = let args = c.args in record { judged = c.judge_in.ensures.judged ∙ ap (λ (x : Session). judged_in args.octets.now args.kind x args.pst args.addresses.now) c.session_under-own.ensures.session }
+returns-then-flagged c = let args = c.args in
+    record { judged = c.judge_in.ensures.judged ∙ ap (λ (x : Session). judged_in args.octets.now args.kind x args.pst args.addresses.now) c.session_under-own.ensures.session }
 
 pub returns : goal.returns
 returns c =

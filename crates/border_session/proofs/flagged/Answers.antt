@@ -8,7 +8,9 @@ use borrow.Author.Rules.{rules}
 use Rattle.border_session.proofs.flagged.Goals as goal
 
 pub returns-then-pst-eq-MPLS_SETUP : goal.returns-then-pst-eq-MPLS_SETUP
-returns-then-pst-eq-MPLS_SETUP c = let args = c.args in record { flagged = ap (λ (x : Session). flagged_of x) (sym (under_mpls (sessions_in args.s) args.pst (eq-eqb _ _ c.if-pst-eq-MPLS_SETUP.true))) }
+returns-then-pst-eq-MPLS_SETUP c = let args = c.args in
+    record { flagged = ap (λ (x : Session). flagged_of x) (sym (under_mpls (sessions_in args.s) args.pst (eq-eqb _ _ c.if-pst-eq-MPLS_SETUP.true))) }
 
 pub returns : goal.returns
-returns c = let args = c.args in let own : c.either.result ≡ flagged_of (srv6_in args.s) = c.either.ensures.either ∙ rw (c.yes.ensures.yes, c.yes-2.ensures.yes) in record { flagged = own ∙ ap (λ (x : Session). flagged_of x) (sym (under_srv6 (sessions_in args.s) args.pst (ne_eqb _ _ c.if-pst-eq-MPLS_SETUP.false))) }
+returns c = let args = c.args in let own : c.either.result ≡ flagged_of (srv6_in args.s) = c.either.ensures.either ∙ rw (c.yes.ensures.yes, c.yes-2.ensures.yes) in
+    record { flagged = own ∙ ap (λ (x : Session). flagged_of x) (sym (under_srv6 (sessions_in args.s) args.pst (ne_eqb _ _ c.if-pst-eq-MPLS_SETUP.false))) }

@@ -6,7 +6,8 @@ pub returns-then-w-ne-MPLS_SIZE : goal.returns-then-w-ne-MPLS_SIZE
 returns-then-w-ne-MPLS_SIZE c = record { announced = c.refused_open.ensures.refused ∙ announced_unsized _ c.if-w-ne-MPLS_SIZE.true }
 
 pub returns-then-flags-eq1 : goal.returns-then-flags-eq1
-returns-then-flags-eq1 c = record { announced = c.with_mpls.ensures.accepted ∙ rw c.without_srv6.ensures.accepted (announced_free _ _ c.if-w-ne-MPLS_SIZE.false c.octet-flags.ensures.octet.0 c.if-flags-eq1.true) }
+returns-then-flags-eq1 c = record
+    { announced = c.with_mpls.ensures.accepted ∙ rw c.without_srv6.ensures.accepted (announced_free _ _ c.if-w-ne-MPLS_SIZE.false c.octet-flags.ensures.octet.0 c.if-flags-eq1.true) }
 
 pub returns-then-depth-eq0 : goal.returns-then-depth-eq0
 returns-then-depth-eq0 c =

@@ -14,7 +14,8 @@ pub returns-then-is_skipped : goal.returns-then-is_skipped
 returns-then-is_skipped c = record { read = c.alone.ensures.bare ∙ read_skipped _ (sym c.is_skipped.ensures.skipped ∙ c.if-is_skipped.true) }
 
 pub returns-then-line-gt-LONGEST_LINE : goal.returns-then-line-gt-LONGEST_LINE
-returns-then-line-gt-LONGEST_LINE c = record { read = c.alone-then-line-gt-LONGEST_LINE.ensures.bare ∙ read_long _ (sym c.is_skipped.ensures.skipped ∙ c.if-is_skipped.false) c.if-line-gt-LONGEST_LINE.true }
+returns-then-line-gt-LONGEST_LINE c = record
+    { read = c.alone-then-line-gt-LONGEST_LINE.ensures.bare ∙ read_long _ (sym c.is_skipped.ensures.skipped ∙ c.if-is_skipped.false) c.if-line-gt-LONGEST_LINE.true }
 
 pub returns-then-not-is_formed : goal.returns-then-not-is_formed
 returns-then-not-is_formed c =

@@ -15,4 +15,5 @@ pub returns-in-EroSegment : goal.returns-in-EroSegment
 returns-in-EroSegment c = let a = c.args in record { told = behind_by (λ (y : Asking). asked_line y a.c a.line.now a.sessions (list_in a.memory.now a.given)) c.in-EroSegment.is c.picked.ensures.told }
 
 pub returns-in-RroSegment : goal.returns-in-RroSegment
-returns-in-RroSegment c = let a = c.args in record { told = behind_by (λ (y : Asking). asked_line y a.c a.line.now a.sessions (list_in a.memory.now a.given)) c.in-RroSegment.is c.picked-in-RroSegment.ensures.told }
+returns-in-RroSegment c = let a = c.args in
+    record { told = behind_by (λ (y : Asking). asked_line y a.c a.line.now a.sessions (list_in a.memory.now a.given)) c.in-RroSegment.is c.picked-in-RroSegment.ensures.told }

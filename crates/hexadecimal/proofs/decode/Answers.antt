@@ -50,4 +50,5 @@ pub shape_of-out : goal.shape_of-out
 shape_of-out c = c.loop-n.invariant.1
 
 pub returns : goal.returns
-returns c = let e : c.loop-n.n ≡ length (octets_of c.args.word.now) = omega (arith, length_octets c.args.word.now) in record { decoded = (e, c.loop-n.invariant.3 ∙ copied_all c.args.out.now (octets_of c.args.word.now) c.loop-n.n e) }
+returns c = let e : c.loop-n.n ≡ length (octets_of c.args.word.now) = omega (arith, length_octets c.args.word.now) in
+    record { decoded = (e, c.loop-n.invariant.3 ∙ copied_all c.args.out.now (octets_of c.args.word.now) c.loop-n.n e) }

@@ -9,7 +9,10 @@ pub loop-i-init : goal.loop-i-init
 loop-i-init c = passing_start _
 
 pub returns-then-not-either : goal.returns-then-not-either
-returns-then-not-either c = let l = c.loop-i in let t = c.loop-i-test.true in let p = c.args.p.now in let kind = c.wide-kind.ensures.same.0 in let e = sym c.either.ensures.either ∙ c.if-not-either.true in let q = passing_wrong p l.i l.v l.m l.invariant t kind c.if-kind-eq-MAX_H_ENCAPS.false c.if-kind-eq-MAX_SEGMENTS_LEFT.false e in record { gathered = q; wrong = gathered_wrong (pairs_in p) q; stands = λ f. absurd (false≢true (sym f)) }
+returns-then-not-either c = let l = c.loop-i in let t = c.loop-i-test.true in let p = c.args.p.now in let kind = c.wide-kind.ensures.same.0 in
+    let e = sym c.either.ensures.either ∙ c.if-not-either.true in
+    let q = passing_wrong p l.i l.v l.m l.invariant t kind c.if-kind-eq-MAX_H_ENCAPS.false c.if-kind-eq-MAX_SEGMENTS_LEFT.false e in
+    record { gathered = q; wrong = gathered_wrong (pairs_in p) q; stands = λ f. absurd (false≢true (sym f)) }
 
 pub loop-i-preserved : goal.loop-i-preserved
 loop-i-preserved c =
@@ -29,4 +32,5 @@ loop-i-preserved c =
     ]
 
 pub returns : goal.returns
-returns c = let l = c.loop-i in let p = c.args.p.now in let q = passed p l.i l.v l.m l.invariant c.loop-i-test.false in record { gathered = q; wrong = gathered_wrong (pairs_in p) q; stands = λ e. passed_stands p l.i l.v l.m l.invariant c.loop-i-test.false }
+returns c = let l = c.loop-i in let p = c.args.p.now in let q = passed p l.i l.v l.m l.invariant c.loop-i-test.false in
+    record { gathered = q; wrong = gathered_wrong (pairs_in p) q; stands = λ e. passed_stands p l.i l.v l.m l.invariant c.loop-i-test.false }

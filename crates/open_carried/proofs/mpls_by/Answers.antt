@@ -8,4 +8,5 @@ pub returns-then-sub-eq-NOWHERE : goal.returns-then-sub-eq-NOWHERE
 returns-then-sub-eq-NOWHERE c = let a = c.args in record { carried = rw (c.refused_open.ensures.refused, value_missing a.s.now a.sub (eq-eqb _ _ c.if-sub-eq-NOWHERE.true)) }
 
 pub returns : goal.returns
-returns c = let a = c.args in record { carried = rw (value_there a.s.now a.sub (ne_eqb _ _ c.if-sub-eq-NOWHERE.false)) (rw (part_lent a.s.now a.sub.from a.sub.len) at c.announced_mpls.ensures.announced) }
+returns c = let a = c.args in
+    record { carried = rw (value_there a.s.now a.sub (ne_eqb _ _ c.if-sub-eq-NOWHERE.false)) (rw (part_lent a.s.now a.sub.from a.sub.len) at c.announced_mpls.ensures.announced) }

@@ -13,7 +13,8 @@ pub ending_marked-requires : goal.ending_marked-requires
 ending_marked-requires c = c.requires.2
 
 pub returns-then-ending_marked : goal.returns-then-ending_marked
-returns-then-ending_marked c = let args = c.args in record { one = (ending_one args.form args.h args.s.now args.at c.requires.2.0 (sym c.ending_marked.ensures.marked ∙ c.if-ending_marked.true), omega arith) }
+returns-then-ending_marked c = let args = c.args in
+    record { one = (ending_one args.form args.h args.s.now args.at c.requires.2.0 (sym c.ending_marked.ensures.marked ∙ c.if-ending_marked.true), omega arith) }
 
 pub returns : goal.returns
 returns c =

@@ -17,7 +17,10 @@ fits c = done (length c.args.buf.now) c.args.writer.at (free c)
 
 pub returns-then-number-ne0 : goal.returns-then-number-ne0
 unfolding finish_answer finish_buffer
-returns-then-number-ne0 c = record { answer = answered_refused c.finishing-number.result _ _ _ c.refuse.ensures.refused c.finishing-number.ensures.number c.if-number-ne0.true; buffer = buffer_refused c.finishing-number.result _ _ _ c.finishing-number.ensures.number c.if-number-ne0.true }
+returns-then-number-ne0 c = record {
+  answer = answered_refused c.finishing-number.result _ _ _ c.refuse.ensures.refused c.finishing-number.ensures.number c.if-number-ne0.true;
+  buffer = buffer_refused c.finishing-number.result _ _ _ c.finishing-number.ensures.number c.if-number-ne0.true;
+}
 
 pub bounds-buf-2 : goal.bounds-buf-2
 bounds-buf-2 c =

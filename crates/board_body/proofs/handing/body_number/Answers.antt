@@ -17,7 +17,8 @@ returns-then-not-is_board c =
 
 pub returns : goal.returns
 returns c =
-    let args = c.args in let t = table_of args.keys.now args.versions.now args.lengths.now args.version args.floor args.forms.now in let b = with_rows t args.order.now args.tops.now in let h = record_is b _ _ c.is_board.ensures.board (ap not c.if-not-is_board.false) in record {
+    let args = c.args in let t = table_of args.keys.now args.versions.now args.lengths.now args.version args.floor args.forms.now in
+    let b = with_rows t args.order.now args.tops.now in let h = record_is b _ _ c.is_board.ensures.board (ap not c.if-not-is_board.false) in record {
       number = number_on b args.store.now args.key _ h.1
           (number_is t args.store.now args.key true _ _ _ (sym h.0) refl c.place_in-at.ensures.place c.length_in.ensures.length
           c.body_rules.ensures.first);

@@ -22,7 +22,8 @@ returns-then-not-is_board c =
 
 pub returns-then-verdict-ne0 : goal.returns-then-verdict-ne0
 returns-then-verdict-ne0 c =
-    let args = c.args in let t = table_of args.keys.now args.versions.now args.lengths.now args.version args.floor.now args.forms.now in let b = with_rows t args.order.now args.tops.now in let h = record_is b _ _ c.is_board.ensures.board (ap not c.if-not-is_board.false) in record {
+    let args = c.args in let t = table_of args.keys.now args.versions.now args.lengths.now args.version args.floor.now args.forms.now in
+    let b = with_rows t args.order.now args.tops.now in let h = record_is b _ _ c.is_board.ensures.board (ap not c.if-not-is_board.false) in record {
       answer = result_refused b _ _ h.1
           (compact_refused t args.store.now args.c _
           (compact_verdict_lem t args.store.now args.c true _ (sym h.0) refl c.compact_rules-verdict.ensures.first) c.if-verdict-ne0.true) c.if-verdict-ne0.true;
@@ -55,7 +56,8 @@ work_out-requires c =
 
 pub returns : goal.returns
 returns c =
-    let args = c.args in let t = table_of args.keys.now args.versions.now args.lengths.now args.version args.floor.now args.forms.now in let b = with_rows t args.order.now args.tops.now in let h = record_is b _ _ c.is_board.ensures.board
+    let args = c.args in let t = table_of args.keys.now args.versions.now args.lengths.now args.version args.floor.now args.forms.now in
+    let b = with_rows t args.order.now args.tops.now in let h = record_is b _ _ c.is_board.ensures.board
     (ap not c.if-not-is_board.false) in let sweep = c.sweep-dropped in let if2-left = c.if-verdict-ne0.false in record {
       answer = result_accepted b _ _ _ _ _ h.1
           (compact_accepted t args.store.now args.c _ _

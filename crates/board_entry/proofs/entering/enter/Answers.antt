@@ -20,4 +20,5 @@ raise-requires c =
     (search rules, search rules, c.requires.2, c.requires.3, λ p k. omega (arith, versions_in t (proper_is t c.requires.0) p k))
 
 pub returns : goal.returns
-returns c = let args = c.args in let t = table_of args.keys.now args.versions.now args.lengths.now args.version.now args.floor.now args.forms.now in record { table = refl; rows = (c.move_last.ensures.order (bearing t args.key args.n args.form) args.raised c.requires.4 (omega arith), c.raise.ensures.raised) }
+returns c = let args = c.args in let t = table_of args.keys.now args.versions.now args.lengths.now args.version.now args.floor.now args.forms.now in
+    record { table = refl; rows = (c.move_last.ensures.order (bearing t args.key args.n args.form) args.raised c.requires.4 (omega arith), c.raise.ensures.raised) }

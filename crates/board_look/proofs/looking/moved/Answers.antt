@@ -16,7 +16,8 @@ returns-then-not-is_board c =
 
 pub returns-then-verdict-ne0 : goal.returns-then-verdict-ne0
 returns-then-verdict-ne0 c =
-    let args = c.args in let t = table_of args.keys.now args.versions.now args.lengths.now args.version args.floor args.forms.now in let b = with_rows t args.order.now args.tops.now in let h = record_is b _ _ c.is_board.ensures.board
+    let args = c.args in let t = table_of args.keys.now args.versions.now args.lengths.now args.version args.floor args.forms.now in
+    let b = with_rows t args.order.now args.tops.now in let h = record_is b _ _ c.is_board.ensures.board
     (ap not c.if-not-is_board.false) in record {
       moved = moved_on_lem b args.store.now args.from args.to args.v _ h.1
           (moved_refused t args.store.now args.from args.to args.v _ h.0
@@ -33,7 +34,8 @@ any_moved-requires c =
 
 pub returns-then-any_moved : goal.returns-then-any_moved
 returns-then-any_moved c =
-    let args = c.args in let t = table_of args.keys.now args.versions.now args.lengths.now args.version args.floor args.forms.now in let b = with_rows t args.order.now args.tops.now in let h = record_is b _ _ c.is_board.ensures.board (ap not c.if-not-is_board.false) in record {
+    let args = c.args in let t = table_of args.keys.now args.versions.now args.lengths.now args.version args.floor args.forms.now in
+    let b = with_rows t args.order.now args.tops.now in let h = record_is b _ _ c.is_board.ensures.board (ap not c.if-not-is_board.false) in record {
       moved = moved_on_lem b args.store.now args.from args.to args.v _ h.1
           (moved_told t args.store.now args.from args.to args.v _ _ _ h.0 c.moved_rules-verdict.ensures.first
           c.if-verdict-ne0.false (sym c.if-any_moved.true ∙ c.any_moved.ensures.moved)
@@ -42,7 +44,8 @@ returns-then-any_moved c =
 
 pub returns : goal.returns
 returns c =
-    let args = c.args in let t = table_of args.keys.now args.versions.now args.lengths.now args.version args.floor args.forms.now in let b = with_rows t args.order.now args.tops.now in let h = record_is b _ _ c.is_board.ensures.board (ap not c.if-not-is_board.false) in record {
+    let args = c.args in let t = table_of args.keys.now args.versions.now args.lengths.now args.version args.floor args.forms.now in
+    let b = with_rows t args.order.now args.tops.now in let h = record_is b _ _ c.is_board.ensures.board (ap not c.if-not-is_board.false) in record {
       moved = moved_on_lem b args.store.now args.from args.to args.v _ h.1
           (moved_told t args.store.now args.from args.to args.v _ _ _ h.0 c.moved_rules-verdict.ensures.first
           c.if-verdict-ne0.false (sym c.if-any_moved.false ∙ c.any_moved.ensures.moved)

@@ -56,7 +56,8 @@ bounds-order-i c = omega arith
 
 pub returns-then-version-last : goal.returns-then-version-last
 returns-then-version-last c =
-    let args = c.args in let t = table_of args.keys.now args.versions.now args.lengths.now args.version args.floor args.forms.now in let order = args.order.now in let inv = c.loop-i.invariant in record {
+    let args = c.args in let t = table_of args.keys.now args.versions.now args.lengths.now args.version args.floor args.forms.now in let order = args.order.now in
+    let inv = c.loop-i.invariant in record {
       proper = no_tops t order args.tops.now
           (stop_last t order _ _ inv.0 inv.1 c.if-version-last.true);
     }
@@ -66,7 +67,8 @@ closed-requires c = (c.loop-i.invariant.0, c.extent-m.ensures.reach)
 
 pub returns-then-not-closed : goal.returns-then-not-closed
 returns-then-not-closed c =
-    let args = c.args in let t = table_of args.keys.now args.versions.now args.lengths.now args.version args.floor args.forms.now in let order = args.order.now in let inv = c.loop-i.invariant in record {
+    let args = c.args in let t = table_of args.keys.now args.versions.now args.lengths.now args.version args.floor args.forms.now in let order = args.order.now in
+    let inv = c.loop-i.invariant in record {
       proper = no_tops t order args.tops.now
           (stop_closed t order _ _ inv.0 inv.1 (c.numbered-x.ensures.place.none c.if-x-ge-PLACES.true) c.loop-i-test.true _
           c.closed.ensures.closed (ap not c.if-not-closed.true));
@@ -74,7 +76,9 @@ returns-then-not-closed c =
 
 pub returns-then-x-ge-PLACES : goal.returns-then-x-ge-PLACES
 returns-then-x-ge-PLACES c =
-    let args = c.args in let t = table_of args.keys.now args.versions.now args.lengths.now args.version args.floor args.forms.now in let order = args.order.now in let inv = c.loop-i.invariant in let all = is_closed t order _ _ inv.0 inv.1 _ c.closed.ensures.closed (ap not c.if-not-closed.false) in let rest = clear_at t order _ _ inv.0 inv.1 _ refl all.2 in record {
+    let args = c.args in let t = table_of args.keys.now args.versions.now args.lengths.now args.version args.floor args.forms.now in let order = args.order.now in
+    let inv = c.loop-i.invariant in let all = is_closed t order _ _ inv.0 inv.1 _ c.closed.ensures.closed (ap not c.if-not-closed.false) in
+    let rest = clear_at t order _ _ inv.0 inv.1 _ refl all.2 in record {
       proper = end_tops t order _ args.tops.now _ _ inv.0 inv.3 inv.1.risen rest _
           (end_short t order _ _ inv.0 inv.1 _ _ refl all.0 refl all.1 rest inv.2.fine
           c.if-version-floor.false c.if-version-gt-VERSION_MOST.false
@@ -92,7 +96,8 @@ late-requires c = (c.if-x-ge-PLACES.false, c.loop-i.invariant.4.last_in)
 
 pub returns-then-not-late : goal.returns-then-not-late
 returns-then-not-late c =
-    let args = c.args in let t = table_of args.keys.now args.versions.now args.lengths.now args.version args.floor args.forms.now in let order = args.order.now in let inv = c.loop-i.invariant in let is = c.numbered-x.ensures.place.is c.if-x-ge-PLACES.false in record {
+    let args = c.args in let t = table_of args.keys.now args.versions.now args.lengths.now args.version args.floor args.forms.now in let order = args.order.now in
+    let inv = c.loop-i.invariant in let is = c.numbered-x.ensures.place.is c.if-x-ge-PLACES.false in record {
       proper = no_tops t order args.tops.now
           (stop_late t order _ _ _ _ _ _ c.loop-i-test.true inv.1 inv.4 is c.if-x-ge-PLACES.false refl c.late.ensures.late (ap not c.if-not-late.true));
     }
@@ -114,7 +119,8 @@ bucketed-requires c =
 
 pub returns-then-not-bucketed : goal.returns-then-not-bucketed
 returns-then-not-bucketed c =
-    let args = c.args in let t = table_of args.keys.now args.versions.now args.lengths.now args.version args.floor args.forms.now in let order = args.order.now in let inv = c.loop-i.invariant in let is = c.numbered-x.ensures.place.is c.if-x-ge-PLACES.false in record {
+    let args = c.args in let t = table_of args.keys.now args.versions.now args.lengths.now args.version args.floor args.forms.now in let order = args.order.now in
+    let inv = c.loop-i.invariant in let is = c.numbered-x.ensures.place.is c.if-x-ge-PLACES.false in record {
       proper = no_tops t order args.tops.now
           (stop_new t order _ _ _ _ c.loop-i-test.true inv.1 is c.if-x-ge-PLACES.false c.bucketed.ensures.new (ap not c.if-not-bucketed.true));
     }
@@ -152,14 +158,16 @@ loop-i-preserved c =
 
 pub returns-then-version-last-2 : goal.returns-then-version-last-2
 returns-then-version-last-2 c =
-    let args = c.args in let t = table_of args.keys.now args.versions.now args.lengths.now args.version args.floor args.forms.now in let order = args.order.now in let inv = c.loop-i.invariant in record {
+    let args = c.args in let t = table_of args.keys.now args.versions.now args.lengths.now args.version args.floor args.forms.now in let order = args.order.now in
+    let inv = c.loop-i.invariant in record {
       proper = no_tops t order args.tops.now
           (stop_last t order _ _ inv.0 inv.1 c.if-version-last-2.true);
     }
 
 pub returns : goal.returns
 returns c =
-    let args = c.args in let t = table_of args.keys.now args.versions.now args.lengths.now args.version args.floor args.forms.now in let order = args.order.now in let inv = c.loop-i.invariant in record {
+    let args = c.args in let t = table_of args.keys.now args.versions.now args.lengths.now args.version args.floor args.forms.now in let order = args.order.now in
+    let inv = c.loop-i.invariant in record {
       proper = end_tops t order _ args.tops.now _ _ inv.0 inv.3 inv.1.risen
           (λ j h k. absurd (omega (arith, c.loop-i-test.false))) _
           (end_full t order _ _ inv.0 inv.1 c.loop-i-test.false inv.2.fine c.if-version-floor.false c.if-version-gt-VERSION_MOST.false

@@ -12,7 +12,8 @@ use Rattle.board_proper.proofs.pass.is_proper.Given as goal
 
 abbrev pub invariant-loop-i : goal.invariant-loop-i
 invariant-loop-i l =
-    (l.i ≤ places) × Along (table_of l.keys l.versions l.lengths l.version l.floor l.forms) l.order l.i l.last × Hashed (along l.keys l.order) l.heads l.nexts l.i × Topped l.versions l.order l.seen l.i
+    (l.i ≤ places) × Along (table_of l.keys l.versions l.lengths l.version l.floor l.forms) l.order l.i l.last × Hashed (along l.keys l.order) l.heads l.nexts l.i ×
+    Topped l.versions l.order l.seen l.i
     × Bounded l.floor l.last l.bound
 
 abbrev pub decreases-loop-i : goal.decreases-loop-i

@@ -17,12 +17,14 @@ use Rattle.board_remove.proofs.removing.remove.Goals as goal
 
 pub returns-then-not-is_board : goal.returns-then-not-is_board
 returns-then-not-is_board c =
-    let args = c.args in let t = table_of args.keys.now args.versions.now args.lengths.now args.version.now args.floor args.forms.now in let b = with_rows t args.order.now args.tops.now in record { answer = result_not b _ _ _ _ c.is_board.ensures.board (ap not c.if-not-is_board.true) c.refused.ensures.refused
+    let args = c.args in let t = table_of args.keys.now args.versions.now args.lengths.now args.version.now args.floor args.forms.now in
+    let b = with_rows t args.order.now args.tops.now in record { answer = result_not b _ _ _ _ c.is_board.ensures.board (ap not c.if-not-is_board.true) c.refused.ensures.refused
         (λ e. remove_not_board t args.store.now args.key false _ (sym e) refl c.refused.ensures.refused) }
 
 pub returns-then-verdict-ne0 : goal.returns-then-verdict-ne0
 returns-then-verdict-ne0 c =
-    let args = c.args in let t = table_of args.keys.now args.versions.now args.lengths.now args.version.now args.floor args.forms.now in let b = with_rows t args.order.now args.tops.now in let h = record_is b _ _ c.is_board.ensures.board (ap not c.if-not-is_board.false) in record { answer = result_refused b _ _ h.1
+    let args = c.args in let t = table_of args.keys.now args.versions.now args.lengths.now args.version.now args.floor args.forms.now in
+    let b = with_rows t args.order.now args.tops.now in let h = record_is b _ _ c.is_board.ensures.board (ap not c.if-not-is_board.false) in record { answer = result_refused b _ _ h.1
         (remove_refused t args.store.now args.key _
         (remove_verdict_lem t args.store.now args.key true _ _ _ (sym h.0) refl c.place_in-at.ensures.place
         c.length_in.ensures.length c.remove_rules-verdict.ensures.first) c.if-verdict-ne0.true) c.if-verdict-ne0.true }
@@ -106,7 +108,9 @@ bounds-forms-at c =
 
 pub returns : goal.returns
 returns c =
-    let args = c.args in let t = table_of args.keys.now args.versions.now args.lengths.now args.version.now args.floor args.forms.now in let b = with_rows t args.order.now args.tops.now in let h = record_is b _ _ c.is_board.ensures.board (ap not c.if-not-is_board.false) in let l = remove_place args.key c.place_in-at.result c.length_in.result
+    let args = c.args in let t = table_of args.keys.now args.versions.now args.lengths.now args.version.now args.floor args.forms.now in
+    let b = with_rows t args.order.now args.tops.now in let h = record_is b _ _ c.is_board.ensures.board (ap not c.if-not-is_board.false) in
+    let l = remove_place args.key c.place_in-at.result c.length_in.result
         args.version.now _ c.remove_rules-verdict.ensures.first c.if-verdict-ne0.false in let if2-left = c.if-verdict-ne0.false in let IsPlace-in record { answer = = c.place_in-at in
         let rules = c.remove_rules-verdict in
         result_accepted b _ _ _ _ _ h.1

@@ -16,7 +16,8 @@ use Rattle.board_report.proofs.reporting.report.Goals as goal
 
 pub returns-then-not-is_board : goal.returns-then-not-is_board
 returns-then-not-is_board c =
-    let args = c.args in let t = table_of args.keys.now args.versions.now args.lengths.now args.version.now args.floor.now args.forms.now in let b = with_rows t args.order.now args.tops.now in record {
+    let args = c.args in let t = table_of args.keys.now args.versions.now args.lengths.now args.version.now args.floor.now args.forms.now in
+    let b = with_rows t args.order.now args.tops.now in record {
       answer = (
         result_not b _ _ _ _ c.is_board.ensures.board (ap not c.if-not-is_board.true) c.refused.ensures.refused
             (λ e. report_not_board t args.store.now args.key args.octets.now args.session args.pst false _ (sym e) refl c.refused.ensures.refused),
@@ -36,7 +37,8 @@ target-at-requires c =
 pub returns-then-verdict-ne0 : goal.returns-then-verdict-ne0
 returns-then-verdict-ne0 c =
     let args = c.args in let t = table_of args.keys.now args.versions.now args.lengths.now args.version.now
-    args.floor.now args.forms.now in let b = with_rows t args.order.now args.tops.now in let h = record_is b _ _ c.is_board.ensures.board (ap not c.if-not-is_board.false) in let v = report_verdict_lem t args.store.now args.key args.octets.now args.session args.pst true _ _ _ _
+    args.floor.now args.forms.now in let b = with_rows t args.order.now args.tops.now in
+    let h = record_is b _ _ c.is_board.ensures.board (ap not c.if-not-is_board.false) in let v = report_verdict_lem t args.store.now args.key args.octets.now args.session args.pst true _ _ _ _
     (sym h.0) refl c.target-at.ensures.target
     c.body_size-n.ensures.size c.judge.ensures.judged
     c.report_rules-verdict.ensures.first in record {
@@ -153,7 +155,11 @@ lay-requires c =
 
 pub returns : goal.returns
 returns c =
-    let rules = c.report_rules-verdict in let judge = c.judge in let size = c.body_size-n in let target = c.target-at in let args = c.args in let t = table_of args.keys.now args.versions.now args.lengths.now args.version.now args.floor.now args.forms.now in let b = with_rows t args.order.now args.tops.now in let h = record_is b _ _ c.is_board.ensures.board (ap not c.if-not-is_board.false) in let yes = c.if-verdict-ne0.false in let enter = c.enter in let raised = c.floor_after-raised in let v = report_verdict_lem t args.store.now args.key args.octets.now args.session args.pst true _ _ _ _
+    let rules = c.report_rules-verdict in let judge = c.judge in let size = c.body_size-n in let target = c.target-at in let args = c.args in
+    let t = table_of args.keys.now args.versions.now args.lengths.now args.version.now args.floor.now args.forms.now in
+    let b = with_rows t args.order.now args.tops.now in let h = record_is b _ _ c.is_board.ensures.board (ap not c.if-not-is_board.false) in
+    let yes = c.if-verdict-ne0.false in let enter = c.enter in let raised = c.floor_after-raised in
+    let v = report_verdict_lem t args.store.now args.key args.octets.now args.session args.pst true _ _ _ _
     (sym h.0) refl target.ensures.target size.ensures.size judge.ensures.judged rules.ensures.first in record {
       answer = (
         result_accepted b _ _ _ _ _ h.1

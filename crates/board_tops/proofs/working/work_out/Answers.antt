@@ -9,7 +9,8 @@ use mathlib.Core.Bool.{not}
 use Rattle.board_tops.proofs.working.work_out.Goals as goal
 
 pub returns-then-not-dropped : goal.returns-then-not-dropped
-returns-then-not-dropped c = let e = c.requires.2 (not-true c.args.dropped (ap not c.if-not-dropped.true)) in record { tops = tops_are c.args.versions.now c.args.tops.now c.requires.1 (tops_top c.args.versions.now c.args.tops.now e) }
+returns-then-not-dropped c = let e = c.requires.2 (not-true c.args.dropped (ap not c.if-not-dropped.true)) in
+    record { tops = tops_are c.args.versions.now c.args.tops.now c.requires.1 (tops_top c.args.versions.now c.args.tops.now e) }
 
 pub loop-g-init : goal.loop-g-init
 loop-g-init c = (c.requires.0, omega arith, worked_none _ _ c.requires.1)

@@ -8,7 +8,8 @@ use native.Mathlib.Omega.{arith}
 use Rattle.command_forms.proofs.form.is_formed.Goals as goal
 
 pub returns-then-count-form : goal.returns-then-count-form
-returns-then-count-form c = let a = c.args in let e = form_in a.place refl c.word-row.ensures.word.0 c.word-form.ensures.word.0 in record { formed = other_number a.place _ a.line.now e (λ h. c.if-count-form.true (c.count.ensures.count ∙ h)) }
+returns-then-count-form c = let a = c.args in let e = form_in a.place refl c.word-row.ensures.word.0 c.word-form.ensures.word.0 in
+    record { formed = other_number a.place _ a.line.now e (λ h. c.if-count-form.true (c.count.ensures.count ∙ h)) }
 
 pub loop-i-init : goal.loop-i-init
 loop-i-init c =

@@ -12,7 +12,9 @@ pub loop-i-init : goal.loop-i-init
 loop-i-init c = (refl, c.count-n.ensures.count ∙ count, looking_start _)
 
 pub returns-then-same : goal.returns-then-same
-returns-then-same c = let inv = c.loop-i.invariant in let h : c.loop-i.i < length rows = omega (arith, inv.1, c.loop-i-test.true) in let e = name_in c.loop-i.i inv.0 c.word-row.ensures.word.0 c.word.ensures.word.0 in record { place = looking_hit _ _ h inv.2 (sym (c.same.ensures.same ∙ ap (λ (x : List ℕ). same_octets c.args.w.now x) e) ∙ c.if-same.true) }
+returns-then-same c = let inv = c.loop-i.invariant in let h : c.loop-i.i < length rows = omega (arith, inv.1, c.loop-i-test.true) in
+    let e = name_in c.loop-i.i inv.0 c.word-row.ensures.word.0 c.word.ensures.word.0 in
+    record { place = looking_hit _ _ h inv.2 (sym (c.same.ensures.same ∙ ap (λ (x : List ℕ). same_octets c.args.w.now x) e) ∙ c.if-same.true) }
 
 pub overflow_add-i : goal.overflow_add-i
 overflow_add-i c = omega arith

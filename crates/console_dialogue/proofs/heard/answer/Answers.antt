@@ -22,4 +22,5 @@ answered-turn-requires c =
 
 pub returns : goal.returns
 unfolding next_number
-returns c = let a = c.args in let g = heard_of a.h a.store.now a.memory.now a.line.now in let e = c.numbered-lines.ensures.number in record { heard = ended_made g e c.answered-turn.ensures.done.console; told = turn_told g e c.answered-turn.ensures.done.told; begun = refl }
+returns c = let a = c.args in let g = heard_of a.h a.store.now a.memory.now a.line.now in let e = c.numbered-lines.ensures.number in
+    record { heard = ended_made g e c.answered-turn.ensures.done.console; told = turn_told g e c.answered-turn.ensures.done.told; begun = refl }

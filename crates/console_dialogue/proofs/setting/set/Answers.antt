@@ -19,7 +19,8 @@ done-requires-in-Addresses c = omega (arith, c.requires.2.stored)
 
 pub returns-in-Pcc : goal.returns-in-Pcc
 returns-in-Pcc c =
-    let pre = c.requires in let heard = c.heard-o in record { done = does v.Pcc pre.0 (pre.1 ∙ ap set c.in-Pcc.is) (c.ended.ensures.ended.0 ∙ c.with_pcc.ensures.pcc, c.ended.ensures.ended.1) c.opened.ensures.0
+    let pre = c.requires in let heard = c.heard-o in
+    record { done = does v.Pcc pre.0 (pre.1 ∙ ap set c.in-Pcc.is) (c.ended.ensures.ended.0 ∙ c.with_pcc.ensures.pcc, c.ended.ensures.ended.1) c.opened.ensures.0
         (ap opened_line heard.ensures) (parts refl refl heard.ensures refl refl refl refl) }
 
 pub returns-in-Pce : goal.returns-in-Pce
@@ -30,10 +31,16 @@ returns-in-Pce c =
 
 pub returns-in-Positions : goal.returns-in-Positions
 returns-in-Positions c =
-    let pre = c.requires in record { done = does v.Positions pre.0 (pre.1 ∙ ap set c.in-Positions.is) (c.ended-in-Positions.ensures.ended.0 ∙ c.with_positions.ensures.positions, c.ended-in-Positions.ensures.ended.1) c.done.ensures.0 refl
+    let pre = c.requires in
+    record
+        { done = does v.Positions pre.0 (pre.1 ∙ ap set c.in-Positions.is)
+            (c.ended-in-Positions.ensures.ended.0 ∙ c.with_positions.ensures.positions, c.ended-in-Positions.ensures.ended.1) c.done.ensures.0 refl
         refl }
 
 pub returns-in-Addresses : goal.returns-in-Addresses
 returns-in-Addresses c =
-    let a = c.args in let pre = c.requires in record { done = does v.Addresses pre.0 (pre.1 ∙ ap set c.in-Addresses.is) (c.ended-in-Addresses.ensures.ended.0 ∙ c.with_given.ensures.given, c.ended-in-Addresses.ensures.ended.1) c.done-in-Addresses.ensures.0 refl
+    let a = c.args in let pre = c.requires in
+    record
+        { done = does v.Addresses pre.0 (pre.1 ∙ ap set c.in-Addresses.is)
+            (c.ended-in-Addresses.ensures.ended.0 ∙ c.with_given.ensures.given, c.ended-in-Addresses.ensures.ended.1) c.done-in-Addresses.ensures.0 refl
         (parts refl refl refl refl refl (part_stays a.state.size a.memory.now _ c.addressed-given.ensures.1) c.addressed-given.ensures.0) }

@@ -52,7 +52,8 @@ pub returns-then-not-listed : goal.returns-then-not-listed
 returns-then-not-listed c =
     record {
       read = c.srv6_by-srv6.ensures.carried
-          ∙ alone _ _ (of-use (goal.at.returns-then-not-listed c).Else-not-usable) (good (goal.at.returns-then-not-listed c).Else-not-is_framed) (rw c.in-Values.is at (walked (goal.at.returns-then-not-listed c).After-walk)) (sym c.listed.ensures.listed ∙ c.if-not-listed.true);
+          ∙ alone _ _ (of-use (goal.at.returns-then-not-listed c).Else-not-usable) (good (goal.at.returns-then-not-listed c).Else-not-is_framed)
+          (rw c.in-Values.is at (walked (goal.at.returns-then-not-listed c).After-walk)) (sym c.listed.ensures.listed ∙ c.if-not-listed.true);
     }
 
 pub walk-requires-in-Values : goal.walk-requires-in-Values
@@ -62,13 +63,17 @@ pub mpls_by-requires : goal.mpls_by-requires
 mpls_by-requires c = let f = rw c.in-Values-walk.is at c.walk-in-Values.ensures.within in f.1
 
 pub returns-in-Cut : goal.returns-in-Cut
-returns-in-Cut c = record { read = c.refused_open-in-Cut.ensures.refused ∙ cut_first _ _ (of-use (goal.at.returns-in-Cut c).Else-not-usable) (good (goal.at.returns-in-Cut c).Else-not-is_framed) (rw c.in-Cut.is at (walked (goal.at.returns-in-Cut c).After-walk)) }
+returns-in-Cut c = record {
+  read = c.refused_open-in-Cut.ensures.refused ∙ cut_first _ _ (of-use (goal.at.returns-in-Cut c).Else-not-usable)
+      (good (goal.at.returns-in-Cut c).Else-not-is_framed) (rw c.in-Cut.is at (walked (goal.at.returns-in-Cut c).After-walk));
+}
 
 pub returns-in-Cut-walk : goal.returns-in-Cut-walk
 returns-in-Cut-walk c =
     record {
       read = c.refused_open-in-Cut-walk.ensures.refused
-          ∙ cut_second _ _ (of-use (goal.at.returns-in-Cut-walk c).Else-not-usable) (good (goal.at.returns-in-Cut-walk c).Else-not-is_framed) (rw c.in-Values.is at (walked (goal.at.returns-in-Cut-walk c).After-walk))
+          ∙ cut_second _ _ (of-use (goal.at.returns-in-Cut-walk c).Else-not-usable) (good (goal.at.returns-in-Cut-walk c).Else-not-is_framed)
+          (rw c.in-Values.is at (walked (goal.at.returns-in-Cut-walk c).After-walk))
           (sym c.listed.ensures.listed ∙ c.if-not-listed.false)
           (rw c.in-Cut-walk.is at (walked-again (goal.at.returns-in-Cut-walk c).After-walk-in-Values));
     }
@@ -78,7 +83,8 @@ returns-in-Values-walk c =
     record {
       read = c.joined.ensures.joined
           ∙ rw (c.mpls_by.ensures.carried, c.srv6_by-srv6.ensures.carried) (
-          beside _ _ (of-use (goal.at.returns-in-Values-walk c).Else-not-usable) (good (goal.at.returns-in-Values-walk c).Else-not-is_framed) (rw c.in-Values.is at (walked (goal.at.returns-in-Values-walk c).After-walk))
+          beside _ _ (of-use (goal.at.returns-in-Values-walk c).Else-not-usable) (good (goal.at.returns-in-Values-walk c).Else-not-is_framed)
+          (rw c.in-Values.is at (walked (goal.at.returns-in-Values-walk c).After-walk))
           (sym c.listed.ensures.listed ∙ c.if-not-listed.false)
           (rw c.in-Values-walk.is at (walked-again (goal.at.returns-in-Values-walk c).After-walk-in-Values))
           );

@@ -19,7 +19,8 @@ see_mpls-requires c =
     (headed, omega (arith, (headed_sized _ _ headed).read, known 2, known 3))
 
 pub returns-then-pst-eq-MPLS_SETUP : goal.returns-then-pst-eq-MPLS_SETUP
-returns-then-pst-eq-MPLS_SETUP c = let args = c.args in record { settled = subst (λ (form : Form). SettledBy form args.s.now args.ero args.n c.see_mpls.result) (form_mpls args.pst c.if-pst-eq-MPLS_SETUP.true) c.see_mpls.ensures.settled }
+returns-then-pst-eq-MPLS_SETUP c = let args = c.args in
+    record { settled = subst (λ (form : Form). SettledBy form args.s.now args.ero args.n c.see_mpls.result) (form_mpls args.pst c.if-pst-eq-MPLS_SETUP.true) c.see_mpls.ensures.settled }
 
 pub see_srv6-requires : goal.see_srv6-requires
 unfolding be16
@@ -29,4 +30,5 @@ see_srv6-requires c =
     (headed, omega (arith, (headed_sized _ _ headed).read, known 2, known 3))
 
 pub returns : goal.returns
-returns c = let args = c.args in record { settled = subst (λ (form : Form). SettledBy form args.s.now args.ero args.n c.see_srv6.result) (form_srv6 args.pst c.if-pst-eq-MPLS_SETUP.false) c.see_srv6.ensures.settled }
+returns c = let args = c.args in
+    record { settled = subst (λ (form : Form). SettledBy form args.s.now args.ero args.n c.see_srv6.result) (form_srv6 args.pst c.if-pst-eq-MPLS_SETUP.false) c.see_srv6.ensures.settled }

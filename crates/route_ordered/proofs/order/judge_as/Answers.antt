@@ -4,7 +4,8 @@ use Rattle.route_ordered.proofs.Ordered.{frame_stops, frame_none, frame_count, f
 use Rattle.route_ordered.proofs.order.judge_as.Goals as goal
 
 pub returns-then-f-ne0 : goal.returns-then-f-ne0
-returns-then-f-ne0 c = let args = c.args in let framed = rw c.wide.ensures.same.0 at c.framed-f.ensures.framed in record { judged = frame_stops args.form args.s.now args.ero args.session args.pst _ framed c.if-f-ne0.true }
+returns-then-f-ne0 c = let args = c.args in let framed = rw c.wide.ensures.same.0 at c.framed-f.ensures.framed in
+    record { judged = frame_stops args.form args.s.now args.ero args.session args.pst _ framed c.if-f-ne0.true }
 
 pub returns-then-not_agreed : goal.returns-then-not_agreed
 returns-then-not_agreed c =

@@ -12,7 +12,9 @@ pub verdict_mpls-v-requires : goal.verdict_mpls-v-requires
 verdict_mpls-v-requires c = rw c.mpls-form.ensures.form (mpls_sized, mpls_shortest)
 
 pub returns-then-v-ne0 : goal.returns-then-v-ne0
-returns-then-v-ne0 c = let args = c.args in let form = c.mpls-form.ensures.form in let v = c.verdict_mpls-v.ensures.verdict ∙ ap (λ (f : Form). step_verdict f args.s.now args.ero args.at) form in record { stepped = step_refused mpls_form args.s.now args.ero args.at _ v c.if-v-ne0.true c.no_segment.ensures.zeros }
+returns-then-v-ne0 c = let args = c.args in let form = c.mpls-form.ensures.form in
+    let v = c.verdict_mpls-v.ensures.verdict ∙ ap (λ (f : Form). step_verdict f args.s.now args.ero args.at) form in
+    record { stepped = step_refused mpls_form args.s.now args.ero args.at _ v c.if-v-ne0.true c.no_segment.ensures.zeros }
 
 pub head_at-h-requires : goal.head_at-h-requires
 head_at-h-requires c =
@@ -39,4 +41,7 @@ overflow_add-result c =
     omega (arith, head_behind mpls_form args.s.now args.ero args.at _ v _ h c.if-v-ne0.false)
 
 pub returns : goal.returns
-returns c = let args = c.args in let form = c.mpls-form.ensures.form in let v = c.verdict_mpls-v.ensures.verdict ∙ ap (λ (f : Form). step_verdict f args.s.now args.ero args.at) form in let h = c.head_at-h.ensures.read ∙ ap (λ (f : Form). head_at f args.s.now args.ero args.at) form in record { stepped = head_stepped mpls_form args.s.now args.ero args.at _ v _ h c.if-v-ne0.false c.segment_mpls.ensures.segment }
+returns c = let args = c.args in let form = c.mpls-form.ensures.form in
+    let v = c.verdict_mpls-v.ensures.verdict ∙ ap (λ (f : Form). step_verdict f args.s.now args.ero args.at) form in
+    let h = c.head_at-h.ensures.read ∙ ap (λ (f : Form). head_at f args.s.now args.ero args.at) form in
+    record { stepped = head_stepped mpls_form args.s.now args.ero args.at _ v _ h c.if-v-ne0.false c.segment_mpls.ensures.segment }

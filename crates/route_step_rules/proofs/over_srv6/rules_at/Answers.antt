@@ -11,7 +11,10 @@ pub returns-then-eight : goal.returns-then-eight
 returns-then-eight c = record { verdict = stops_8 _ _ _ _ c.wide.ensures.same.0 c.if-h-wide.false (sym c.eight.ensures.broken ∙ c.if-eight.true) c.refused-then-eight.ensures.refused }
 
 pub returns-then-nine : goal.returns-then-nine
-returns-then-nine c = record { verdict = stops_9 _ _ _ _ c.wide.ensures.same.0 c.if-h-wide.false (sym c.eight.ensures.broken ∙ c.if-eight.false) (sym c.nine.ensures.broken ∙ c.if-nine.true) c.refused-then-nine.ensures.refused }
+returns-then-nine c = record {
+  verdict = stops_9 _ _ _ _ c.wide.ensures.same.0 c.if-h-wide.false (sym c.eight.ensures.broken ∙ c.if-eight.false) (sym c.nine.ensures.broken ∙ c.if-nine.true)
+      c.refused-then-nine.ensures.refused;
+}
 
 pub returns-then-seven : goal.returns-then-seven
 returns-then-seven c =

@@ -54,7 +54,11 @@ overflow_cast-result c = omega (arith, c.requires.2)
 
 pub returns : goal.returns
 returns c =
-    let h = c.args.h in let form = c.mpls-form.ensures.form in let room = parts_by mpls_form c.args.s.now c.args.at h c.requires.0 in let fixed : c.wide-fixed.result ≡ mpls_form.fixed = c.wide-fixed.ensures.same.0 ∙ ap (λ (f : Form). f.fixed) form in let size = c.wide.ensures.same.0 ∙ ap (λ (f : Form). f.sid) form in let sid : c.pick-k.result ≡ sid_length mpls_form h.s = rw size at c.pick-k.ensures.picked.0 in let nai : c.nai_length-n.result ≡ nai_length mpls_form h.nt = c.nai_length-n.ensures.length.0 ∙ ap (λ (f : Form). nai_length f h.nt) form in let at = c.args.at in let behaviour = c.behaviour_at-behaviour.ensures.behaviour ∙ ap (λ (f : Form). cond f.behaves (be16 c.args.s.now (at + behaviour_place)) 0) form in record {
+    let h = c.args.h in let form = c.mpls-form.ensures.form in let room = parts_by mpls_form c.args.s.now c.args.at h c.requires.0 in
+    let fixed : c.wide-fixed.result ≡ mpls_form.fixed = c.wide-fixed.ensures.same.0 ∙ ap (λ (f : Form). f.fixed) form in
+    let size = c.wide.ensures.same.0 ∙ ap (λ (f : Form). f.sid) form in let sid : c.pick-k.result ≡ sid_length mpls_form h.s = rw size at c.pick-k.ensures.picked.0 in
+    let nai : c.nai_length-n.result ≡ nai_length mpls_form h.nt = c.nai_length-n.ensures.length.0 ∙ ap (λ (f : Form). nai_length f h.nt) form in let at = c.args.at in
+    let behaviour = c.behaviour_at-behaviour.ensures.behaviour ∙ ap (λ (f : Form). cond f.behaves (be16 c.args.s.now (at + behaviour_place)) 0) form in record {
       segment = segment_by_lem mpls_form _ _ h _ _ _ _ _ _ _ _ c.structured-there.ensures.structured fixed sid nai behaviour c.sid_mpls-sid.ensures.part
           c.nai_mpls-nai.ensures.part c.structure_at-structure.ensures.part;
     }

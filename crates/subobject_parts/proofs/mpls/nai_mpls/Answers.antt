@@ -16,7 +16,9 @@ part40-requires c =
     (omega (arith, room, four), omega arith)
 
 pub returns-then-nt-eq-IPV4_NODE : goal.returns-then-nt-eq-IPV4_NODE
-returns-then-nt-eq-IPV4_NODE c = let read = c.nai_length in let four : read.result ≡ 4 = read.ensures.length.0 ∙ ap (λ (f : Form). nai_length f 1) c.mpls.ensures.form ∙ mpls_node_4 1 refl in record { part = nai_part mpls_form _ 4 (mpls_node_4 _ c.if-nt-eq-IPV4_NODE.true) _ _ (rw four at c.part40.ensures.part) }
+returns-then-nt-eq-IPV4_NODE c = let read = c.nai_length in
+    let four : read.result ≡ 4 = read.ensures.length.0 ∙ ap (λ (f : Form). nai_length f 1) c.mpls.ensures.form ∙ mpls_node_4 1 refl in
+    record { part = nai_part mpls_form _ 4 (mpls_node_4 _ c.if-nt-eq-IPV4_NODE.true) _ _ (rw four at c.part40.ensures.part) }
 
 pub nai_16-requires : goal.nai_16-requires
 nai_16-requires c = nai_room mpls_form _ 16 (mpls_node _ c.if-nt-eq-NODE.true) _ _ c.requires.0

@@ -11,7 +11,8 @@ part16-requires c =
     (omega (arith, four, there_room 4 _ _ _ c.if-there.true c.requires), omega arith)
 
 pub returns-then-there : goal.returns-then-there
-returns-then-there c = let four : c.wide.result ≡ 4 = c.wide.ensures.same.0 ∙ ap (λ (f : Form). f.sid) c.mpls.ensures.form in record { part = part_there _ _ _ 4 16 _ c.if-there.true (rw four at c.part16.ensures.part) }
+returns-then-there c = let four : c.wide.result ≡ 4 = c.wide.ensures.same.0 ∙ ap (λ (f : Form). f.sid) c.mpls.ensures.form in
+    record { part = part_there _ _ _ 4 16 _ c.if-there.true (rw four at c.part16.ensures.part) }
 
 pub returns : goal.returns
 returns c = record { part = part_absent _ _ 4 16 _ c.if-there.false }

@@ -12,7 +12,8 @@ sum_four_in-requires c =
     omega (arith, last.0, c.requires.1)
 
 pub returns-then-structured : goal.returns-then-structured
-returns-then-structured c = let last = structure_last _ _ c.args.at _ c.structured.ensures.structured c.if-structured.true c.requires.0 in record { sound = λ e. eleven_kept _ _ _ _ _ _ _ c.sum_four_in.ensures.sum.0 last.1 refl e }
+returns-then-structured c = let last = structure_last _ _ c.args.at _ c.structured.ensures.structured c.if-structured.true c.requires.0 in
+    record { sound = λ e. eleven_kept _ _ _ _ _ _ _ c.sum_four_in.ensures.sum.0 last.1 refl e }
 
 pub returns : goal.returns
 returns c = record { sound = λ e. eleven_none _ _ _ c.structured.ensures.structured c.if-structured.false }

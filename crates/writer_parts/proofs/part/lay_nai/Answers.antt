@@ -20,16 +20,20 @@ pub returns-then-n-gt-NODE_SIZE : goal.returns-then-n-gt-NODE_SIZE
 returns-then-n-gt-NODE_SIZE c = record { laid = c.lay_first-then-n-gt-NODE_SIZE.ensures.laid ∙ rw (nai_octets_32 c.requires.1 c.if-n-gt-ADJACENCY_SIZE.false c.if-n-gt-NODE_SIZE.true) }
 
 pub lay_first-requires-then-n-gt-IPV4_ADJACENCY_SIZE : goal.lay_first-requires-then-n-gt-IPV4_ADJACENCY_SIZE
-lay_first-requires-then-n-gt-IPV4_ADJACENCY_SIZE c = let e = nai_octets_16 c.requires.1 c.if-n-gt-NODE_SIZE.false c.if-n-gt-IPV4_ADJACENCY_SIZE.true in (c.requires.0, omega arith, omega (arith, c.requires.2))
+lay_first-requires-then-n-gt-IPV4_ADJACENCY_SIZE c = let e = nai_octets_16 c.requires.1 c.if-n-gt-NODE_SIZE.false c.if-n-gt-IPV4_ADJACENCY_SIZE.true in
+    (c.requires.0, omega arith, omega (arith, c.requires.2))
 
 pub returns-then-n-gt-IPV4_ADJACENCY_SIZE : goal.returns-then-n-gt-IPV4_ADJACENCY_SIZE
-returns-then-n-gt-IPV4_ADJACENCY_SIZE c = record { laid = c.lay_first-then-n-gt-IPV4_ADJACENCY_SIZE.ensures.laid ∙ rw (nai_octets_16 c.requires.1 c.if-n-gt-NODE_SIZE.false c.if-n-gt-IPV4_ADJACENCY_SIZE.true) }
+returns-then-n-gt-IPV4_ADJACENCY_SIZE c = record
+    { laid = c.lay_first-then-n-gt-IPV4_ADJACENCY_SIZE.ensures.laid ∙ rw (nai_octets_16 c.requires.1 c.if-n-gt-NODE_SIZE.false c.if-n-gt-IPV4_ADJACENCY_SIZE.true) }
 
 pub lay_first-requires-then-n-gt-IPV4_NODE_SIZE : goal.lay_first-requires-then-n-gt-IPV4_NODE_SIZE
-lay_first-requires-then-n-gt-IPV4_NODE_SIZE c = let e = nai_octets_8 c.requires.1 c.if-n-gt-IPV4_ADJACENCY_SIZE.false c.if-n-gt-IPV4_NODE_SIZE.true in (c.requires.0, omega arith, omega (arith, c.requires.2))
+lay_first-requires-then-n-gt-IPV4_NODE_SIZE c = let e = nai_octets_8 c.requires.1 c.if-n-gt-IPV4_ADJACENCY_SIZE.false c.if-n-gt-IPV4_NODE_SIZE.true in
+    (c.requires.0, omega arith, omega (arith, c.requires.2))
 
 pub returns-then-n-gt-IPV4_NODE_SIZE : goal.returns-then-n-gt-IPV4_NODE_SIZE
-returns-then-n-gt-IPV4_NODE_SIZE c = record { laid = c.lay_first-then-n-gt-IPV4_NODE_SIZE.ensures.laid ∙ rw (nai_octets_8 c.requires.1 c.if-n-gt-IPV4_ADJACENCY_SIZE.false c.if-n-gt-IPV4_NODE_SIZE.true) }
+returns-then-n-gt-IPV4_NODE_SIZE c = record
+    { laid = c.lay_first-then-n-gt-IPV4_NODE_SIZE.ensures.laid ∙ rw (nai_octets_8 c.requires.1 c.if-n-gt-IPV4_ADJACENCY_SIZE.false c.if-n-gt-IPV4_NODE_SIZE.true) }
 
 pub lay_first-requires-2 : goal.lay_first-requires-2
 lay_first-requires-2 c = let e = nai_octets_4 c.requires.1 c.if-n-gt-IPV4_NODE_SIZE.false c.if-n-eq0.false in (c.requires.0, omega arith, omega (arith, c.requires.2))

@@ -23,7 +23,8 @@ lay-requires c =
 
 pub returns-then-form : goal.returns-then-form
 returns-then-form c =
-    let e = known_srv6 c.args.form c.requires.1 c.if-form.true in let there : c.args.there ≡ true = not-false c.args.there (ap not c.if-not-there.false) in let w : c.wide.result ≡ c.args.form.fixed = c.wide.ensures.same.0 ∙ ap (λ (f : Form). f.fixed) (c.srv6-f.ensures.form ∙ e) in let k : 16 ≡ c.args.form.sid = ap (λ (f : Form). f.sid) e in record {
+    let e = known_srv6 c.args.form c.requires.1 c.if-form.true in let there : c.args.there ≡ true = not-false c.args.there (ap not c.if-not-there.false) in
+    let w : c.wide.result ≡ c.args.form.fixed = c.wide.ensures.same.0 ∙ ap (λ (f : Form). f.fixed) (c.srv6-f.ensures.form ∙ e) in let k : 16 ≡ c.args.form.sid = ap (λ (f : Form). f.sid) e in record {
       laid = laid_whole c.args.sid.now c.part16-whole.result c.args.out.now _ c.wide.result (cond c.args.there c.args.form.sid 0) 16
           c.part16-whole.ensures.part (omega (arith, c.requires.0)) (rw there (sym k)) c.lay.ensures.laid
           ∙ rw w;
@@ -40,7 +41,9 @@ lay-requires-2 c =
 
 pub returns : goal.returns
 returns c =
-    let e = known_mpls c.args.form c.requires.1 c.if-form.false in let there : c.args.there ≡ true = not-false c.args.there (ap not c.if-not-there.false) in let w : c.wide-2.result ≡ c.args.form.fixed = c.wide-2.ensures.same.0 ∙ ap (λ (f : Form). f.fixed) (c.mpls-f.ensures.form ∙ e) in let k : 4 ≡ c.args.form.sid = ap (λ (f : Form). f.sid) e in record {
+    let e = known_mpls c.args.form c.requires.1 c.if-form.false in let there : c.args.there ≡ true = not-false c.args.there (ap not c.if-not-there.false) in
+    let w : c.wide-2.result ≡ c.args.form.fixed = c.wide-2.ensures.same.0 ∙ ap (λ (f : Form). f.fixed) (c.mpls-f.ensures.form ∙ e) in
+    let k : 4 ≡ c.args.form.sid = ap (λ (f : Form). f.sid) e in record {
       laid = laid_whole c.args.sid.now c.part4-whole.result c.args.out.now _ c.wide-2.result (cond c.args.there c.args.form.sid 0) 4
           c.part4-whole.ensures.part (omega (arith, c.requires.0)) (rw there (sym k)) c.lay-2.ensures.laid
           ∙ rw w;

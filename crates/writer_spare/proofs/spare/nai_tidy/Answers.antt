@@ -18,14 +18,19 @@ pub returns-then-n-eq-ADJACENCY_SIZE : goal.returns-then-n-eq-ADJACENCY_SIZE
 returns-then-n-eq-ADJACENCY_SIZE c = let s = c.args.nai.now in record { tidy = rw c.if-n-eq-ADJACENCY_SIZE.true (last_eight s _ c.requires.0 c.blank8-last.ensures.blank) }
 
 pub returns-then-n-eq-NODE_SIZE : goal.returns-then-n-eq-NODE_SIZE
-returns-then-n-eq-NODE_SIZE c = let s = c.args.nai.now in let last = last_eight s _ c.requires.0 c.blank8-last.ensures.blank in record { tidy = rw c.if-n-eq-NODE_SIZE.true (behind s 16 16 32 _ _ _ refl c.blank16-2.ensures.blank last c.both-node.ensures.both) }
+returns-then-n-eq-NODE_SIZE c = let s = c.args.nai.now in let last = last_eight s _ c.requires.0 c.blank8-last.ensures.blank in
+    record { tidy = rw c.if-n-eq-NODE_SIZE.true (behind s 16 16 32 _ _ _ refl c.blank16-2.ensures.blank last c.both-node.ensures.both) }
 
 pub returns-then-n-eq-IPV4_ADJACENCY_SIZE : goal.returns-then-n-eq-IPV4_ADJACENCY_SIZE
-returns-then-n-eq-IPV4_ADJACENCY_SIZE c = let s = c.args.nai.now in let last = last_eight s _ c.requires.0 c.blank8-last.ensures.blank in let node = behind s 16 16 32 _ _ _ refl c.blank16-2.ensures.blank last c.both-node.ensures.both in record { tidy = rw c.if-n-eq-IPV4_ADJACENCY_SIZE.true (behind s 8 8 16 _ _ _ refl c.blank8.ensures.blank node c.both-eight.ensures.both) }
+returns-then-n-eq-IPV4_ADJACENCY_SIZE c = let s = c.args.nai.now in let last = last_eight s _ c.requires.0 c.blank8-last.ensures.blank in
+    let node = behind s 16 16 32 _ _ _ refl c.blank16-2.ensures.blank last c.both-node.ensures.both in
+    record { tidy = rw c.if-n-eq-IPV4_ADJACENCY_SIZE.true (behind s 8 8 16 _ _ _ refl c.blank8.ensures.blank node c.both-eight.ensures.both) }
 
 pub returns : goal.returns
 returns c =
-    let s = c.args.nai.now in let last = last_eight s _ c.requires.0 c.blank8-last.ensures.blank in let node = behind s 16 16 32 _ _ _ refl c.blank16-2.ensures.blank last c.both-node.ensures.both in let eight = behind s 8 8 16 _ _ _ refl c.blank8.ensures.blank node c.both-eight.ensures.both in record {
+    let s = c.args.nai.now in let last = last_eight s _ c.requires.0 c.blank8-last.ensures.blank in
+    let node = behind s 16 16 32 _ _ _ refl c.blank16-2.ensures.blank last c.both-node.ensures.both in
+    let eight = behind s 8 8 16 _ _ _ refl c.blank8.ensures.blank node c.both-eight.ensures.both in record {
       tidy = rw (nai_octets_four c.requires.1 c.if-n-eq-LINK_LOCAL_SIZE.false c.if-n-eq0.false c.if-n-eq-ADJACENCY_SIZE.false c.if-n-eq-NODE_SIZE.false c.if-n-eq-IPV4_ADJACENCY_SIZE.false)
           (behind s 4 4 8 _ _ _ refl c.blank4.ensures.blank eight c.both-2.ensures.both);
     }

@@ -14,7 +14,8 @@ pub returns-then-at-ne0 : goal.returns-then-at-ne0
 returns-then-at-ne0 c = record { crowded = crowd_odd c.args.at c.args.size c.args.room c.if-at-ne0.true }
 
 pub overflow_add-at : goal.overflow_add-at
-overflow_add-at c = let k = either_false (ltb c.args.at 4) (ltb most_octets c.args.at) (sym c.either.ensures.either ∙ c.if-either.false) in omega (arith, ltb-false most_octets c.args.at k.1, c.requires)
+overflow_add-at c = let k = either_false (ltb c.args.at 4) (ltb most_octets c.args.at) (sym c.either.ensures.either ∙ c.if-either.false) in
+    omega (arith, ltb-false most_octets c.args.at k.1, c.requires)
 
 pub returns : goal.returns
 returns c = record { crowded = crowd_end c.args.at c.args.size c.args.room c.either.result _ c.either.ensures.either c.if-either.false c.if-at-ne0.false c.past.ensures.past }
