@@ -39,4 +39,4 @@ pub returns-in-116 : goal.returns-in-116
 returns-in-116 c = record { fits = by_letter structure _ c.in-116.is c.is_structure.ensures.structure }
 
 pub returns-in_default : goal.returns-in_default
-returns-in_default c = record { fits = no_letter c.args.letter _ c.in_default.rest }
+returns-in_default c = record { fits = no_letter c.args.letter _ c.in_default.in_default-own.rest }

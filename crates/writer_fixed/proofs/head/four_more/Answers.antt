@@ -1,5 +1,5 @@
 use mathlib.Core.Path.{◌∙◌}
-use mathlib.Core.List.{◌∷◌, append_assoc}
+use mathlib.Core.List.{[], ◌∷◌, append_assoc}
 use lib.ListN.{length-set}
 use lib.Seq.{sets-eq, drop-drop}
 use native.Mathlib.Omega.{arith}
