@@ -14,14 +14,17 @@ use Rattle.console_writer.proofs.begin.begun.Goals as goal
 
 pub returns-then-v-ne0 : goal.returns-then-v-ne0
 returns-then-v-ne0 c =
-    let a = c.args in let e = c.begin-w.ensures.answer
+    let a = c.args in
+    let e = c.begin-w.ensures.answer
     ∙ begin_trial _ a.c.three a.old a.c.ero a.c.two
     (omega (
       arith,
       c.fit-k.ensures.counts.1,
       c.fit-k.ensures.cut,
       c.narrow-new.ensures.same,
-    )) in let h = rw e at c.if-v-ne0.true in record { writer = begin_keeps (fresh_buffer a.c.three) a.old a.c.ero a.c.two h; lent = sym (kept_old _ _ _ h); told = rw (← e) c.placed.ensures.told }
+    )) in
+    let h = rw e at c.if-v-ne0.true in
+    record { writer = begin_keeps (fresh_buffer a.c.three) a.old a.c.ero a.c.two h; lent = sym (kept_old _ _ _ h); told = rw (← e) c.placed.ensures.told }
 
 pub slice_bounds-fresh-end-2 : goal.slice_bounds-fresh-end-2
 slice_bounds-fresh-end-2 c =
@@ -34,10 +37,17 @@ placed-requires-2 c = c.requires.1
 
 pub returns : goal.returns
 returns c =
-    let narrow = c.narrow-new in let new = narrow.result in let a = c.args in let m = a.memory.now in
-    let k : new ≤ length m = omega (arith, narrow.ensures.same, c.requires.0) in let l = length-take-le new m k in let n = l ∙ narrow.ensures.same in let t = c.begin-w.ensures.answer
+    let narrow = c.narrow-new in
+    let new = narrow.result in
+    let a = c.args in
+    let m = a.memory.now in
+    let k : new ≤ length m = omega (arith, narrow.ensures.same, c.requires.0) in
+    let l = length-take-le new m k in
+    let n = l ∙ narrow.ensures.same in
+    let t = c.begin-w.ensures.answer
     ∙ begin_trial _ a.c.three a.old a.c.ero a.c.two
-    (omega (arith, c.fit-k.ensures.counts.1, c.fit-k.ensures.cut, narrow.ensures.same)) in let z = rw t at c.if-v-ne0.false in
+    (omega (arith, c.fit-k.ensures.counts.1, c.fit-k.ensures.cut, narrow.ensures.same)) in
+    let z = rw t at c.if-v-ne0.false in
     let e = c.fresh-b.ensures.answer ∙ ap (λ (x : ℕ). begin_answer (fresh_buffer x) a.old a.c.ero a.c.two) n in
     let b = c.fresh-b.ensures.buffer ∙ ap (λ (x : ℕ). begin_buffer (fresh_buffer x) a.old a.c.ero) n in
-    record { writer = rw (← e); lent = take_at c.fresh-b.new.part (drop new m) new (c.fresh-b.auto.0 ∙ l) ∙ (b ∙ sym (kept_new _ _ _ z)); told = rw (← e) c.placed-2.ensures.told }
+    record { writer = rw (← e); lent = take_at c.fresh-b.new.part (drop new m) new (c.fresh-b.auto.part ∙ l) ∙ (b ∙ sym (kept_new _ _ _ z)); told = rw (← e) c.placed-2.ensures.told }

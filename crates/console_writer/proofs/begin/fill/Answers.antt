@@ -30,4 +30,6 @@ pub shape_of-buffer : goal.shape_of-buffer
 shape_of-buffer c = c.loop-i.invariant.1
 
 pub returns : goal.returns
-returns c = let e : c.loop-i.i ≡ length c.args.buffer.now = omega arith in record { filled = c.loop-i.invariant.2 ∙ rw e (filled_all c.args.buffer.now) }
+returns c =
+    let e : c.loop-i.i ≡ length c.args.buffer.now = omega arith in
+    record { filled = c.loop-i.invariant.2 ∙ rw e (filled_all c.args.buffer.now) }

@@ -8,7 +8,8 @@ use Rattle.console_writer.proofs.end.close.Goals as goal
 pub returns-then-v-ne0 : goal.returns-then-v-ne0
 unfolding finish_line
 returns-then-v-ne0 c =
-    let w = c.finish-w in record {
+    let w = c.finish-w in
+    record {
       writer = rw (← w.ensures.answer);
       buffer = w.ensures.buffer;
       told = rw (← w.ensures.answer, ← w.ensures.buffer)
@@ -19,7 +20,8 @@ returns-then-v-ne0 c =
 pub returns : goal.returns
 unfolding finish_line
 returns c =
-    let w = c.finish-w in record {
+    let w = c.finish-w in
+    record {
       writer = rw (← w.ensures.answer);
       buffer = w.ensures.buffer;
       told = rw (

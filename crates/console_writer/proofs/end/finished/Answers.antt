@@ -9,9 +9,12 @@ use Rattle.console_writer.proofs.end.finished.Goals as goal
 
 pub returns : goal.returns
 returns c =
-    let r = c.close-c in let f = (c.fit-n.ensures.counts, c.fit-n.ensures.cut) in let a = c.args in let s = take_fit a.size a.memory.now f.1 in record {
+    let r = c.close-c in
+    let a = c.args in
+    let s = take_fit a.size a.memory.now c.fit-n.ensures.cut in
+    record {
       writer = rw (← s) r.ensures.writer;
-      lent = lent_back a.size a.memory.now r.new.part f.1 (r.auto.0 ∙ sym f.0.1)
+      lent = lent_back a.size a.memory.now r.new.part c.fit-n.ensures.cut (r.auto.part ∙ sym c.fit-n.ensures.counts.1)
           ∙ (r.ensures.buffer ∙ ap (λ (x : List ℕ). finish_buffer x a.old) s);
       told = rw (← s) r.ensures.told;
     }
