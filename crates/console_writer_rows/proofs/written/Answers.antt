@@ -27,26 +27,26 @@ pub returns-in-Begin : goal.returns-in-Begin
 returns-in-Begin c =
     let a = c.args in
     let turn = by_row (λ (y : Writing). written_turn y a.old (take a.size a.memory.now) a.c a.line.now)
-        c.in-Begin.is c.begun.ensures.writer c.begun.ensures.lent c.begun.ensures.told in
+    c.in-Begin.is c.begun.ensures.writer c.begun.ensures.lent c.begun.ensures.told in
     record { writer = turn.0; lent = turn.1.0; told = turn.1.1 }
 
 pub returns-in-Add : goal.returns-in-Add
 returns-in-Add c =
     let a = c.args in
     let turn = by_row (λ (y : Writing). written_turn y a.old (take a.size a.memory.now) a.c a.line.now)
-        c.in-Add.is c.added.ensures.writer c.added.ensures.lent c.added.ensures.told in
+    c.in-Add.is c.added.ensures.writer c.added.ensures.lent c.added.ensures.told in
     record { writer = turn.0; lent = turn.1.0; told = turn.1.1 }
 
 pub returns-in-Finish : goal.returns-in-Finish
 returns-in-Finish c =
     let a = c.args in
     let turn = by_row (λ (y : Writing). written_turn y a.old (take a.size a.memory.now) a.c a.line.now)
-        c.in-Finish.is c.finished.ensures.writer c.finished.ensures.lent c.finished.ensures.told in
+    c.in-Finish.is c.finished.ensures.writer c.finished.ensures.lent c.finished.ensures.told in
     record { writer = turn.0; lent = turn.1.0; told = turn.1.1 }
 
 pub returns-in-Lent : goal.returns-in-Lent
 returns-in-Lent c =
     let a = c.args in
     let turn = by_row (λ (y : Writing). written_turn y a.old (take a.size a.memory.now) a.c a.line.now)
-        c.in-Lent.is refl refl c.shown.ensures.told in
+    c.in-Lent.is refl refl c.shown.ensures.told in
     record { writer = turn.0; lent = turn.1.0; told = turn.1.1 }
