@@ -10,29 +10,41 @@ use borrow.Author.Rules.{rules}
 use Rattle.console_dialogue.proofs.onward.take_in.Goals as goal
 
 pub overflow_add-result : goal.overflow_add-result
-overflow_add-result c = omega (arith, c.if-end-read.true, c, c)
+overflow_add-result c = omega arith
 
 pub returns-then-end-read : goal.returns-then-end-read
 returns-then-end-read c =
-    let x = c.part-part.result.now in let a = c.args in let p = c.requires in let r = a.read.now in let g = heard_of a.h a.store.now a.memory.now a.line.now in
-    let small : length g.line ≤ most_kept = omega (arith, length-take a.h.kept a.line.now, p.1.within, p.1.whole) in let s = c.part-part.ensures.part.0 in
-    let inside = c.part-part.ensures.part.1 in let m = longer_made g x (until_mark (drop a.at r) newline) (take c.keep-kept.result c.keep-kept.new.line)
-    (length a.line.now) s p.1.whole c.keep-kept.ensures.0 in let t = c.answer-said.ensures in
+    let x = c.part-part.result.now in
+    let a = c.args in
+    let p = c.requires in
+    let r = a.read.now in
+    let g = heard_of a.h a.store.now a.memory.now a.line.now in
+    let small : length g.line ≤ most_kept = omega (arith, length-take a.h.kept a.line.now, p.1.within, p.1.whole) in
+    let s = c.part-part.ensures.part.0 in
+    let inside = c.part-part.ensures.part.1 in
+    let m = longer_made g x (until_mark (drop a.at r) newline) (take c.keep-kept.result c.keep-kept.new.line)
+        (length a.line.now) s p.1.whole c.keep-kept.ensures.kept in
+    let t = c.answer-said.ensures in
     record {
-      heard = heard_line g small r a.at x s (omega (arith, inside)) _ m t.0 c.if-end-read.true;
-      said = said_line g small r a.at x s (omega (arith, inside)) _ m t.0 t.1.0.text c.if-end-read.true;
-      within = (omega (arith, inside), omega (arith, c.if-end-read.true, inside), omega (arith, t.1.1), text_within t.1.0);
+      heard = heard_line g small r a.at x s (omega (arith, inside)) _ m t.heard c.if-end-read.true;
+      said = said_line g small r a.at x s (omega (arith, inside)) _ m t.heard t.told.text c.if-end-read.true;
+      within = (omega (arith, inside), omega (arith, c.if-end-read.true, inside), omega (arith, t.begun), text_within t.told);
     }
 
 pub returns : goal.returns
 returns c =
-    let part = c.part-part in let x = part.result.now in let a = c.args in let p = c.requires in let r = a.read.now in
+    let x = c.part-part.result.now in
+    let a = c.args in
+    let p = c.requires in
+    let r = a.read.now in
     let g = heard_of a.h a.store.now a.memory.now a.line.now in
-    let small : length g.line ≤ most_kept = omega (arith, length-take a.h.kept a.line.now, p.1.within, p.1.whole) in let s = part.ensures.0 in
-    let inside = part.ensures.1 in let m = longer_made g x (until_mark (drop a.at r) newline) (take c.keep-kept.result c.keep-kept.new.line)
-    (length a.line.now) s p.1.whole c.keep-kept.ensures.0 in
+    let small : length g.line ≤ most_kept = omega (arith, length-take a.h.kept a.line.now, p.1.within, p.1.whole) in
+    let s = c.part-part.ensures.part.0 in
+    let inside = c.part-part.ensures.part.1 in
+    let m = longer_made g x (until_mark (drop a.at r) newline) (take c.keep-kept.result c.keep-kept.new.line)
+        (length a.line.now) s p.1.whole c.keep-kept.ensures.kept in
     record {
       heard = heard_part g small r a.at x s (omega (arith, inside)) _ m c.if-end-read.false;
       said = said_part g small r a.at x s (omega (arith, inside)) _ m c.if-end-read.false;
-      within = (p.0, omega (arith, inside), c.keep-kept.ensures.1, omega arith);
+      within = (p.0, omega (arith, inside), c.keep-kept.ensures.within, omega arith);
     }

@@ -18,52 +18,74 @@ use borrow.Author.Rules.{rules}
 use Rattle.console_dialogue.proofs.reply.answered.Goals as goal
 
 pub set-requires : goal.set-requires
-set-requires c =
-    let row = c.row-1.given in
-        (c.parse-c.ensures.read, verb_in_lem (r.Sets row.0.0) c.row_of-row.ensures.row row.1, c.requires)
+set-requires c = (c.parse-c.ensures.read, verb_in_lem (r.Sets c.in-Sets.x) c.row_of-row.ensures.row c.in-Sets.is, c.requires)
 
 pub slice_bounds-written-end-in-Writes : goal.slice_bounds-written-end-in-Writes
 slice_bounds-written-end-in-Writes c = sym (length-take-le most_size c.args.memory.now c.requires.buffer)
 
 pub written-requires : goal.written-requires
-written-requires c =
-    let row = c.row-in-Writes-1.given in (
-          c.parse-c.ensures.read,
-          verb_in_lem (r.Writes row.0.0) c.row_of-row.ensures.row row.1,
-          length-take-le most_size c.args.memory.now c.requires.buffer,
-          c.requires.spells,
-          omega (arith, c.requires.lent),
-        )
+written-requires c = (
+  c.parse-c.ensures.read,
+  verb_in_lem (r.Writes c.in-Writes.x) c.row_of-row.ensures.row c.in-Writes.is,
+  length-take-le most_size c.args.memory.now c.requires.buffer,
+  c.requires.spells,
+  omega (arith, c.requires.lent),
+)
 
 pub returns-in-Skip : goal.returns-in-Skip
-returns-in-Skip c = record { done = does v.Skip c.parse-c.ensures.read (verb_in_lem r.Skip c.row_of-row.ensures.row c.in-Skip.is) c.ended.ensures.ended (behind_none _ 0) refl refl }
+returns-in-Skip c =
+    record {
+      done = does v.Skip c.parse-c.ensures.read (verb_in_lem r.Skip c.row_of-row.ensures.row c.in-Skip.is) c.ended.ensures.ended (behind_none _ 0) refl refl;
+    }
 
 pub returns-in-Bad : goal.returns-in-Bad
-returns-in-Bad c = record { done = does v.Bad c.parse-c.ensures.read (verb_in_lem r.Bad c.row_of-row.ensures.row c.in-Bad.is) c.ended-in-Bad.ensures.ended c.bad.ensures.0 refl refl }
+returns-in-Bad c =
+    record {
+      done = does v.Bad c.parse-c.ensures.read (verb_in_lem r.Bad c.row_of-row.ensures.row c.in-Bad.is) c.ended-in-Bad.ensures.ended c.bad.ensures.told refl refl;
+    }
 
 pub returns-in-Asks : goal.returns-in-Asks
 returns-in-Asks c =
-    let parse = c.parse-c in let a = c.args in let row = c.row-in record { done = -Asks-1.given in
-        asks_does row.0.0 a.state parse.result a.store.now a.memory.now a.line.now a.n parse.ensures
-        (verb_in_lem (r.Asks row.0.0) c.row_of-row.ensures.row row.1) c.ended-in-Asks.ensures.ended c.agree-s.ensures.sessions c.asked.ensures.told }
+    let parse = c.parse-c in
+    let a = c.args in
+    let x = c.in-Asks.x in
+    record {
+      done = asks_does x a.state parse.result a.store.now a.memory.now a.line.now a.n parse.ensures.read
+          (verb_in_lem (r.Asks x) c.row_of-row.ensures.row c.in-Asks.is) c.ended-in-Asks.ensures.ended c.agree-s.ensures.sessions c.asked.ensures.told;
+    }
 
 pub returns-in-Writes : goal.returns-in-Writes
 returns-in-Writes c =
-    let a = c.args in let m = a.memory.now in let parse = c.parse-c in let call = c.written in let row = c.row-in record { done = -Writes-1.given in
-        let x = row.0.0 in
-        let l = call.auto.1.1.1.1.1.0 ∙ length-take-le most_size m c.requires.buffer in
-        composed_does (λ (w : Writer) (l : List ℕ). written_turn x w l parse.result a.line.now) (written x) a.state parse.result a.store.now m call.new.1.1.1.1.1.0
-        a.line.now a.n (λ k. writes_row x k parse.result a.line.now a.n) parse.ensures
-        (verb_in_lem (r.Writes x) c.row_of-row.ensures.row row.1) c.composed.ensures.ended l call.ensures.0 call.ensures.1.0 call.ensures.1.1 }
+    let a = c.args in
+    let m = a.memory.now in
+    let parse = c.parse-c in
+    let call = c.written in
+    let x = c.in-Writes.x in
+    let l = call.auto.memory ∙ length-take-le most_size m c.requires.buffer in
+    record {
+      done = composed_does (λ (w : Writer) (l : List ℕ). written_turn x w l parse.result a.line.now) (written x) a.state parse.result a.store.now m call.new.memory
+          a.line.now a.n (λ k. writes_row x k parse.result a.line.now a.n) parse.ensures.read
+          (verb_in_lem (r.Writes x) c.row_of-row.ensures.row c.in-Writes.is) c.composed.ensures.ended l call.ensures.writer call.ensures.lent call.ensures.told;
+    }
 
 pub returns-in-Changes : goal.returns-in-Changes
 returns-in-Changes c =
-    let parse = c.parse-c in let a = c.args in let call = c.changed in let row = c.row-in record { done = -Changes-1.given in
-        changes_does row.0.0 a.state parse.result a.store.now a.memory.now a.line.now a.n parse.ensures
-        (verb_in_lem (r.Changes row.0.0) c.row_of-row.ensures.row row.1) c.boarded.ensures.ended c.agree-s.ensures.sessions call.ensures.0 call.ensures.1.0 call.ensures.1.1 }
+    let parse = c.parse-c in
+    let a = c.args in
+    let call = c.changed in
+    let x = c.in-Changes.x in
+    record {
+      done = changes_does x a.state parse.result a.store.now a.memory.now a.line.now a.n parse.ensures.read
+          (verb_in_lem (r.Changes x) c.row_of-row.ensures.row c.in-Changes.is) c.boarded.ensures.ended c.agree-s.ensures.sessions
+          call.ensures.board call.ensures.store call.ensures.told;
+    }
 
 pub returns-in-Looks : goal.returns-in-Looks
 returns-in-Looks c =
-    let parse = c.parse-c in let a = c.args in let row = c.row-in record { done = -Looks-1.given in
-        looks_does row.0.0 a.state parse.result a.store.now a.memory.now a.line.now a.n parse.ensures
-        (verb_in_lem (r.Looks row.0.0) c.row_of-row.ensures.row row.1) c.ended-in-Looks.ensures.ended c.looked.ensures.told }
+    let parse = c.parse-c in
+    let a = c.args in
+    let x = c.in-Looks.x in
+    record {
+      done = looks_does x a.state parse.result a.store.now a.memory.now a.line.now a.n parse.ensures.read
+          (verb_in_lem (r.Looks x) c.row_of-row.ensures.row c.in-Looks.is) c.ended-in-Looks.ensures.ended c.looked.ensures.told;
+    }

@@ -19,28 +19,37 @@ done-requires-in-Addresses c = omega (arith, c.requires.2.stored)
 
 pub returns-in-Pcc : goal.returns-in-Pcc
 returns-in-Pcc c =
-    let pre = c.requires in let heard = c.heard-o in
-    record { done = does v.Pcc pre.0 (pre.1 ∙ ap set c.in-Pcc.is) (c.ended.ensures.ended.0 ∙ c.with_pcc.ensures.pcc, c.ended.ensures.ended.1) c.opened.ensures.0
-        (ap opened_line heard.ensures) (parts refl refl heard.ensures refl refl refl refl) }
+    let pre = c.requires in
+    let heard = c.heard-o.ensures.read in
+    record {
+      done = does v.Pcc pre.0 (pre.1 ∙ ap set c.in-Pcc.is) (c.ended.ensures.ended.0 ∙ c.with_pcc.ensures.pcc, c.ended.ensures.ended.1) c.opened.ensures.told
+          (ap opened_line heard) (parts refl refl heard refl refl refl refl);
+    }
 
 pub returns-in-Pce : goal.returns-in-Pce
 returns-in-Pce c =
-    let pre = c.requires in let heard = c.heard-o-in record { done = -Pce in
-        does v.Pce pre.0 (pre.1 ∙ ap set c.in-Pce.is) (c.ended-in-Pce.ensures.ended.0 ∙ c.with_pce.ensures.pce, c.ended-in-Pce.ensures.ended.1) c.opened-in-Pce.ensures.0
-        (ap opened_line heard.ensures) (parts refl refl refl heard.ensures refl refl refl) }
+    let pre = c.requires in
+    let heard = c.heard-o-in-Pce.ensures.read in
+    record {
+      done = does v.Pce pre.0 (pre.1 ∙ ap set c.in-Pce.is) (c.ended-in-Pce.ensures.ended.0 ∙ c.with_pce.ensures.pce, c.ended-in-Pce.ensures.ended.1) c.opened-in-Pce.ensures.told
+          (ap opened_line heard) (parts refl refl refl heard refl refl refl);
+    }
 
 pub returns-in-Positions : goal.returns-in-Positions
 returns-in-Positions c =
     let pre = c.requires in
-    record
-        { done = does v.Positions pre.0 (pre.1 ∙ ap set c.in-Positions.is)
-            (c.ended-in-Positions.ensures.ended.0 ∙ c.with_positions.ensures.positions, c.ended-in-Positions.ensures.ended.1) c.done.ensures.0 refl
-        refl }
+    record {
+      done = does v.Positions pre.0 (pre.1 ∙ ap set c.in-Positions.is)
+          (c.ended-in-Positions.ensures.ended.0 ∙ c.with_positions.ensures.positions, c.ended-in-Positions.ensures.ended.1) c.done.ensures.told refl
+          refl;
+    }
 
 pub returns-in-Addresses : goal.returns-in-Addresses
 returns-in-Addresses c =
-    let a = c.args in let pre = c.requires in
-    record
-        { done = does v.Addresses pre.0 (pre.1 ∙ ap set c.in-Addresses.is)
-            (c.ended-in-Addresses.ensures.ended.0 ∙ c.with_given.ensures.given, c.ended-in-Addresses.ensures.ended.1) c.done-in-Addresses.ensures.0 refl
-        (parts refl refl refl refl refl (part_stays a.state.size a.memory.now _ c.addressed-given.ensures.1) c.addressed-given.ensures.0) }
+    let a = c.args in
+    let pre = c.requires in
+    record {
+      done = does v.Addresses pre.0 (pre.1 ∙ ap set c.in-Addresses.is)
+          (c.ended-in-Addresses.ensures.ended.0 ∙ c.with_given.ensures.given, c.ended-in-Addresses.ensures.ended.1) c.done-in-Addresses.ensures.told refl
+          (parts refl refl refl refl refl (part_stays a.state.size a.memory.now _ c.addressed-given.ensures.writer) c.addressed-given.ensures.list);
+    }
