@@ -30,7 +30,9 @@ in_rust() {
 warnings="-pedantic -Wall -Wextra -Wshadow -Wconversion -Wsign-conversion -Wundef -Wcast-qual -Werror"
 
 if [ -z "${STRUNDEVI_LIB:-}" ]; then
-    quietly tools/archive
+    # STRUNDEVI_OVER=ci: over what rt ci has just proved (.ci/run)
+    # shellcheck disable=SC2086
+    quietly tools/archive ${STRUNDEVI_OVER:-}
 else
     echo "library: tested is $archive, which need not be what was proved"
 fi

@@ -2,8 +2,8 @@
 // nothing more is written. So what was written up to a failure is never followed by what should stand further on.
 #![tactic(auto)]
 
-ghost use Rattle.std.specs.Prelude.{◌≡◌, ◌≤◌, IsOk, IfOk, OnOk, length, take};
-ghost use Rattle.std.specs.Io.KnownBytes.{Appends, Consumes, Keeps};
+ghost use Rattle.std.specs.Prelude.{◌≡◌, ◌<◌, ◌≤◌, IsOk, OnOk, length, take};
+ghost use Rattle.std.specs.Io.KnownBytes.{Appends, Consumes, IsAtEnd};
 
 use std::io;
 use std::io::{Read, Write};
@@ -33,6 +33,7 @@ impl<R: Read, W: Write> Streams<R, W> {
         ensures within { result ≤ length buf.new }
         ensures to { self.new.to ≡ self.old.to }
         ensures octets { OnOk self.new.failed (Consumes (R.remaining self.old.from) (R.remaining self.new.from) (take result buf.new)) }
+        ensures end { OnOk self.new.failed (result ≡ 0 → 0 < length buf.new → IsAtEnd (R.remaining self.new.from)) }
         ensures kept { OnOk self.new.failed (IsOk self.old.failed) }
     {
         if self.failed.is_err() {
@@ -51,6 +52,9 @@ impl<R: Read, W: Write> Streams<R, W> {
     pub fn read_full(&mut self, buf: &mut [u8]) -> usize
         ensures within { result ≤ length buf.new }
         ensures to { self.new.to ≡ self.old.to }
+        ensures octets { OnOk self.new.failed (Consumes (R.remaining self.old.from) (R.remaining self.new.from) (take result buf.new)) }
+        ensures end { OnOk self.new.failed (result < length buf.new → IsAtEnd (R.remaining self.new.from)) }
+        ensures kept { OnOk self.new.failed (IsOk self.old.failed) }
     {
         let mut done = 0;
         while done < buf.len() {
