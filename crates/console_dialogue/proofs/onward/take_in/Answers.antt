@@ -23,7 +23,7 @@ returns-then-end-read c =
     let s = c.part-part.ensures.part.0 in
     let inside = c.part-part.ensures.part.1 in
     let m = longer_made g x (until_mark (drop a.at r) newline) (take c.keep-kept.result c.keep-kept.new.line)
-        (length a.line.now) s p.1.whole c.keep-kept.ensures.kept in
+    (length a.line.now) s p.1.whole c.keep-kept.ensures.kept in
     let t = c.answer-said.ensures in
     record {
       heard = heard_line g small r a.at x s (omega (arith, inside)) _ m t.heard c.if-end-read.true;
@@ -42,7 +42,7 @@ returns c =
     let s = c.part-part.ensures.part.0 in
     let inside = c.part-part.ensures.part.1 in
     let m = longer_made g x (until_mark (drop a.at r) newline) (take c.keep-kept.result c.keep-kept.new.line)
-        (length a.line.now) s p.1.whole c.keep-kept.ensures.kept in
+    (length a.line.now) s p.1.whole c.keep-kept.ensures.kept in
     record {
       heard = heard_part g small r a.at x s (omega (arith, inside)) _ m c.if-end-read.false;
       said = said_part g small r a.at x s (omega (arith, inside)) _ m c.if-end-read.false;
