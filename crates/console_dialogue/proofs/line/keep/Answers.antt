@@ -7,6 +7,6 @@ pub returns : goal.returns
 returns c =
     let a = c.args in record {
       kept = kept_more a.line.now a.part.now c.lay.new.out a.kept c.fit-n.result
-          c.requires c.fit-n.ensures.1 c.lay.ensures.laid;
-      within = omega (arith, c.fit-n.ensures.1, c.requires);
+          c.requires c.fit-n.ensures.cut c.lay.ensures.laid;
+      within = omega (arith, c.fit-n.ensures.cut, c.requires);
     }
