@@ -55,7 +55,7 @@ for page in docs/*.md README.md; do
         crate=${cited%%::*}
         if [ -d "crates/$crate/src" ]; then
             named=$((named + 1))
-            grep -rqE "(fn|const|struct|enum) ${cited#*::}\\b|^pub use [a-z_:]+::${cited#*::};" "crates/$crate/src" || fault "$page names $cited, and $crate has none"
+            grep -rqE "(fn|const|struct|enum|trait) ${cited#*::}\\b|^pub use [a-z_:]+::${cited#*::};" "crates/$crate/src" || fault "$page names $cited, and $crate has none"
         fi
     done
     # CRATE/EDIT

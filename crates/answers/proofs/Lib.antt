@@ -1,3 +1,4 @@
 pub mod Determined
 pub mod Kept
 pub mod First
+pub mod Results

@@ -3,6 +3,8 @@
 #![tactic(auto)]
 
 mod number;
+mod reason;
+mod refusal;
 mod verdict;
 
 pub use number::{
@@ -12,4 +14,6 @@ pub use number::{
     OPEN_MALFORMED, ROUTE_EMPTY, SID_NEEDED, STRUCTURE_TOO_LONG, TOO_MANY_SEGMENTS,
     VERSIONS_USED_UP, WRONG_MSD,
 };
+pub use reason::Reason;
+pub use refusal::{Counts, Refusal, told};
 pub use verdict::{Verdict, accepted, carrying, refused};

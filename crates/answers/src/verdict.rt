@@ -17,8 +17,8 @@ pub fn refused(number: usize, place: usize) -> Verdict
     ensures refused { result ≡ refused_by number place }
 {
     Verdict {
-        number: number,
-        place: place,
+        number,
+        place,
         count: 0,
         stray: 0,
     }
@@ -31,8 +31,8 @@ pub fn carrying(count: usize, stray: usize) -> Verdict
     Verdict {
         number: 0,
         place: 0,
-        count: count,
-        stray: stray,
+        count,
+        stray,
     }
 }
 

@@ -1,96 +1,59 @@
 // Body (key): 17, 18, 22; the path's octets are handed back as a part of the lent store, a refusal hands back an empty part, and its
 // number is had by a call of its own, and so is the path's form.
-ghost use Rattle.std.specs.Prelude.{◌≡◌};
-ghost use Rattle.board_record.specs.Record.{board_of};
+ghost use Rattle.std.specs.Prelude.{◌≡◌, ◌+◌, ◌*◌, ◌<◌, ◌≤◌, length, IfOk};
+ghost use Rattle.answers.specs.Verdicts.{passed_of};
+ghost use Rattle.board_record.specs.Sizes.{places, room};
+ghost use Rattle.board_record.specs.Lent.{table_lent, board_lent};
+ghost use Rattle.board_record.specs.Search.{place_of};
+ghost use Rattle.board_rules.specs.Parts.{path_at};
 ghost use Rattle.board_rules.specs.OnRecord.{body_number_on, body_on, body_form_on};
 
-use answers::{NOT_A_BOARD, Verdict, refused};
+use answers::{Reason, Refusal};
+use board_record::Lent;
 use board_refusals::body_rules;
-use board_rule17::{form_in, is_board, length_in, start_of};
-use board_search::place_in;
+use board_rule17::{is_board, path_at, path_place, start_of};
+use board_rules::Octets;
+
+// Where the key's path lies, and its form.
+pub fn path(b: Lent<'_>, store: &[u8], key: u64) -> Result<Octets, Refusal>
+    ensures number { passed_of result ≡ body_number_on (board_lent b.entry) store.now key }
+    ensures path { let t = table_lent b.entry in IfOk result (λ o. o ≡ path_at t (place_of t key)) }
+    ensures inside { IfOk result (λ o. (o.place < places) × (room * o.place + o.length ≤ length store.now)) }
+{
+    if !is_board(b, store.len()) {
+        return Err(Reason::NotABoard.into());
+    }
+    let at = body_rules(key, path_place(b, key))?;
+    Ok(path_at(b, at))
+}
 
 // The number of a call for a body.
-pub fn body_number<'a>(
-    keys: &'a [u32; 128],
-    versions: &'a [u64; 128],
-    lengths: &'a [u16; 128],
-    version: u64,
-    floor: u64,
-    order: &'a [u8; 128],
-    tops: &'a [u64; 16],
-    forms: &'a [u8; 128],
-    store: &[u8],
-    key: u64,
-) -> Verdict
-    ensures number { let b = board_of keys.now versions.now lengths.now version floor order.now tops.now forms.now in
-        result ≡ body_number_on b store.now key }
+pub fn body_number(b: Lent<'_>, store: &[u8], key: u64) -> Result<(), Refusal>
+    ensures number { passed_of result ≡ body_number_on (board_lent b.entry) store.now key }
 {
-    if !is_board(
-        keys,
-        versions,
-        lengths,
-        version,
-        floor,
-        order,
-        tops,
-        forms,
-        store.len(),
-    ) {
-        return refused(NOT_A_BOARD, 0);
-    }
-    let at = place_in(keys, key);
-    body_rules(key, at, length_in(lengths, at))
+    path(b, store, key)?;
+    Ok(())
 }
 
 // The octets of the key's path.
-pub fn body<'a, 'b>(
-    keys: &'a [u32; 128],
-    versions: &'a [u64; 128],
-    lengths: &'a [u16; 128],
-    version: u64,
-    floor: u64,
-    order: &'a [u8; 128],
-    tops: &'a [u64; 16],
-    forms: &'a [u8; 128],
-    store: &'b [u8],
-    key: u64,
-) -> &'b [u8]
-    ensures body { let b = board_of keys.now versions.now lengths.now version floor order.now tops.now forms.now in
-        result.now ≡ body_on b store.now key }
+pub fn body<'b>(b: Lent<'_>, store: &'b [u8], key: u64) -> &'b [u8]
+    ensures body { result.now ≡ body_on (board_lent b.entry) store.now key }
 {
-    let verdict = body_number(
-        keys, versions, lengths, version, floor, order, tops, forms, store, key,
-    );
-    if verdict.number != 0 {
-        return &store[0..0];
+    match path(b, store, key) {
+        Ok(path) => {
+            let from = start_of(path.place);
+            &store[from..from + path.length]
+        }
+        Err(_) => &store[0..0],
     }
-    let at = place_in(keys, key);
-    let from = start_of(at);
-    let to = from + length_in(lengths, at);
-    &store[from..to]
 }
 
 // The form of the key's path, by its setup type; 0 on refusal.
-pub fn body_form<'a>(
-    keys: &'a [u32; 128],
-    versions: &'a [u64; 128],
-    lengths: &'a [u16; 128],
-    version: u64,
-    floor: u64,
-    order: &'a [u8; 128],
-    tops: &'a [u64; 16],
-    forms: &'a [u8; 128],
-    store: &[u8],
-    key: u64,
-) -> usize
-    ensures form { let b = board_of keys.now versions.now lengths.now version floor order.now tops.now forms.now in
-        result ≡ body_form_on b store.now key }
+pub fn body_form(b: Lent<'_>, store: &[u8], key: u64) -> usize
+    ensures form { result ≡ body_form_on (board_lent b.entry) store.now key }
 {
-    let verdict = body_number(
-        keys, versions, lengths, version, floor, order, tops, forms, store, key,
-    );
-    if verdict.number != 0 {
-        return 0;
+    match path(b, store, key) {
+        Ok(path) => path.form,
+        Err(_) => 0,
     }
-    form_in(forms, place_in(keys, key))
 }

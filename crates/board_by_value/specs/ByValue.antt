@@ -2,7 +2,7 @@
 use Rattle.std.specs.Prelude.{ℕ, List}
 use Rattle.board_record.specs.declared.record.Board.{Board}
 use Rattle.board_rules.specs.OnRecord as lent
-use Rattle.board_by_value.specs.declared.answer.Answer.{Answer}
+use Rattle.board_by_value.specs.Back.{Answer}
 
 -- a verdict and a record, handed back
 abbrev pub answer_of : lent.Result → Answer

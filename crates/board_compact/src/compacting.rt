@@ -2,55 +2,31 @@
 // higher, what was dropped is off the order, and the largest version of its group may be lower. A mark has neither length nor
 // form, so these stay.
 ghost use Rattle.std.specs.Prelude.{◌≡◌};
-ghost use Rattle.board_record.specs.Record.{board_of};
+ghost use Rattle.answers.specs.Verdicts.{passed_of};
 ghost use Rattle.board_rules.specs.OnRecord.{result_of, compact_on};
+ghost use Rattle.board_compact.specs.Parts.{board_in, SameParts};
 
-use answers::{NOT_A_BOARD, Verdict, refused};
+use super::parts::Parts;
+use answers::{Reason, Refusal};
 use board_order_drops::drop_empty;
-use board_record::larger;
 use board_refusals::compact_rules;
 use board_rule17::is_board;
 use board_sweep::sweep;
 use board_tops::work_out;
 
-pub fn compact<'a>(
-    keys: &mut [u32; 128],
-    versions: &mut [u64; 128],
-    lengths: &'a [u16; 128],
-    version: u64,
-    floor: &mut u64,
-    order: &mut [u8; 128],
-    tops: &mut [u64; 16],
-    forms: &'a [u8; 128],
-    store: &[u8],
-    c: u64,
-) -> Verdict
-    ensures answer { let before = board_of keys.old versions.old lengths.now version floor.old order.old tops.old forms.now in
-        let after = board_of keys.new versions.new lengths.now version floor.new order.new tops.new forms.now in
-        result_of result after ≡ compact_on before store.now c }
+pub fn compact(b: &mut Parts<'_>, store: &[u8], c: u64) -> Result<(), Refusal>
+    ensures parts { SameParts b.new b.old }
+    ensures answer { result_of (passed_of result) (board_in b.new) ≡ compact_on (board_in b.old) store.now c }
 {
-    if !is_board(
-        keys,
-        versions,
-        lengths,
-        version,
-        *floor,
-        order,
-        tops,
-        forms,
-        store.len(),
-    ) {
-        return refused(NOT_A_BOARD, 0);
+    if !is_board(b.lent(), store.len()) {
+        return Err(Reason::NotABoard.into());
     }
-    let verdict = compact_rules(c, version);
-    if verdict.number != 0 {
-        return verdict;
-    }
-    let dropped = sweep(keys, versions, lengths, c);
-    *floor = larger(*floor, c);
+    compact_rules(c, b.version)?;
+    let dropped = sweep(b.keys, b.versions, b.lengths, c);
+    *b.floor = (*b.floor).max(c);
     drop_empty(
-        keys, versions, lengths, version, *floor, order, forms, dropped,
+        b.keys, b.versions, b.lengths, b.version, *b.floor, b.order, b.forms, dropped,
     );
-    work_out(versions, tops, dropped);
-    verdict
+    work_out(b.versions, b.tops, dropped);
+    Ok(())
 }

@@ -3,5 +3,7 @@
 #![tactic(auto)]
 
 mod compacting;
+mod parts;
 
 pub use compacting::compact;
+pub use parts::Parts;

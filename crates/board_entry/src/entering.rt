@@ -1,45 +1,37 @@
 // The entry at a place, with the rows beside the table. The octets of the path are not its matter.
 ghost use Rattle.std.specs.Prelude.{◌≡◌, true, ◌<◌};
 ghost use Rattle.board_record.specs.Sizes.{places};
-ghost use Rattle.board_record.specs.Table.{table_of, bearing, changed};
+ghost use Rattle.board_record.specs.Table.{bearing, changed};
 ghost use Rattle.board_record.specs.Proper.{proper_b};
 ghost use Rattle.board_record.specs.Order.{order_of, in_order};
 ghost use Rattle.board_record.specs.Tops.{tops_of, in_tops};
+ghost use Rattle.board_entry.specs.Parts.{table_in, SameParts};
 
+use super::parts::Parts;
 use board_order_moves::move_last;
 use board_tops::raise;
 
 // Place `at` of a board becomes a path of n octets in the form, of the key, which bears the next version; the floor is `raised`.
-pub fn enter(
-    keys: &mut [u32; 128],
-    versions: &mut [u64; 128],
-    lengths: &mut [u16; 128],
-    version: &mut u64,
-    floor: &mut u64,
-    order: &mut [u8; 128],
-    tops: &mut [u64; 16],
-    forms: &mut [u8; 128],
-    at: usize,
-    key: u32,
-    n: u16,
-    form: u8,
-    raised: u64,
-)
-    requires { let b = table_of keys.old versions.old lengths.old version.old floor.old forms.old in
-        (proper_b b ≡ true) × (in_order b order.old ≡ true) × (in_tops versions.old tops.old ≡ true) × (at < places) × (key ≡ 0 → ⊥) }
-    ensures table { let before = table_of keys.old versions.old lengths.old version.old floor.old forms.old in
-        let after = table_of keys.new versions.new lengths.new version.new floor.new forms.new in
-        after ≡ changed before at (bearing before key n form) raised }
-    ensures rows { let after = table_of keys.new versions.new lengths.new version.new floor.new forms.new in
-        (order.new ≡ order_of after) × (tops.new ≡ tops_of versions.new) }
+pub fn enter(b: &mut Parts<'_>, at: usize, key: u32, n: u16, form: u8, raised: u64)
+    requires { let t = table_in b.old in
+        (proper_b t ≡ true) × (in_order t b.old.order.now ≡ true) × (in_tops b.old.versions.now b.old.tops.now ≡ true) × (at < places) × (key ≡ 0 → ⊥) }
+    ensures parts { SameParts b.new b.old }
+    ensures table { let t = table_in b.old in table_in b.new ≡ changed t at (bearing t key n form) raised }
+    ensures rows { (b.new.order.now ≡ order_of (table_in b.new)) × (b.new.tops.now ≡ tops_of b.new.versions.now) }
 {
-    let next = *version + 1;
-    move_last(keys, versions, lengths, *version, *floor, order, forms, at);
-    raise(versions, tops, at, next);
-    keys[at] = key;
-    versions[at] = next;
-    lengths[at] = n;
-    forms[at] = form;
-    *version = next;
-    *floor = raised;
+    let version = *b.version;
+    let floor = *b.floor;
+    let next = version + 1;
+    let order = &mut *b.order;
+    move_last(
+        b.keys, b.versions, b.lengths, version, floor, order, b.forms, at,
+    );
+    let tops = &mut *b.tops;
+    raise(b.versions, tops, at, next);
+    b.keys[at] = key;
+    b.versions[at] = next;
+    b.lengths[at] = n;
+    b.forms[at] = form;
+    *b.version = next;
+    *b.floor = raised;
 }

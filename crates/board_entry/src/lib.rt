@@ -3,5 +3,7 @@
 #![tactic(auto)]
 
 mod entering;
+mod parts;
 
 pub use entering::enter;
+pub use parts::Parts;

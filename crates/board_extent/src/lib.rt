@@ -2,11 +2,11 @@
 // behind them is looked at once, and by the rest of rule 17 no more.
 #![tactic(auto)]
 
-ghost use Rattle.std.specs.Prelude.{◌≡◌, true, ◌≤◌};
+ghost use Rattle.std.specs.Prelude.{◌≤◌};
 ghost use Rattle.board_record.specs.Sizes.{places};
-ghost use Rattle.board_extent.specs.Extent.{EmptyFrom, Reach};
+ghost use Rattle.board_extent.specs.Extent.{Reach};
 
-use board_record::PLACES;
+use board_record::{Lent, PLACES};
 
 // how far they may reach
 const NEAR: usize = 32;
@@ -15,63 +15,7 @@ const HALF: usize = 64;
 
 const FAR: usize = 96;
 
-// Whether keys are 0 from place m on.
-fn keys_from(keys: &[u32; 128], m: usize) -> bool
-    requires { m ≤ places }
-    ensures none { result ≡ true → EmptyFrom keys.now m }
-{
-    let mut some: u32 = 0;
-    let mut i = m;
-    while i < PLACES {
-        some = some | keys[i];
-        i += 1;
-    }
-    some == 0
-}
-
-// Whether versions are 0 from place m on.
-fn versions_from(versions: &[u64; 128], m: usize) -> bool
-    requires { m ≤ places }
-    ensures none { result ≡ true → EmptyFrom versions.now m }
-{
-    let mut some: u64 = 0;
-    let mut i = m;
-    while i < PLACES {
-        some = some | versions[i];
-        i += 1;
-    }
-    some == 0
-}
-
-// Whether lengths are 0 from place m on.
-fn lengths_from(lengths: &[u16; 128], m: usize) -> bool
-    requires { m ≤ places }
-    ensures none { result ≡ true → EmptyFrom lengths.now m }
-{
-    let mut some: u16 = 0;
-    let mut i = m;
-    while i < PLACES {
-        some = some | lengths[i];
-        i += 1;
-    }
-    some == 0
-}
-
-// Whether forms are 0 from place m on.
-fn forms_from(forms: &[u8; 128], m: usize) -> bool
-    requires { m ≤ places }
-    ensures none { result ≡ true → EmptyFrom forms.now m }
-{
-    let mut some: u8 = 0;
-    let mut i = m;
-    while i < PLACES {
-        some = some | forms[i];
-        i += 1;
-    }
-    some == 0
-}
-
-// As many places as the order has numbers, or more.
+// As many places as the order has numbers, or more: a count, of which 128 is the largest, and never none.
 fn guess(order: &[u8; 128]) -> usize
     ensures most { result ≤ places }
 {
@@ -87,27 +31,39 @@ fn guess(order: &[u8; 128]) -> usize
     PLACES
 }
 
-// A place that those in use do not reach beyond: 128, if no lower one is found.
-pub fn extent<'a>(
-    keys: &'a [u32; 128],
-    versions: &'a [u64; 128],
-    lengths: &'a [u16; 128],
-    order: &'a [u8; 128],
-    forms: &'a [u8; 128],
-) -> usize
-    ensures reach { Reach keys.now versions.now lengths.now forms.now result }
+// How many places those in use are among, from the first on: all 128, if no lower count is found. So 128 is a count too, and never none. What is behind
+// them is joined by `or`: a loop with no way out, and one for each width, so that the compiler takes many places at a time; each is looked at by itself behind its
+// loop, since the four in one test are four numbers to be made of many lanes.
+pub fn extent(b: Lent<'_>) -> usize
+    ensures reach { let now = b.entry in Reach now.keys.now now.versions.now now.lengths.now now.forms.now result }
 {
-    let m = guess(order);
-    if !keys_from(keys, m) {
+    let m = guess(b.order);
+    let mut key: u32 = 0;
+    for k in m..PLACES {
+        key |= b.keys[k];
+    }
+    if key != 0 {
         return PLACES;
     }
-    if !versions_from(versions, m) {
+    let mut version: u64 = 0;
+    for v in m..PLACES {
+        version |= b.versions[v];
+    }
+    if version != 0 {
         return PLACES;
     }
-    if !lengths_from(lengths, m) {
+    let mut length: u16 = 0;
+    for l in m..PLACES {
+        length |= b.lengths[l];
+    }
+    if length != 0 {
         return PLACES;
     }
-    if !forms_from(forms, m) {
+    let mut form: u8 = 0;
+    for f in m..PLACES {
+        form |= b.forms[f];
+    }
+    if form != 0 {
         return PLACES;
     }
     m

@@ -3,7 +3,7 @@ use Prim.Native.Nat.{ℕ, ◌*◌, ◌%◌, ◌<◌, ◌≤◌}
 use native.Mathlib.Omega.{arith}
 use mathlib.Core.Path.{◌≡◌, refl, sym, ◌∙◌}
 use mathlib.Core.Bool.{Bool, true, false, cond, ◌&&◌, ◌||◌}
-use mathlib.Core.Logic.{◌⊎◌, ⊎_elim}
+use mathlib.Core.Logic.{⊎_elim}
 use lib.Dec.{eqb, leb}
 use borrow.Author.Tests.{eq-eqb, ne_eqb, eqb-true, le-leb, lt-leb}
 use Rattle.octets.proofs.Said.{and_holding, and_false}
@@ -47,8 +47,3 @@ body_fits l f t q e d = ⊎_elim high low (from? 97 t)
             or_two false = refl
         go false a false b z c =
             ⊎_elim (λ n. rw (eq-eqb l 0 n, eq-eqb q 0 (omega arith)) (and_holding z)) (λ n. rw (ne_eqb l 0 n, ne_eqb q 0 (λ w. n (omega arith))) (and_false z)) (same? l 0)
-
--- as the code tests it
-pub fits_is : (l f t : ℕ) (a b n u w r : Bool) → t ≡ turned_of l → a ≡ (eqb f 3 && leb 6 (t % 256)) → b ≡ (eqb f 1 && leb 2 (t % 256))
-    → n ≡ (eqb f 0 && eqb (t % 256) 0) → u ≡ (a || b) → w ≡ (u || n) → r ≡ (leb t 96 && w) → r ≡ body_b l f
-fits_is l f t a b n u w r e p q o x y z = cc (body_fits l f t (t % 256) e refl)

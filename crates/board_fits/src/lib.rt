@@ -1,10 +1,8 @@
 // Whether a path's length fits its form (document 01, "The board": what is proper, with the second form of 02).
 #![tactic(auto)]
 
-ghost use Rattle.std.specs.Prelude.{◌≡◌, cond, not};
+ghost use Rattle.std.specs.Prelude.{◌≡◌};
 ghost use Rattle.board_fits.specs.Fits.{body_b, turned_of};
-
-use octets::{both, either};
 
 const UNIT: u16 = objects::UNIT as u16;
 
@@ -29,21 +27,15 @@ fn turned(l: u16) -> u16
     l / UNIT + l % UNIT * ABOVE_LENGTHS
 }
 
-// Whether a length fits a form: that of a path, or 0 where there is none.
-fn fits(l: u16, form: u8) -> bool
+// Whether a length fits a form: that of a path, or 0 where there is none. By `&` and `|`, which have no branch, so that the compiler can
+// take many places at a time.
+pub fn fits(l: u16, form: u8) -> bool
     ensures fits { result ≡ body_b l form }
 {
     let t = turned(l);
     let q = (t % 256) as u8;
-    let srv6 = both(form == SRV6, LEAST_SRV6 <= q);
-    let mpls = both(form == MPLS, LEAST_MPLS <= q);
-    let none = both(form == 0, q == 0);
-    both(t <= MOST, either(either(srv6, mpls), none))
-}
-
-// 1 where it does not, else 0.
-pub fn wrong(l: u16, form: u8) -> u8
-    ensures wrong { result ≡ cond (not (body_b l form)) 1 0 }
-{
-    if fits(l, form) { 0 } else { 1 }
+    let srv6 = (form == SRV6) & (LEAST_SRV6 <= q);
+    let mpls = (form == MPLS) & (LEAST_MPLS <= q);
+    let none = (form == 0) & (q == 0);
+    (t <= MOST) & (srv6 | mpls | none)
 }

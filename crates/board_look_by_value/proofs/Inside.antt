@@ -12,7 +12,7 @@ use Rattle.answers.specs.Verdicts.{refused_by}
 use Rattle.board_record.specs.Record.{table_in, tidy}
 use Rattle.board_rules.specs.declared.answer.Change.{Change}
 use Rattle.board_rules.specs.declared.answer.Octets.{Octets}
-use Rattle.board_rules.specs.declared.answer.Handed.TheVariants.{Refused, Path}
+use Rattle.board_rules.specs.Handed.{Refused, Path}
 use Rattle.board_rules.specs.Body.{body_of}
 use Rattle.board_rules.specs.Next.{next_answer}
 use Rattle.board_rules.specs.OnRecord as lent

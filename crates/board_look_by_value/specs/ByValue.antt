@@ -3,7 +3,7 @@ use Rattle.std.specs.Prelude.{ℕ, List}
 use Rattle.answers.specs.declared.verdict.Verdict.{Verdict}
 use Rattle.board_record.specs.declared.record.Board.{Board}
 use Rattle.board_record.specs.Record.{table_in}
-use Rattle.board_rules.specs.declared.answer.Handed.{Handed}
+use Rattle.board_rules.specs.Handed.{Handed}
 use Rattle.board_rules.specs.declared.answer.Mark.{Mark}
 use Rattle.board_rules.specs.Next.{fresh_mark}
 use Rattle.board_rules.specs.OnRecord as lent

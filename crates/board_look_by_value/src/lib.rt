@@ -6,86 +6,42 @@
 mod path;
 
 ghost use Rattle.std.specs.Prelude.{◌≡◌};
+ghost use Rattle.answers.specs.Verdicts.{passed_of};
+ghost use Rattle.board_rules.specs.Handed.{handed_of};
+ghost use Rattle.board_rules.specs.Moved.{told_of};
 ghost use Rattle.board_look_by_value.specs.ByValue.{body_number_by_value, body_form_by_value, next_by_value, moved_by_value, fresh_mark_on};
 
-use answers::Verdict;
+use answers::Refusal;
 use board_record::Board;
 use board_rules::{Handed, Mark};
 pub use path::body;
 
 // The number of Body (key).
-pub fn body_number(b: Board, store: &[u8], key: u64) -> Verdict
-    ensures number { result ≡ body_number_by_value b store.now key }
+pub fn body_number(b: Board, store: &[u8], key: u64) -> Result<(), Refusal>
+    ensures number { passed_of result ≡ body_number_by_value b store.now key }
 {
-    board_body::body_number(
-        &b.keys,
-        &b.versions,
-        &b.lengths,
-        b.version,
-        b.floor,
-        &b.order,
-        &b.tops,
-        &b.forms,
-        store,
-        key,
-    )
+    board_body::body_number(b.lent(), store, key)
 }
 
 // The form of the path of Body (key), by its setup type; 0 on refusal.
 pub fn body_form(b: Board, store: &[u8], key: u64) -> usize
     ensures form { result ≡ body_form_by_value b store.now key }
 {
-    board_body::body_form(
-        &b.keys,
-        &b.versions,
-        &b.lengths,
-        b.version,
-        b.floor,
-        &b.order,
-        &b.tops,
-        &b.forms,
-        store,
-        key,
-    )
+    board_body::body_form(b.lent(), store, key)
 }
 
 // Next (mark s, w).
-pub fn next(b: Board, store: &[u8], s: u64, w: u64) -> Handed
-    ensures next { result ≡ next_by_value b store.now s w }
+pub fn next(b: Board, store: &[u8], s: u64, w: u64) -> Result<Handed, Refusal>
+    ensures next { handed_of result ≡ next_by_value b store.now s w }
 {
-    board_look::next(
-        &b.keys,
-        &b.versions,
-        &b.lengths,
-        b.version,
-        b.floor,
-        &b.order,
-        &b.tops,
-        &b.forms,
-        store,
-        s,
-        w,
-    )
+    board_look::next(b.lent(), store, s, w)
 }
 
 // Moved (keys from `from` to `to`, version v).
-pub fn moved(b: Board, store: &[u8], from: u64, to: u64, v: u64) -> Verdict
-    ensures moved { result ≡ moved_by_value b store.now from to v }
+pub fn moved(b: Board, store: &[u8], from: u64, to: u64, v: u64) -> Result<bool, Refusal>
+    ensures moved { told_of result ≡ moved_by_value b store.now from to v }
 {
-    board_look::moved(
-        &b.keys,
-        &b.versions,
-        &b.lengths,
-        b.version,
-        b.floor,
-        &b.order,
-        &b.tops,
-        &b.forms,
-        store,
-        from,
-        to,
-        v,
-    )
+    board_look::moved(b.lent(), store, from, to, v)
 }
 
 // A fresh mark is the board's version for s and 0 for w, with the follower empty. It has no number: it reads the version

@@ -5,70 +5,42 @@ ghost use Rattle.board_record.specs.Lists.{any_below};
 ghost use Rattle.board_record.specs.Search.{moved_b, moved_in};
 ghost use Rattle.board_record.specs.Tops.{in_tops};
 
-use board_record::{GROUP, GROUPS, wide32};
+use board_record::{GROUP, GROUPS, Lent};
 
 // Whether a place with this key and version is used, its key in the range, and its version above v.
 fn is_moved(k: u32, version: u64, from: u64, to: u64, v: u64) -> bool
     ensures moved { result ≡ (not (eqb k 0) && leb from k && leb k to && ltb v version) }
 {
-    let key = wide32(k);
-    if key == 0 {
-        return false;
-    }
-    if key < from {
-        return false;
-    }
-    if to < key {
-        return false;
-    }
-    v < version
+    let key = u64::from(k);
+    key != 0 && from <= key && key <= to && v < version
 }
 
 // Whether group g has such a place.
-fn in_group<'a>(
-    keys: &'a [u32; 128],
-    versions: &'a [u64; 128],
-    g: usize,
-    from: u64,
-    to: u64,
-    v: u64,
-) -> bool
+fn in_group(b: Lent<'_>, g: usize, from: u64, to: u64, v: u64) -> bool
     requires { g < groups }
-    ensures moved { result ≡ any_below (λ j. moved_b keys.now versions.now from to v (group * g + j)) group }
+    ensures moved { result ≡ any_below (λ j. moved_b b.entry.keys.now b.entry.versions.now from to v (group * g + j)) group }
 {
-    let mut j: usize = 0;
-    while j < GROUP {
+    for j in 0..GROUP {
         let i = GROUP * g + j;
-        if is_moved(keys[i], versions[i], from, to, v) {
+        if is_moved(b.keys[i], b.versions[i], from, to, v) {
             return true;
         }
-        j += 1;
     }
     false
 }
 
 // Whether some place has one.
-pub fn any_moved<'a>(
-    keys: &'a [u32; 128],
-    versions: &'a [u64; 128],
-    tops: &'a [u64; 16],
-    from: u64,
-    to: u64,
-    v: u64,
-) -> bool
-    requires { in_tops versions.now tops.now ≡ true }
-    ensures moved { result ≡ moved_in keys.now versions.now from to v }
+pub fn any_moved(b: Lent<'_>, from: u64, to: u64, v: u64) -> bool
+    requires { in_tops b.versions.now b.tops.now ≡ true }
+    ensures moved { result ≡ moved_in b.entry.keys.now b.entry.versions.now from to v }
 {
-    let mut g: usize = 0;
-    while g < GROUPS {
-        if tops[g] <= v {
-            g += 1;
+    for g in 0..GROUPS {
+        if b.tops[g] <= v {
             continue;
         }
-        if in_group(keys, versions, g, from, to, v) {
+        if in_group(b, g, from, to, v) {
             return true;
         }
-        g += 1;
     }
     false
 }

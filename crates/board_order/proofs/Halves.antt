@@ -1,17 +1,20 @@
 -- Halving the order: what is above w stays so behind it (`above_up`), so the part still looked at lies between numbers that are not above and numbers that are
 -- (`Between`). Assumes nothing.
-use Prim.Native.Nat.{ℕ, ◌+◌, ◌<◌, ◌≤◌, ◌/◌}
+use Prim.Native.Nat.{ℕ, ◌<◌, ◌≤◌}
 use native.Mathlib.Omega.{arith}
-use mathlib.Core.Path.{◌≡◌, refl, sym, ap, ◌∙◌}
-use mathlib.Core.Bool.{Bool, true, false}
+use mathlib.Core.Path.{◌≡◌, refl, sym, ap, ◌∙◌, subst}
+use mathlib.Core.Bool.{Bool, true, false, ◌&&◌}
 use mathlib.Core.List.{List}
-use mathlib.Core.Logic.{◌⊎◌, ⊎_elim}
-use lib.ListN.{get_or}
-use lib.Dec.{ltb}
-use borrow.Author.Tests.{lt-ltb, le-ltb, ltb-true, ltb-false}
+use mathlib.Core.Logic.{⊎_elim}
+use lib.ListN.{get_or, length}
+use lib.Dec.{ltb, leb}
+use borrow.Author.Tests.{lt-ltb, le-ltb, ltb-true, ltb-false, le-leb, leb-true}
 use Rattle.board_record.specs.Sizes.{places}
 use Rattle.board_record.specs.Search.{first_where}
-use Rattle.board_record.specs.Order.{place_on, Rises}
+use Rattle.board_record.specs.Order.{named, place_on, Rises}
+use Rattle.std.specs.List.Sorted.{IsPartitionPoint, IsPartitionedBy}
+use Rattle.std.proofs.lemmas.List.{get_or_default}
+use Rattle.octets.proofs.Said.{both_true}
 use Rattle.board_record.proofs.Logic.{true≢false, same?, from?}
 use Rattle.board_record.proofs.Search.{IsFirst, nobody, this, first_is, first_found, first_hit, first_before}
 use Rattle.board_order.specs.Above.{above_b, first_above}
@@ -56,43 +59,48 @@ module _ (vs order : List ℕ) (w : ℕ) where
       some : place_on order j < places → above_b vs order w j ≡ true
       some h = let g = r i j k l h in sym (above_place j (place_on order j) refl h) ∙ lt-ltb w (get_or vs (place_on order j) 0) (omega (arith, above_is i e g.0, g.1))
 
-  -- what is below `low` is not above w, what is from `high` on is
-  pub record Between (low high : ℕ) : Type 0 where
-    pub ordered : low ≤ high
-    pub most : high ≤ places
-    pub before : (j : ℕ) → j < low → above_b vs order w j ≡ false
-    pub behind : (j : ℕ) → high ≤ j → j < places → above_b vs order w j ≡ true
+  -- the test of a number by itself, the other way round
+  abbrev pub in_reach : ℕ → Bool
+  in_reach n = ltb (named n) places && leb (get_or vs (named n) 0) w
 
-  pub between_all : Between 0 places
-  between_all = record { ordered = omega arith; most = omega arith; before = λ j l. absurd (omega arith); behind = λ j h l. absurd (omega arith) }
+  pub in_reach_place : (n p : ℕ) → (p ≡ named n) × (p < places) → leb (get_or vs p 0) w ≡ in_reach n
+  in_reach_place n p e = rw (← e.0, lt-ltb p 128 e.1)
 
-  pub between_down : Rises vs order → (low high m : ℕ) → Between low high → low < high → m ≡ (low + high) / 2 → above_b vs order w m ≡ true → Between low m
-  between_down r low high m x l e t =
-      record {
-        ordered = omega arith;
-        most = omega (arith, x.most);
-        before = x.before;
-        behind = λ j h k. ⊎_elim (λ z. ap (above_b vs order w) (sym z) ∙ t) (λ d. above_up r m j (omega (arith, d)) k t) (same? m j);
-      }
+  pub in_reach_none : (n : ℕ) → places ≤ named n → false ≡ in_reach n
+  in_reach_none n l = rw (le-ltb (named n) 128 l)
 
-  pub between_up : Rises vs order → (low high m : ℕ) → Between low high → low < high → m ≡ (low + high) / 2 → above_b vs order w m ≡ false → Between (m + 1) high
-  between_up r low high m x l e t =
-      record {
-        ordered = omega arith;
-        most = x.most;
-        before = λ j k. go j k (above_b vs order w j) refl;
-        behind = x.behind;
-      }
+  in_reach_above : (i : ℕ) → in_reach (get_or order i 0) ≡ true → above_b vs order w i ≡ false
+  unfolding above_b
+  in_reach_above i e =
+      let t = both_true (ltb (place_on order i) places) (leb (get_or vs (place_on order i) 0) w) e in
+      rw (t.0, le-ltb w (get_or vs (place_on order i) 0) (leb-true (get_or vs (place_on order i) 0) w t.1))
+
+  above_in_reach : (i : ℕ) → above_b vs order w i ≡ false → in_reach (get_or order i 0) ≡ true
+  above_in_reach i e = let t = not_above i e in rw (lt-ltb (place_on order i) places t.0) (le-leb (get_or vs (place_on order i) 0) w t.1)
+
+  -- what is in reach stands before what is not
+  pub in_reach_first : Rises vs order → length order ≡ places → IsPartitionedBy in_reach order
+  in_reach_first r long i j d h l e = subst (λ (n : ℕ). in_reach n ≡ true) (get_or_default order i 0 d (omega arith)) (above_in_reach i (go (above_b vs order w i) refl))
     where
-      go : (j : ℕ) → j < m + 1 → (y : Bool) → above_b vs order w j ≡ y → above_b vs order w j ≡ false
-      go j k true q = ⊎_elim (λ z. ap (above_b vs order w) z ∙ t) (λ d. absurd (true≢false (sym (above_up r j m (omega (arith, d)) (omega (arith, x.most)) q) ∙ t))) (same? j m)
-      go j k false q = q
+      e0 : above_b vs order w j ≡ false
+      e0 = in_reach_above j (subst (λ (n : ℕ). in_reach n ≡ true) (get_or_default order j d 0 l) e)
 
-  pub between_done : (low high : ℕ) → Between low high → high ≤ low → low ≡ first_above vs order w
+      go : (y : Bool) → above_b vs order w i ≡ y → above_b vs order w i ≡ false
+      go true q = ⊎_elim (λ z. ap (above_b vs order w) z ∙ e0) (λ z. absurd (true≢false (sym (above_up r i j (omega (arith, z)) (omega arith) q) ∙ e0))) (same? i j)
+      go false q = q
+
+  pub partition_is : (n : ℕ) → length order ≡ places → n ≤ length order → IsPartitionPoint (λ y. in_reach y ≡ true) (λ y. in_reach y ≡ false) order n → n ≡ first_above vs order w
   unfolding first_above
-  between_done low high x l =
-      ⊎_elim (λ h. let e : low ≡ 128 = omega (arith, x.ordered, x.most) in e ∙ sym (first_end (above_b vs order w) 128 (λ j k. x.before j (omega arith))))
-      (λ h. first_found (above_b vs order w) 128 low h (first_end (above_b vs order w) low x.before) (x.behind low l h)) (from? 128 low)
+  partition_is n long l x =
+      ⊎_elim (λ h. let e : n ≡ 128 = omega arith in e ∙ sym (first_end (above_b vs order w) 128 (λ j k. before j (omega arith))))
+      (λ h. first_found (above_b vs order w) 128 n h (first_end (above_b vs order w) n before) (go h (above_b vs order w n) refl)) (from? 128 n)
+    where
+      before : (j : ℕ) → j < n → above_b vs order w j ≡ false
+      before j k = in_reach_above j (x.0 j 0 (omega arith) k)
+
+      go : n < 128 → (y : Bool) → above_b vs order w n ≡ y → above_b vs order w n ≡ true
+      go h true q = q
+      go h false q = absurd (true≢false (sym (above_in_reach n q) ∙ x.1 n 0 (omega arith) (omega arith)))
 
   -- and what the search names
   pub first_above_lem : first_above vs order w < places → above_b vs order w (first_above vs order w) ≡ true

@@ -1,38 +1,23 @@
 // Where in the order a version lies, by halving: versions rise along it.
-ghost use Rattle.std.specs.Prelude.{◌≡◌, ◌<◌, length};
-ghost use Rattle.board_record.specs.Sizes.{places};
+ghost use Rattle.std.specs.Prelude.{◌≡◌};
 ghost use Rattle.board_record.specs.Order.{Rises};
-ghost use Rattle.board_order.specs.Above.{above_b, first_above};
+ghost use Rattle.board_order.specs.Above.{first_above};
 
-use super::naming::named;
-use board_record::PLACES;
+use super::naming::place_of;
+use board_record::Lent;
 
-// Whether number i of the order is no place, or its version is above w.
-fn above<'a>(versions: &'a [u64], order: &'a [u8], i: usize, w: u64) -> bool
-    requires { (length versions.now ≡ places) × (length order.now ≡ places) × (i < places) }
-    ensures above { result ≡ above_b versions.now order.now w i }
+// The first number of the order that is no place or whose version is above w; 128, the order's end, where there is none.
+pub fn first_above(b: Lent<'_>, w: u64) -> usize
+    requires { Rises b.versions.now b.order.now }
+    ensures first { result ≡ first_above b.entry.versions.now b.entry.order.now w }
 {
-    let p = named(order[i]);
-    if PLACES <= p {
-        return true;
-    }
-    w < versions[p]
-}
-
-// The first number of the order that is no place or whose version is above w; 128 where there is none.
-pub fn first_above<'a>(versions: &'a [u64], order: &'a [u8], w: u64) -> usize
-    requires { (length versions.now ≡ places) × (length order.now ≡ places) × Rises versions.now order.now }
-    ensures first { result ≡ first_above versions.now order.now w }
-{
-    let mut low: usize = 0;
-    let mut high: usize = PLACES;
-    while low < high {
-        let middle = (low + high) / 2;
-        if above(versions, order, middle, w) {
-            high = middle;
-            continue;
-        }
-        low = middle + 1;
-    }
-    low
+    let Lent {
+        versions,
+        order,
+        ..
+    } = b;
+    order.partition_point(|n| match place_of(*n) {
+        Some(p) => versions[p] <= w,
+        None => false,
+    })
 }

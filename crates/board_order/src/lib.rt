@@ -6,4 +6,4 @@ mod halving;
 mod naming;
 
 pub use halving::first_above;
-pub use naming::named;
+pub use naming::{named, place_of};

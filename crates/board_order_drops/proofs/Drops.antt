@@ -1,11 +1,14 @@
 -- The order after a compaction. So far the first `kept` numbers are those of the first i that are used places, in their order, and the numbers from i on are as they were
--- (`Sifting`); a turn keeps one more, or none; and the numbers behind those kept become 0 (`Filling`). Assumes nothing.
+-- (`Sifting`); a turn keeps one more, or none; and the numbers behind those kept become 0. Assumes nothing.
 use Prim.Native.Nat.{ℕ, ◌+◌, ◌-◌, ◌<◌, ◌≤◌}
 use native.Mathlib.Omega.{arith}
 use mathlib.Core.Path.{◌≡◌, refl, sym, ap, ◌∙◌, subst}
 use mathlib.Core.List.{List}
-use mathlib.Core.Logic.{◌⊎◌, ⊎_elim}
-use lib.ListN.{get_or, set, length, length-set}
+use mathlib.Core.Logic.{⊎_elim}
+use lib.ListN.{get_or, set, length, length-set, replicate}
+use borrow.Rule.Slice.PartMut.{put_mid}
+use Rattle.std.proofs.Common.{rules}
+use Rattle.std.proofs.lemmas.List.{places as at_places, length-append, length-take, length-drop}
 use lib.Seq.{get_or-set_same, get_or-set_other}
 use Rattle.board_record.specs.Sizes.{places}
 use Rattle.board_record.specs.Table.{Table, version_at, Used}
@@ -97,75 +100,37 @@ module _ (b : Table) (r x : List ℕ) (kept i : ℕ) (s : Sifting b r x kept i) 
             (λ d. let f = s.all k (omega (arith, d)) w v in record { at = f.at; here = omega (arith, f.here); is = other f.at (λ z. omega (arith, f.here)) ∙ f.is }) (same? k i);
       }
 
--- ---- the numbers behind those kept
-pub record Filling (b : Table) (x : List ℕ) (m k : ℕ) : Type 0 where
-  pub long : length x ≡ places
-  pub fewer : m ≤ k
-  pub most : k ≤ places
-  pub low : (j : ℕ) → j < m → place_on x j < places
-  pub used : (j : ℕ) → j < m → Used b (place_on x j)
-  pub up : (j n : ℕ) → j < n → n < m → version_at b (place_on x j) < version_at b (place_on x n)
-  pub all : (p : ℕ) → p < places → Used b p → Kept x m p
-  pub rest : (j : ℕ) → m ≤ j → j < k → get_or x j 0 ≡ 0
+-- ---- the numbers behind those kept are 0
+pub filled_front : (a k : ℕ) (xs ys : List ℕ) → a ≤ length xs → (j : ℕ) → j < a → get_or (put_mid a k xs ys) j 0 ≡ get_or xs j 0
+filled_front a k xs ys m j l = search (rules, at_places)
 
--- how many were kept
-pub record Sifted (b : Table) (x : List ℕ) (k : ℕ) : Type 0 where
-  pub from : ℕ
-  pub so : Filling b x from k
+pub filled_long : (a : ℕ) (xs ys : List ℕ) → a ≤ 128 → length xs ≡ 128 → length ys ≡ 128 - a → length (put_mid a (128 - a) xs ys) ≡ 128
+filled_long a xs ys m l e = simp (length-append, length-take, length-drop) (omega arith)
 
-pub filling_none : (b : Table) (r x : List ℕ) (kept i : ℕ) → Loose b r → Sifting b r x kept i → places ≤ i → Sifted b x kept
-filling_none b r x kept i g s h =
-    record {
-      from = kept;
-      so = record {
-        long = s.long;
-        fewer = omega arith;
-        most = omega (arith, s.fewer, s.most);
-        low = s.low;
-        used = s.used;
-        up = s.up;
-        all = λ p l u.
-            let o = g.all p l u in
-            let f = s.all o.at (omega (arith, o.here)) (omega (arith, o.is)) (subst (Used b) (sym o.is) u) in
-            record { at = f.at; here = f.here; is = f.is ∙ o.is };
-        rest = λ j l n. absurd (omega arith);
-      };
-    }
+pub filled_behind : (a n : ℕ) (xs ys : List ℕ) → a ≤ length xs → ys ≡ replicate n 0 → n ≡ 128 - a → (j : ℕ) → a ≤ j → j < 128 → get_or (put_mid a (128 - a) xs ys) j 0 ≡ 0
+filled_behind a n xs ys m e q j h l = rw e (search (rules, at_places))
 
-pub filling_more : (b : Table) (x : List ℕ) (k : ℕ) → Sifted b x k → k < places → Sifted b (set x k 0) (k + 1)
-filling_more b x k f l =
-    let s = f.so in
-    let other : (j : ℕ) → (j ≡ k → ⊥) → get_or (set x k 0) j 0 ≡ get_or x j 0 = λ j d. get_or-set_other x k j 0 0 d in
-    let old : (j : ℕ) → j < f.from → place_on (set x k 0) j ≡ place_on x j = λ j m. ap named (other j (λ z. omega (arith, s.fewer))) in
-    record {
-      from = f.from;
-      so = record {
-        long = length-set x k 0 ∙ s.long;
-        fewer = omega (arith, s.fewer);
-        most = omega arith;
-        low = λ j m. omega (arith, old j m, s.low j m);
-        used = λ j m. subst (Used b) (sym (old j m)) (s.used j m);
-        up = λ j n m o. omega (arith, ap (version_at b) (old j (omega arith)), ap (version_at b) (old n o), s.up j n m o);
-        all = λ p m u. let a = s.all p m u in record { at = a.at; here = a.here; is = old a.at a.here ∙ a.is };
-        rest = λ j m n.
-            ⊎_elim (λ z. ap (λ (y : ℕ). get_or (set x k 0) y 0) z ∙ get_or-set_same x k 0 0 (omega (arith, s.long))) (λ d. other j d ∙ s.rest j m (omega (arith, d))) (same? j k);
-      };
-    }
-
-pub filled_order : (b : Table) (x : List ℕ) (k : ℕ) → Sifted b x k → places ≤ k → x ≡ order_of b
-filled_order b x k f h = order_is b x f.so.long chained
+pub filled_order : (b : Table) (r x y : List ℕ) (kept i : ℕ) → Loose b r → Sifting b r x kept i → places ≤ i → length y ≡ places
+    → ((j : ℕ) → j < kept → get_or y j 0 ≡ get_or x j 0) → ((j : ℕ) → kept ≤ j → j < places → get_or y j 0 ≡ 0) → y ≡ order_of b
+filled_order b r x y kept i g s h long same rest = order_is b y long chained
   where
-    s : Filling b x f.from k
-    s = f.so
+    old : (j : ℕ) → j < kept → place_on y j ≡ place_on x j
+    old j m = ap named (same j m)
 
-    inside : (i : ℕ) → i < places → place_on x i < places → i < f.from
-    inside i l m = ⊎_elim (λ n. absurd (omega (arith, named_none (get_or x i 0) (s.rest i n (omega arith))))) (λ n. n) (from? f.from i)
+    inside : (j : ℕ) → j < places → place_on y j < places → j < kept
+    inside j l m = ⊎_elim (λ n. absurd (omega (arith, named_none (get_or y j 0) (rest j n l)))) (λ n. n) (from? kept j)
 
-    chained : Chained b x
+    chained : Chained b y
     chained =
         record {
-          used = λ i l m. s.used i (inside i l m);
-          all = λ p l u. let a = s.all p l u in record { at = a.at; here = omega (arith, a.here, s.fewer, s.most); is = a.is };
-          rises = λ i j k l m. let n = inside j l m in (s.low i (omega arith), s.up i j k n);
-          rest = λ i l m. ⊎_elim (λ n. s.rest i n (omega arith)) (λ n. absurd (omega (arith, s.low i n))) (from? f.from i);
+          used = λ j l m. let n = inside j l m in subst (Used b) (sym (old j n)) (s.used j n);
+          all = λ p l u.
+              let o = g.all p l u in
+              let f = s.all o.at (omega (arith, o.here)) (omega (arith, o.is)) (subst (Used b) (sym o.is) u) in
+              record { at = f.at; here = omega (arith, f.here, s.fewer, s.most); is = old f.at f.here ∙ f.is ∙ o.is };
+          rises = λ j k m l o.
+              let n = inside k l o in
+              let e = old j (omega arith) in
+              (omega (arith, e, s.low j (omega arith)), omega (arith, ap (version_at b) e, ap (version_at b) (old k n), s.up j k m n));
+          rest = λ j l m. ⊎_elim (λ n. rest j n l) (λ n. absurd (omega (arith, s.low j n, old j n))) (from? kept j);
         }

@@ -4,13 +4,13 @@
 use Prim.Native.Nat.{ℕ, ◌+◌, ◌-◌, ◌<◌, ◌≤◌}
 use native.Mathlib.Omega.{arith}
 use mathlib.Core.Path.{◌≡◌, refl, sym, ap, ◌∙◌, subst}
-use mathlib.Core.Bool.{Bool, true, false, not}
+use mathlib.Core.Bool.{Bool, true, false}
 use mathlib.Core.List.{List}
 use mathlib.Core.Logic.{◌⊎◌, inl, inr, ⊎_elim}
 use lib.ListN.{get_or, set, length, length-set}
 use lib.Seq.{ext_get_or, get_or-set_same, get_or-set_other}
 use lib.Dec.{eqb}
-use borrow.Author.Tests.{eq-eqb, ne_eqb, eqb-true, eqb-false, lt-ltb, le-ltb, not-true, not-false}
+use borrow.Author.Tests.{eq-eqb, ne_eqb, eqb-true, eqb-false, lt-ltb, le-ltb}
 use Rattle.board_record.specs.Sizes.{places}
 use Rattle.board_record.specs.Lists.{row, count_below}
 use Rattle.board_record.specs.Table.{Table, Entry, key_at, version_at, Used, Empty, changed}
@@ -20,31 +20,18 @@ use Rattle.board_order.proofs.Names.{named_none, named_place, number_is}
 use Rattle.board_record.proofs.Logic.{same?, from?}
 use Rattle.board_record.proofs.Lists.{length_row, row_at, count_less, count_full, hits, hits_where, count_hits}
 use Rattle.board_record.proofs.Proper.{proper_is}
-use Rattle.board_order_moves.specs.Shifts.{last_where, shifted_at, shifted}
+use Rattle.board_order_moves.specs.Shifts.{shifted_at, shifted}
 use Rattle.board_order.proofs.Chains.{proper_apart, once, order_is, in_chained}
-use Rattle.board_order_moves.proofs.Lasts.{last_most, last_hit, last_behind}
+use Rattle.board_record.specs.Search.{place_in}
+use Rattle.board_record.proofs.Search.{first_hit, first_before}
+use Rattle.board_order.proofs.Halves.{first_most}
 
--- ---- the loop of the shift: from `from` to i the numbers have moved up
+-- ---- the shift: from `from` to i the numbers have moved up
 pub record Shifting (r x : List ℕ) (from i : ℕ) : Type 0 where
   pub long : length x ≡ places
   pub before : (j : ℕ) → j < from → get_or x j 0 ≡ get_or r j 0
   pub moved : (j : ℕ) → from ≤ j → j < i → get_or x j 0 ≡ get_or r (j + 1) 0
   pub behind : (j : ℕ) → i ≤ j → get_or x j 0 ≡ get_or r j 0
-
-pub shifting_none : (r : List ℕ) (from : ℕ) → length r ≡ places → Shifting r r from from
-shifting_none r from n = record { long = n; before = λ j l. refl; moved = λ j h l. absurd (omega arith); behind = λ j h. refl }
-
-pub shifting_more : (r x : List ℕ) (from i : ℕ) → Shifting r x from i → from ≤ i → i < places → Shifting r (set x i (get_or x (i + 1) 0)) from (i + 1)
-shifting_more r x from i s h l =
-    let v = get_or x (i + 1) 0 in
-    record {
-      long = length-set x i v ∙ s.long;
-      before = λ j k. get_or-set_other x i j v 0 (λ e. omega arith) ∙ s.before j k;
-      moved = λ j k m.
-          ⊎_elim (λ e. ap (λ (y : ℕ). get_or (set x i v) y 0) e ∙ get_or-set_same x i v 0 (omega (arith, s.long)) ∙ s.behind (i + 1) (omega arith) ∙ ap (λ (y : ℕ). get_or r (y + 1) 0) (sym e))
-          (λ d. get_or-set_other x i j v 0 d ∙ s.moved j k (omega (arith, d))) (same? j i);
-      behind = λ j k. get_or-set_other x i j v 0 (λ e. omega arith) ∙ s.behind j (omega arith);
-    }
 
 shifted_at_lem : (r : List ℕ) (from to p i : ℕ) → i < places → get_or (shifted r from to p) i 0 ≡ shifted_at r from to p i
 unfolding shifted
@@ -248,23 +235,28 @@ changed_newest b at e f k v p l u h =
 -- ---- how far the order goes, and where the place stands
 module _ (b : Table) (r : List ℕ) (at : ℕ) (x : Chained b r) (l : at < places) where
   abbrev used : ℕ
-  used = last_where (λ i. not (eqb (get_or r i 0) 0)) 128
+  used = place_in r 0
+
+  used_most : used ≤ places
+  unfolding place_in
+  used_most = first_most (λ i. eqb (get_or r i 0) 0) 128
 
   before_used : (i : ℕ) → i < used → place_on r i < places
-  before_used i k = ⊎_elim (λ e. rw e end) (λ d. (x.rises i (used - 1) (omega (arith, d)) most end).0) (same? i (used - 1))
-    where
-      most : used - 1 < places
-      most = omega (arith, last_most (λ j. not (eqb (get_or r j 0) 0)) 128)
+  unfolding place_in
+  before_used i k =
+      let m : i < places = omega (arith, used_most) in
+      ⊎_elim (λ h. absurd (eqb-false (get_or r i 0) 0 (first_before (λ j. eqb (get_or r j 0) 0) 128 i m k) (x.rest i m h))) (λ h. h) (from? places (place_on r i))
 
-      some : get_or r (used - 1) 0 ≡ 0 → ⊥
-      some = eqb-false (get_or r (used - 1) 0) 0 (not-true _ (last_hit (λ j. not (eqb (get_or r j 0) 0)) 128 (λ z. omega arith)))
-
-      end : place_on r (used - 1) < places
-      end = ⊎_elim (λ h. absurd (some (x.rest (used - 1) most h))) (λ h. h) (from? places (place_on r (used - 1)))
+  at_used : used < places → place_on r used ≡ places
+  unfolding place_in
+  at_used h = named_none (get_or r used 0) (eqb-true (get_or r used 0) 0 (first_hit (λ j. eqb (get_or r j 0) 0) 128 h))
 
   behind_used : (i : ℕ) → used ≤ i → i < places → places ≤ place_on r i
   behind_used i k m =
-      omega (arith, named_none (get_or r i 0) (eqb-true (get_or r i 0) 0 (not-false _ (last_behind (λ j. not (eqb (get_or r j 0) 0)) 128 i k m))))
+      let e = at_used (omega arith) in
+      ⊎_elim (λ h. h)
+      (λ h. absurd (⊎_elim (λ q. omega (arith, ap (λ (n : ℕ). place_on r n) q, e)) (λ d. omega (arith, (x.rises used i (omega (arith, d)) m h).0, e)) (same? i used)))
+      (from? places (place_on r i))
 
   -- where a place is empty, not all are on the order
   some_free : Empty b at → used < places
@@ -282,15 +274,16 @@ module _ (b : Table) (r : List ℕ) (at : ℕ) (x : Chained b r) (l : at < place
       full k false t = omega (arith, count_less (hits (λ j. true) (λ j. place_on r j) 128) 128 at l t, all_hit k)
 
   abbrev found_at : ℕ
-  found_at = last_where (λ i. eqb (get_or r i 0) (at + 1)) 128
+  found_at = place_in r (at + 1)
 
   -- a place that is on the order is found
-  not_on : found_at ≡ 0 → OnOrder r at → ⊥
+  not_on : places ≤ found_at → OnOrder r at → ⊥
+  unfolding place_in
   not_on z o =
-      eqb-false (get_or r o.at 0) (at + 1) (last_behind (λ i. eqb (get_or r i 0) (at + 1)) 128 o.at (omega arith) o.here)
+      eqb-false (get_or r o.at 0) (at + 1) (first_before (λ i. eqb (get_or r i 0) (at + 1)) 128 o.at o.here (omega (arith, o.here)))
       (omega (arith, number_is (get_or r o.at 0) (omega (arith, o.is)), o.is))
 
-  pub spot_new : found_at ≡ 0 → Spot r at used used
+  pub spot_new : places ≤ found_at → Spot r at used used
   spot_new z =
       record {
         from_to = omega arith;
@@ -304,27 +297,25 @@ module _ (b : Table) (r : List ℕ) (at : ℕ) (x : Chained b r) (l : at < place
       empty : Empty b at
       empty = ⊎_elim (λ e. e) (λ d. absurd (not_on z (x.all at l d))) (same? (key_at b at) 0)
 
-  module _ (d : found_at ≡ 0 → ⊥) where
-    here : found_at - 1 < places
-    here = omega (arith, last_most (λ i. eqb (get_or r i 0) (at + 1)) 128, d)
+  module _ (here : found_at < places) where
+    is : place_on r found_at ≡ at
+    unfolding place_in
+    is = ap named (eqb-true (get_or r found_at 0) (at + 1) (first_hit (λ i. eqb (get_or r i 0) (at + 1)) 128 here)) ∙ named_place at
 
-    is : place_on r (found_at - 1) ≡ at
-    is = ap named (eqb-true (get_or r (found_at - 1) 0) (at + 1) (last_hit (λ i. eqb (get_or r i 0) (at + 1)) 128 d)) ∙ named_place at
-
-    on_used : found_at - 1 < used
-    on_used = ⊎_elim (λ k. absurd (omega (arith, behind_used (found_at - 1) k here, is))) (λ k. k) (from? used (found_at - 1))
+    on_used : found_at < used
+    on_used = ⊎_elim (λ k. absurd (omega (arith, behind_used found_at k here, is))) (λ k. k) (from? used found_at)
 
     pub some_used : 0 < used
     some_used = omega (arith, on_used)
 
-    pub spot_old : Spot r at (found_at - 1) (used - 1)
+    pub spot_old : Spot r at found_at (used - 1)
     spot_old =
         record {
           from_to = omega (arith, on_used);
-          here = omega (arith, last_most (λ i. not (eqb (get_or r i 0) 0)) 128, on_used);
+          here = omega (arith, used_most, on_used);
           before = λ i k z. before_used i (omega (arith, on_used));
           behind = λ i k m. behind_used i (omega arith) m;
-          only = λ i m q. sym (once b r x (found_at - 1) i here m (omega (arith, is)) (is ∙ sym q));
+          only = λ i m q. sym (once b r x found_at i here m (omega (arith, is)) (is ∙ sym q));
           is = λ k. is;
         }
 
@@ -342,11 +333,10 @@ module _ (b : Table) (r : List ℕ) (at : ℕ) (p : proper_b b ≡ true) (o : in
   pub order_is_chained : Chained b r
   order_is_chained = in_chained b r (proper_apart b (proper_is b p)) o
 
-  pub new_spot : (u g : ℕ) → u ≡ last_where (λ i. not (eqb (get_or r i 0) 0)) places → g ≡ last_where (λ i. eqb (get_or r i 0) (at + 1)) places → g ≡ 0 → Spot r at u u
-  new_spot u g e f z = rw e (spot_new b r at order_is_chained l (sym f ∙ z))
+  pub new_spot : (u : ℕ) → u ≡ place_in r 0 → places ≡ place_in r (at + 1) → Spot r at u u
+  new_spot u e f = rw e (spot_new b r at order_is_chained l (omega (arith, f)))
 
-  pub old_spot : (u g : ℕ) → u ≡ last_where (λ i. not (eqb (get_or r i 0) 0)) places → g ≡ last_where (λ i. eqb (get_or r i 0) (at + 1)) places → (g ≡ 0 → ⊥)
-      → (0 < u) × Spot r at (g - 1) (u - 1)
+  pub old_spot : (u g : ℕ) → u ≡ place_in r 0 → g ≡ place_in r (at + 1) → g < places → (0 < u) × Spot r at g (u - 1)
   old_spot u g e f d =
-      let z : last_where (λ i. eqb (get_or r i 0) (at + 1)) 128 ≡ 0 → ⊥ = λ y. d (f ∙ y) in
+      let z : place_in r (at + 1) < places = omega (arith, f) in
       rw (e, f) (some_used b r at order_is_chained l z, spot_old b r at order_is_chained l z)

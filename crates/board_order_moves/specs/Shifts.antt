@@ -1,12 +1,7 @@
 -- No promise rests on this file: it serves the contracts of the order's functions.
-use Rattle.std.specs.Prelude.{ℕ, zero, suc, ◌+◌, Bool, cond, List, get_or, eqb, ltb}
+use Rattle.std.specs.Prelude.{ℕ, ◌+◌, cond, List, get_or, eqb, ltb}
 use Rattle.board_record.specs.Sizes.{places}
 use Rattle.board_record.specs.Lists.{row}
-
--- 1 more than the last number below n that passes; 0 where none does
-unfoldable pub last_where : (ℕ → Bool) → ℕ → ℕ
-last_where t zero = 0
-last_where t (suc n) = cond (t n) (suc n) (last_where t n)
 
 -- the order without its number `from`, where those behind it up to `to` have moved up and n stands at `to`
 unfoldable pub shifted_at : List ℕ → ℕ → ℕ → ℕ → ℕ → ℕ

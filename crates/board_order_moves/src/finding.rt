@@ -1,57 +1,28 @@
-// How far the order goes, and where a number stands in it. Neither loop has a way out, so that the compiler can take many
-// numbers at a time.
-ghost use Rattle.std.specs.Prelude.{◌≡◌, not, cond, length, get_or, eqb, ltb};
+// Where a number stands in the order.
+ghost use Rattle.std.specs.Prelude.{◌≡◌, ◌<◌, IfSome};
+ghost use Rattle.std.specs.Option.{unwrap_or};
 ghost use Rattle.board_record.specs.Sizes.{places};
-ghost use Rattle.board_order_moves.specs.Shifts.{last_where};
+ghost use Rattle.board_record.specs.Search.{place_in};
 
 use board_record::PLACES;
-use octets::wide;
 
-// The larger of two numbers.
-fn larger(a: u8, b: u8) -> u8
-    ensures larger { result ≡ cond (ltb a b) b a }
-{
-    if a < b { b } else { a }
-}
+// no number of the order: 128, as an octet
+const NOWHERE: u8 = PLACES as u8;
 
-// `at` for a number that isn't 0, else 0.
-fn if_some(n: u8, at: u8) -> u8
-    ensures some { result ≡ cond (not (eqb n 0)) at 0 }
+// The first number of the order that is `number`. The loop has no way out, and what it compares are octets, 128 for none, so that the compiler takes 16 numbers
+// at a time: `position`, which takes them one by one, was measured at twice its time, a `fold` of least numbers along a `zip` at nine times.
+pub fn found_in(order: &[u8; 128], number: u8) -> Option<usize>
+    ensures found { unwrap_or result places ≡ place_in order.now number }
+    ensures within { IfSome result (λ i. i < places) }
 {
-    if n != 0 { at } else { 0 }
-}
-
-// `at` for two equal numbers, else 0.
-fn if_same(n: u8, m: u8, at: u8) -> u8
-    ensures same { result ≡ cond (eqb n m) at 0 }
-{
-    if n == m { at } else { 0 }
-}
-
-// 1 more than the last number of the order that isn't 0; 0 where all are.
-pub fn used_in(order: &[u8]) -> usize
-    requires { length order.now ≡ places }
-    ensures used { result ≡ last_where (λ i. not (eqb (get_or order.now i 0) 0)) places }
-{
-    let mut last: u8 = 0;
-    let mut i: usize = 0;
-    while i < PLACES {
-        last = larger(last, if_some(order[i], (i + 1) as u8));
-        i += 1;
+    let mut first = NOWHERE;
+    for i in 0..PLACES {
+        let at = if order[i] == number { i as u8 } else { NOWHERE };
+        first = first.min(at);
     }
-    wide(last)
-}
-
-// 1 more than the last number of the order that is `number`; 0 where none is.
-pub fn found_in(order: &[u8], number: u8) -> usize
-    requires { length order.now ≡ places }
-    ensures found { result ≡ last_where (λ i. eqb (get_or order.now i 0) number) places }
-{
-    let mut last: u8 = 0;
-    let mut i: usize = 0;
-    while i < PLACES {
-        last = larger(last, if_same(order[i], number, (i + 1) as u8));
-        i += 1;
+    if first < NOWHERE {
+        Some(usize::from(first))
+    } else {
+        None
     }
-    wide(last)
 }

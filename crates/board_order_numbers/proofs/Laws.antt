@@ -1,6 +1,6 @@
 -- The laws of the buckets. A walk of a key's bucket meets every place below that has its hash, so it meets the key if that came before (`Walking`); one place more
 -- keeps the buckets (`joined`). Assumes nothing.
-use Rattle.std.proofs.Common.{◌≡◌, ℕ, ◌+◌, ◌-◌, ◌<◌, ◌≤◌, Bool, true, false, not, ◌&&◌, eqb, ◌⊎◌, List}
+use Rattle.std.proofs.Common.{◌≡◌, ℕ, ◌+◌, ◌-◌, ◌<◌, ◌≤◌, Bool, true, false, not, ◌&&◌, eqb, List}
 use Rattle.std.proofs.Common.{length, get_or, set, replicate, sym, ap, ◌∙◌, subst, ⊎_elim, add-sub_cancel, arith, length-set, eq-eqb, ne_eqb}
 use lib.ListN.{length-replicate}
 use borrow.Author.Tests.{not-true, not-false}

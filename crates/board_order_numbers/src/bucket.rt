@@ -6,9 +6,8 @@ ghost use Rattle.board_record.specs.Proper.{fresh_b};
 ghost use Rattle.board_record.specs.Order.{place_on};
 ghost use Rattle.board_order_numbers.specs.Buckets.{along, slots, slot_of, Heads, Links, Walking};
 
-use board_order::named;
-use board_record::wide32;
-use octets::wide;
+use board_order::place_of;
+use board_record::Lent;
 
 // the low 32 bits of a number, what they are multiplied by, and the worth of the lowest of the ten bits of the product that are the hash
 const LOW: u64 = 4294967296;
@@ -30,50 +29,45 @@ fn slot(k: u64) -> usize
 }
 
 // None of the first i keys along the order is k; start is the head of k's bucket.
-fn fresh<'a>(
-    keys: &'a [u32; 128],
-    order: &'a [u8; 128],
-    nexts: &'a [u8; 128],
-    i: usize,
-    k: u32,
-    start: usize,
-) -> bool
-    requires { (i ≤ places) × ((j : ℕ) → j < i → place_on order.now j < places)
-        × Links (along keys.now order.now) nexts.now i × Walking (along keys.now order.now) i k start }
-    ensures fresh { result ≡ fresh_b (along keys.now order.now) i k }
+fn fresh(b: Lent<'_>, nexts: &[u8; 128], i: usize, k: u32, start: u8) -> bool
+    requires { let xs = along b.keys.now b.order.now in
+        (i ≤ places) × ((j : ℕ) → j < i → place_on b.order.now j < places) × Links xs nexts.now i × Walking xs i k start }
+    ensures fresh { result ≡ fresh_b (along b.entry.keys.now b.entry.order.now) i k }
 {
-    let mut p = start;
+    // Where the walk goes next stands in the link that it came to, so no range and no list gives its steps.
+    let mut p = usize::from(start);
     while p != 0 {
         let x = p - 1;
-        if keys[named(order[x])] == k {
-            return false;
+        if let Some(at) = place_of(b.order[x]) {
+            if b.keys[at] == k {
+                return false;
+            }
         }
-        p = wide(nexts[x]);
+        p = usize::from(nexts[x]);
     }
     true
 }
 
 // Whether k, the key of number i, is a key and none of those before it; it then joins its bucket.
-pub fn bucketed<'a>(
-    keys: &'a [u32; 128],
-    order: &'a [u8; 128],
+pub fn bucketed(
+    b: Lent<'_>,
     heads: &mut [u8; 1024],
     nexts: &mut [u8; 128],
     i: usize,
     k: u32,
 ) -> bool
-    requires { let xs = along keys.now order.now in
-        (i < places) × (k ≡ slice_index xs i) × ((j : ℕ) → j < i → place_on order.now j < places) × Heads xs heads.old i × Links xs nexts.old i }
-    ensures new { let xs = along keys.now order.now in result ≡ (not (k == 0) && fresh_b xs i k) }
-    ensures joins { let xs = along keys.now order.now in
+    requires { let xs = along b.keys.now b.order.now in
+        (i < places) × (k ≡ slice_index xs i) × ((j : ℕ) → j < i → place_on b.order.now j < places) × Heads xs heads.old i × Links xs nexts.old i }
+    ensures new { let xs = along b.entry.keys.now b.entry.order.now in result ≡ (not (k == 0) && fresh_b xs i k) }
+    ensures joins { let xs = along b.entry.keys.now b.entry.order.now in
         (result ≡ true → Heads xs heads.new (i + 1) × Links xs nexts.new (i + 1)) }
 {
     if k == 0 {
         return false;
     }
-    let h = slot(wide32(k));
+    let h = slot(u64::from(k));
     let p = heads[h];
-    if !fresh(keys, order, nexts, i, k, wide(p)) {
+    if !fresh(b, nexts, i, k, p) {
         return false;
     }
     nexts[i] = p;

@@ -6,16 +6,18 @@ use mathlib.Core.Bool.{Bool, true, false, ◌&&◌}
 use mathlib.Core.List.{List}
 use mathlib.Core.Logic.{◌⊎◌, inl, inr, ⊎_elim}
 use lib.ListN.{get_or, set, length, length-set, replicate, length-replicate, get_or-replicate}
-use lib.Seq.{get_or-set_same, get_or-set_other}
+use lib.Seq.{ext_get_or, get_or-set_same, get_or-set_other}
 use lib.Dec.{eqb}
-use borrow.Author.Tests.{ne_eqb}
+use borrow.Author.Tests.{eq-eqb, ne_eqb, eqb-true}
 use Rattle.octets.proofs.Said.{both_true}
 use Rattle.board_record.specs.Sizes.{places, group, groups}
 use Rattle.board_record.specs.Table.{Table, key_at}
 use Rattle.board_record.specs.Proper.{Proper, all_below, proper_b}
 use Rattle.board_record.specs.Order.{place_on, Chained, in_order}
 use Rattle.board_record.specs.Tops.{in_group, Top, top_of, in_tops}
-use Rattle.board_record.proofs.Logic.{same?, from?}
+use lib.Pointwise.{pointwise, bytes_decides}
+use Rattle.board_record.proofs.All.{all_of, all_at}
+use Rattle.board_record.proofs.Logic.{same?, from?, test_is}
 use Rattle.board_record.proofs.Looks.{all_same}
 use Rattle.board_record.proofs.Proper.{proper_is}
 use Rattle.board_record.proofs.Tops.{top_one}
@@ -118,3 +120,13 @@ module _ (b : Table) (order seen tops : List ℕ) (i last : ℕ) (l : i ≤ plac
 -- a record that is not proper without its largest versions is not with them
 pub no_tops : (b : Table) (order tops : List ℕ) → false ≡ (proper_b b && in_order b order) → false ≡ (proper_b b && in_order b order && in_tops b.versions tops)
 no_tops b order tops e = rw (← e)
+
+-- the code's test of two rows
+pub rows_same : (xs ys : List ℕ) (r : Bool) → length xs ≡ 16 → length ys ≡ 16 → r ≡ pointwise eqb xs ys → r ≡ all_below (λ g. eqb (get_or xs g 0) (get_or ys g 0)) groups
+rows_same xs ys r m n e =
+    e
+    ∙ test_is (pointwise eqb xs ys) (all_below (λ g. eqb (get_or xs g 0) (get_or ys g 0)) 16)
+    (λ t. let q = (bytes_decides xs ys).0 t in all_of (λ g. eqb (get_or xs g 0) (get_or ys g 0)) 16 (λ g l. eq-eqb (get_or xs g 0) (get_or ys g 0) (ap (λ (zs : List ℕ). get_or zs g 0) q)))
+    (λ t. (bytes_decides xs ys).1
+    (ext_get_or 0 xs ys (m ∙ sym n)
+    (λ i l. eqb-true (get_or xs i 0) (get_or ys i 0) (all_at (λ g. eqb (get_or xs g 0) (get_or ys g 0)) 16 t i (omega (arith, m))))))

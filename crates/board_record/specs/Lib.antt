@@ -7,3 +7,4 @@ pub mod Order
 pub mod Tops
 pub mod Record
 pub mod Alone
+pub mod Lent

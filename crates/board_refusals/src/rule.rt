@@ -1,7 +1,10 @@
 // The rules of each call in document 01's order, after 17. The first broken one is the answer, and every place is 0 but
 // that of a route check.
-ghost use Rattle.std.specs.Prelude.{◌≡◌, true, not, ◌&&◌, eqb, ltb};
+ghost use Rattle.std.specs.Prelude.{◌≡◌, true, cond, Some, IfOk, is_some};
+ghost use Rattle.answers.specs.Numbers.{key_out_of_range};
+ghost use Rattle.answers.specs.Verdicts.{refused_by, accepted_with, carrying_both, answer_of, passed_of, verdict_of};
 ghost use Rattle.board_record.specs.Sizes.{places};
+ghost use Rattle.board_rules.specs.Rules.{in_range};
 ghost use Rattle.board_rules.specs.Report.{report_rules};
 ghost use Rattle.board_rules.specs.Remove.{remove_rules};
 ghost use Rattle.board_rules.specs.Compact.{compact_rules};
@@ -9,114 +12,109 @@ ghost use Rattle.board_rules.specs.Body.{body_rules};
 ghost use Rattle.board_rules.specs.Next.{next_rules};
 ghost use Rattle.board_rules.specs.Moved.{moved_rules};
 
-use answers::{
-    ALL_PATHS, BODY_TOO_LONG, KEY_OUT_OF_RANGE, MARK_AHEAD, MARK_TOO_OLD, NO_PATH,
-    VERSIONS_USED_UP, Verdict, accepted, refused,
-};
-use board_record::{KEY_LEAST, KEY_MOST, PLACES, ROOM, VERSION_MOST, larger};
+use answers::{Counts, Reason, Refusal};
+use board_record::{KEY_LEAST, KEY_MOST, ROOM, VERSION_MOST};
 
-// 18, the route checks, 19, 20, 21. `route` is what the route checks answer, n the octets of the body, `target` the place
-// that the report takes, 128 for none. Acceptance carries the number of segments, as that of the route does.
-pub fn report_rules(key: u64, route: Verdict, n: usize, version: u64, target: usize) -> Verdict
-    ensures first { result ≡ report_rules true key route n version target }
+// 18
+#[tactic(auto, using(octets::proofs::Tests::tests), unfolding(board_rules::specs::Rules::in_range))]
+fn key_rule(key: u64) -> Result<(), Refusal>
+    ensures range { passed_of result ≡ cond (in_range key) (accepted_with 0) (refused_by key_out_of_range 0) }
 {
-    if key < KEY_LEAST {
-        return refused(KEY_OUT_OF_RANGE, 0);
+    if key < KEY_LEAST || KEY_MOST < key {
+        return Err(Reason::KeyOutOfRange.into());
     }
-    if KEY_MOST < key {
-        return refused(KEY_OUT_OF_RANGE, 0);
-    }
-    if route.number != 0 {
-        return route;
-    }
-    if ROOM < n {
-        return refused(BODY_TOO_LONG, 0);
-    }
-    if version == VERSION_MOST {
-        return refused(VERSIONS_USED_UP, 0);
-    }
-    if PLACES <= target {
-        return refused(ALL_PATHS, 0);
-    }
-    route
+    Ok(())
 }
 
-// 18, 22, 20. `at` is the place of the key, 128 for none, n the length there.
-pub fn remove_rules(key: u64, at: usize, n: usize, version: u64) -> Verdict
-    ensures first { result ≡ remove_rules true key (ltb at places && not (eqb n 0)) version }
+// 18, the route checks, 19, 20, 21. `route` is what the route checks answer, n the octets of the body, `target` the place
+// that the report takes, if there is one. Acceptance carries that place, and the counts of the route.
+#[tactic(auto, using(octets::proofs::Tests::tests), unfolding(board_rules::specs::Rules::in_range, board_rules::specs::Report::report_rules))]
+pub fn report_rules(
+    key: u64,
+    route: Result<Counts, Refusal>,
+    n: usize,
+    version: u64,
+    target: Option<usize>,
+) -> Result<(usize, Counts), Refusal>
+    ensures first { answer_of (λ a. carrying_both a.1.count a.1.stray) result
+        ≡ report_rules true key (verdict_of route) n version (cond (is_some target) 0 places) }
+    ensures place { IfOk result (λ a. target ≡ Some a.0) }
 {
-    if key < KEY_LEAST {
-        return refused(KEY_OUT_OF_RANGE, 0);
-    }
-    if KEY_MOST < key {
-        return refused(KEY_OUT_OF_RANGE, 0);
-    }
-    if PLACES <= at {
-        return refused(NO_PATH, 0);
-    }
-    if n == 0 {
-        return refused(NO_PATH, 0);
+    key_rule(key)?;
+    let counts = route?;
+    if ROOM < n {
+        return Err(Reason::BodyTooLong.into());
     }
     if version == VERSION_MOST {
-        return refused(VERSIONS_USED_UP, 0);
+        return Err(Reason::VersionsUsedUp.into());
     }
-    accepted(0)
+    match target {
+        Some(at) => Ok((at, counts)),
+        None => Err(Reason::AllPaths.into()),
+    }
+}
+
+// 18, 22, 20. `path` is the place of the key's path, if it has one; acceptance carries it.
+#[tactic(auto, using(octets::proofs::Tests::tests), unfolding(board_rules::specs::Remove::remove_rules, board_rules::specs::Body::body_rules))]
+pub fn remove_rules(key: u64, path: Option<usize>, version: u64) -> Result<usize, Refusal>
+    ensures first { passed_of result ≡ remove_rules true key (is_some path) version }
+    ensures place { IfOk result (λ at. path ≡ Some at) }
+{
+    let at = body_rules(key, path)?;
+    if version == VERSION_MOST {
+        return Err(Reason::VersionsUsedUp.into());
+    }
+    Ok(at)
 }
 
 // 24
-pub fn compact_rules(c: u64, version: u64) -> Verdict
-    ensures first { result ≡ compact_rules true c version }
+#[tactic(auto, using(octets::proofs::Tests::tests), unfolding(board_rules::specs::Compact::compact_rules))]
+pub fn compact_rules(c: u64, version: u64) -> Result<(), Refusal>
+    ensures first { passed_of result ≡ compact_rules true c version }
 {
     if version < c {
-        return refused(MARK_AHEAD, 0);
+        return Err(Reason::MarkAhead.into());
     }
-    accepted(0)
+    Ok(())
 }
 
-// 18, 22. `at` is the place of the key, 128 for none, n the length there.
-pub fn body_rules(key: u64, at: usize, n: usize) -> Verdict
-    ensures first { result ≡ body_rules true key (ltb at places && not (eqb n 0)) }
+// 18, 22. `path` is the place of the key's path, if it has one; acceptance carries it.
+#[tactic(auto, using(octets::proofs::Tests::tests), unfolding(board_rules::specs::Body::body_rules))]
+pub fn body_rules(key: u64, path: Option<usize>) -> Result<usize, Refusal>
+    ensures first { passed_of result ≡ body_rules true key (is_some path) }
+    ensures place { IfOk result (λ at. path ≡ Some at) }
 {
-    if key < KEY_LEAST {
-        return refused(KEY_OUT_OF_RANGE, 0);
+    key_rule(key)?;
+    match path {
+        Some(at) => Ok(at),
+        None => Err(Reason::NoPath.into()),
     }
-    if KEY_MOST < key {
-        return refused(KEY_OUT_OF_RANGE, 0);
-    }
-    if PLACES <= at {
-        return refused(NO_PATH, 0);
-    }
-    if n == 0 {
-        return refused(NO_PATH, 0);
-    }
-    accepted(0)
 }
 
 // 24, 23. A mark at exactly the floor is not too old.
-pub fn next_rules(s: u64, w: u64, version: u64, floor: u64) -> Verdict
-    ensures first { result ≡ next_rules true s w version floor }
+#[tactic(auto, using(octets::proofs::Tests::tests), unfolding(board_rules::specs::Next::next_rules))]
+pub fn next_rules(s: u64, w: u64, version: u64, floor: u64) -> Result<(), Refusal>
+    ensures first { passed_of result ≡ next_rules true s w version floor }
 {
-    if version < s {
-        return refused(MARK_AHEAD, 0);
+    if version < s || version < w {
+        return Err(Reason::MarkAhead.into());
     }
-    if version < w {
-        return refused(MARK_AHEAD, 0);
+    if s.max(w) < floor {
+        return Err(Reason::MarkTooOld.into());
     }
-    if larger(s, w) < floor {
-        return refused(MARK_TOO_OLD, 0);
-    }
-    accepted(0)
+    Ok(())
 }
 
 // 24, 23. A version at exactly the floor is not too old.
-pub fn moved_rules(v: u64, version: u64, floor: u64) -> Verdict
-    ensures first { result ≡ moved_rules true v version floor }
+#[tactic(auto, using(octets::proofs::Tests::tests), unfolding(board_rules::specs::Moved::moved_rules))]
+pub fn moved_rules(v: u64, version: u64, floor: u64) -> Result<(), Refusal>
+    ensures first { passed_of result ≡ moved_rules true v version floor }
 {
     if version < v {
-        return refused(MARK_AHEAD, 0);
+        return Err(Reason::MarkAhead.into());
     }
     if v < floor {
-        return refused(MARK_TOO_OLD, 0);
+        return Err(Reason::MarkTooOld.into());
     }
-    accepted(0)
+    Ok(())
 }

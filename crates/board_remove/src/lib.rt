@@ -2,6 +2,8 @@
 // stores in place. A refusal writes nothing.
 #![tactic(auto)]
 
+mod parts;
 mod removing;
 
+pub use parts::Parts;
 pub use removing::remove;

@@ -3,13 +3,13 @@
 // removal's version. The body, which is the ERO after its header, is written at the place's start, and
 // the place goes to the end of the order; the new version is the largest of its group. The path's form is the PST: of an accepted
 // route it is one of two.
-ghost use Rattle.std.specs.Prelude.{◌≡◌, ◌-◌};
-ghost use Rattle.objects.specs.Objects.{header};
-ghost use Rattle.board_record.specs.Record.{board_of};
+ghost use Rattle.std.specs.Prelude.{◌≡◌};
+ghost use Rattle.answers.specs.Verdicts.{verdict_of};
 ghost use Rattle.board_rules.specs.OnRecord.{result_of, report_on, report_store_on};
+ghost use Rattle.board_entry.specs.Parts.{board_in, SameParts};
 
-use answers::{NOT_A_BOARD, Verdict, refused};
-use board_entry::enter;
+use answers::{Counts, Reason, Refusal};
+use board_entry::{Parts, enter};
 use board_refusals::report_rules;
 use board_rule17::{is_board, start_of};
 use board_search::{floor_after, target};
@@ -18,59 +18,28 @@ use octets::lay;
 use route::judge;
 use session::Session;
 
-// The octets of the body of an ERO of n octets.
-fn body_size(n: usize) -> usize
-    ensures size { result ≡ n - header }
-{
-    if n < HEADER { 0 } else { n - HEADER }
-}
-
 pub fn report(
-    keys: &mut [u32; 128],
-    versions: &mut [u64; 128],
-    lengths: &mut [u16; 128],
-    version: &mut u64,
-    floor: &mut u64,
-    order: &mut [u8; 128],
-    tops: &mut [u64; 16],
-    forms: &mut [u8; 128],
+    b: &mut Parts<'_>,
     store: &mut [u8],
     key: u64,
     octets: &[u8],
     session: Session,
     pst: u64,
-) -> Verdict
-    ensures answer { let before =
-        board_of keys.old versions.old lengths.old version.old floor.old order.old tops.old forms.old in
-        let after =
-        board_of keys.new versions.new lengths.new version.new floor.new order.new tops.new forms.new in
-        (result_of result after ≡ report_on before store.old key octets.now session pst)
-        × (store.new ≡ report_store_on before store.old key octets.now session pst) }
+) -> Result<Counts, Refusal>
+    ensures parts { SameParts b.new b.old }
+    ensures answer { (result_of (verdict_of result) (board_in b.new) ≡ report_on (board_in b.old) store.old key octets.now session pst)
+        × (store.new ≡ report_store_on (board_in b.old) store.old key octets.now session pst) }
 {
-    if !is_board(
-        keys,
-        versions,
-        lengths,
-        *version,
-        *floor,
-        order,
-        tops,
-        forms,
-        store.len(),
-    ) {
-        return refused(NOT_A_BOARD, 0);
+    let lent = b.lent();
+    if !is_board(lent, store.len()) {
+        return Err(Reason::NotABoard.into());
     }
-    let at = target(keys, versions, lengths, *version, *floor, forms, key);
-    let n = body_size(octets.len());
-    let verdict = report_rules(key, judge(octets, true, session, pst), n, *version, at);
-    if verdict.number != 0 {
-        return verdict;
-    }
-    let raised = floor_after(keys, versions, *floor, key, at);
-    enter(
-        keys, versions, lengths, version, floor, order, tops, forms, at, key as u32, n as u16,
-        pst as u8, raised,
-    );
+    let place = target(lent, key);
+    let n = octets.len().saturating_sub(HEADER);
+    let route = judge(octets, true, session, pst);
+    let (at, counts) = report_rules(key, route, n, *b.version, place)?;
+    let raised = floor_after(lent, key, at);
+    enter(b, at, key as u32, n as u16, pst as u8, raised);
     lay(store, start_of(at), &octets[HEADER..]);
-    verdict
+    Ok(counts)
 }

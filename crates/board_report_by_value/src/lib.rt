@@ -1,15 +1,17 @@
-// Report with the record by value (document 01, "The board"): it is handed back, changed or after a refusal as it was. The record's arrays
-// are lent to the call of board_report_call.
+// Report with the record by value (document 01, "The board"): it is handed back changed, with the counts of the route; after a refusal the
+// caller's is as it was. The record's arrays are lent to the call of board_report_call.
 #![tactic(auto)]
 
 ghost use Rattle.std.specs.Prelude.{◌≡◌};
-ghost use Rattle.board_report_by_value.specs.ByValue.{report_by_value, report_store_by_value};
+ghost use Rattle.board_report_by_value.specs.ByValue.{counted_back_of, report_by_value, report_store_by_value};
 
-use board_by_value::Answer;
+use answers::{Counts, Refusal};
+use board_entry::Parts;
 use board_record::Board;
 use session::Sessions;
 
-// Report (key, ERO, the two sessions, PST, addresses).
+// Report (key, ERO, the two sessions, PST, addresses). The arguments are those that the paper names: a struct of some of them would be made for this call and
+// taken apart in it.
 pub fn report(
     b: Board,
     store: &mut [u8],
@@ -18,46 +20,24 @@ pub fn report(
     sessions: Sessions,
     pst: u64,
     addresses: &[u8],
-) -> Answer
-    ensures answer { result ≡ report_by_value b store.old key octets.now sessions pst addresses.now }
+) -> Result<(Board, Counts), Refusal>
+    ensures answer { counted_back_of b result ≡ report_by_value b store.old key octets.now sessions pst addresses.now }
     ensures stored { store.new ≡ report_store_by_value b store.old key octets.now sessions pst addresses.now }
 {
-    let mut keys = b.keys;
-    let mut versions = b.versions;
-    let mut lengths = b.lengths;
-    let mut version = b.version;
-    let mut floor = b.floor;
-    let mut order = b.order;
-    let mut tops = b.tops;
-    let mut forms = b.forms;
-    let verdict = board_report_call::report(
-        &mut keys,
-        &mut versions,
-        &mut lengths,
-        &mut version,
-        &mut floor,
-        &mut order,
-        &mut tops,
-        &mut forms,
-        store,
-        key,
-        octets,
-        sessions,
-        pst,
-        addresses,
-    );
-    let stored = Board {
-        keys: keys,
-        versions: versions,
-        lengths: lengths,
-        version: version,
-        floor: floor,
-        order: order,
-        tops: tops,
-        forms: forms,
+    let mut stored = b;
+    let lent = &mut stored;
+    let mut parts = Parts {
+        keys: &mut lent.keys,
+        versions: &mut lent.versions,
+        lengths: &mut lent.lengths,
+        version: &mut lent.version,
+        floor: &mut lent.floor,
+        order: &mut lent.order,
+        tops: &mut lent.tops,
+        forms: &mut lent.forms,
     };
-    Answer {
-        verdict: verdict,
-        board: stored,
-    }
+    let counts = board_report_call::report(
+        &mut parts, store, key, octets, sessions, pst, addresses,
+    )?;
+    Ok((stored, counts))
 }

@@ -1,4 +1,4 @@
--- The two ways out of a report: 28, or the report under the limit for this route; what it changes; any two answers that fit are equal.
+-- The two ways out of a report: 28, or the report under the limit for this route; what it changes.
 use Prim.Native.Nat.{ℕ}
 use mathlib.Core.Path.{◌≡◌, sym, ap, ◌∙◌}
 use mathlib.Core.List.{List}
@@ -18,7 +18,7 @@ use Rattle.board_record.specs.Table.{Table}
 use Rattle.board_rules.specs.Rules.{outcome_of}
 use Rattle.board_rules.specs.Report.{report_with, report_answer, report_store}
 use Rattle.board_rules.specs.OnRecord.{Result, result_of, report_on, report_store_on}
-use Rattle.board_rules.proofs.OnRecord.{results_same, NoRecord, report_17_on}
+use Rattle.board_rules.proofs.OnRecord.{NoRecord, report_17_on}
 use Rattle.board_report_call.specs.Reported.{report_for, report_store_for, report_for_on, report_store_for_on}
 
 module _ (b : Board) (store : List ℕ) (k : ℕ) (octets : List ℕ) (sessions : Sessions) (pst : ℕ) (addresses : List ℕ) where
@@ -63,11 +63,3 @@ module _ (b : Table) (store : List ℕ) (k : ℕ) (octets : List ℕ) (sessions 
       → (report_for b store k octets sessions pst addresses ≡ outcome_of (refused_by not_usable 0) b) × (report_store_for b store k octets sessions pst addresses ≡ store)
   unfolding report_for report_store_for
   unusable_reported e = (rw e, rw e)
-
-pub report_determined : (b : Board) (store : List ℕ) (k : ℕ) (octets : List ℕ) (sessions : Sessions) (pst : ℕ) (addresses : List ℕ) (v w : Verdict) (c d : Board) (x y : List ℕ)
-    → result_of v c ≡ report_for_on b store k octets sessions pst addresses
-    → result_of w d ≡ report_for_on b store k octets sessions pst addresses
-    → x ≡ report_store_for_on b store k octets sessions pst addresses
-    → y ≡ report_store_for_on b store k octets sessions pst addresses
-    → ((v ≡ w) × (c ≡ d)) × (x ≡ y)
-report_determined b store k octets sessions pst addresses v w c d x y p q r t = (results_same (report_for_on b store k octets sessions pst addresses) v w c d p q, r ∙ sym t)

@@ -3,43 +3,34 @@
 #![tactic(auto)]
 
 ghost use Rattle.std.specs.Prelude.{◌≡◌};
-ghost use Rattle.board_record.specs.Record.{board_of};
+ghost use Rattle.answers.specs.Verdicts.{verdict_of};
 ghost use Rattle.board_rules.specs.OnRecord.{result_of};
+ghost use Rattle.board_entry.specs.Parts.{board_in, SameParts};
 ghost use Rattle.board_report_call.specs.Reported.{report_for_on, report_store_for_on};
 
-use answers::{NOT_USABLE, Verdict, refused};
+use answers::{Counts, Reason, Refusal};
+use board_entry::Parts;
 use session::Sessions;
 
-// Report (key, ERO, the two sessions, PST, addresses).
+// Report (key, ERO, the two sessions, PST, addresses). The arguments are those that the paper names: a struct of some of them would be made for this call and
+// taken apart in it.
 pub fn report(
-    keys: &mut [u32; 128],
-    versions: &mut [u64; 128],
-    lengths: &mut [u16; 128],
-    version: &mut u64,
-    floor: &mut u64,
-    order: &mut [u8; 128],
-    tops: &mut [u64; 16],
-    forms: &mut [u8; 128],
+    b: &mut Parts<'_>,
     store: &mut [u8],
     key: u64,
     octets: &[u8],
     sessions: Sessions,
     pst: u64,
     addresses: &[u8],
-) -> Verdict
-    ensures answer { let before =
-        board_of keys.old versions.old lengths.old version.old floor.old order.old tops.old forms.old in
-        let after =
-        board_of keys.new versions.new lengths.new version.new floor.new order.new tops.new forms.new in
-        (result_of result after ≡ report_for_on before store.old key octets.now sessions pst addresses.now)
-        × (store.new ≡ report_store_for_on before store.old key octets.now sessions pst addresses.now) }
+) -> Result<Counts, Refusal>
+    ensures parts { SameParts b.new b.old }
+    ensures answer { (result_of (verdict_of result) (board_in b.new) ≡ report_for_on (board_in b.old) store.old key octets.now sessions pst addresses.now)
+        × (store.new ≡ report_store_for_on (board_in b.old) store.old key octets.now sessions pst addresses.now) }
 {
     if !head_end::usable(addresses) {
-        return refused(NOT_USABLE, 0);
+        return Err(Reason::NotUsable.into());
     }
     let own = session::under(sessions, pst);
     let here = route_limit::session_for(octets, true, own, addresses);
-    board_report::report(
-        keys, versions, lengths, version, floor, order, tops, forms, store, key, octets, here, pst,
-    )
+    board_report::report(b, store, key, octets, here, pst)
 }

@@ -3,4 +3,4 @@
 
 mod places;
 
-pub use places::{form_in, is_board, length_in, start_of};
+pub use places::{is_board, path_at, path_place, start_of};

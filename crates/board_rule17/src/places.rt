@@ -1,33 +1,23 @@
 // 17 is answered exactly if the store is shorter than 49,152 octets or the record isn't proper; a proper record's order is
 // that of its table.
-ghost use Rattle.std.specs.Prelude.{◌≡◌, ◌*◌, ◌<◌};
+ghost use Rattle.std.specs.Prelude.{◌≡◌, ◌*◌, ◌<◌, IfSome, is_some};
 ghost use Rattle.board_record.specs.Sizes.{places, room};
-ghost use Rattle.board_record.specs.Record.{board_of};
-ghost use Rattle.board_rules.specs.Parts.{in_column};
+ghost use Rattle.board_record.specs.Lent.{table_lent, board_lent};
+ghost use Rattle.board_record.specs.Search.{place_of};
+ghost use Rattle.board_rules.specs.Rules.{has_path};
+ghost use Rattle.board_rules.specs.Parts.{path_at};
 ghost use Rattle.board_rules.specs.OnRecord.{is_record};
 
-use board_record::{PLACES, ROOM, STORE_SIZE, wide16};
-use octets::wide;
+use board_record::{Lent, ROOM, STORE_SIZE};
+use board_rules::Octets;
+use board_search::place_in;
 
 // Whether a store of n octets and the record are a board.
-pub fn is_board<'a>(
-    keys: &'a [u32; 128],
-    versions: &'a [u64; 128],
-    lengths: &'a [u16; 128],
-    version: u64,
-    floor: u64,
-    order: &'a [u8; 128],
-    tops: &'a [u64; 16],
-    forms: &'a [u8; 128],
-    n: usize,
-) -> bool
-    ensures board { let b = board_of keys.now versions.now lengths.now version floor order.now tops.now forms.now in
-        result ≡ is_record b n }
+#[tactic(auto, using(board_rules::proofs::Shared::board_long, octets::proofs::Tests::tests), unfolding(board_rules::specs::OnRecord::is_record, board_rules::specs::Rules::is_board))]
+pub fn is_board(b: Lent<'_>, n: usize) -> bool
+    ensures board { result ≡ is_record (board_lent b.entry) n }
 {
-    if n < STORE_SIZE {
-        return false;
-    }
-    board_proper::is_proper(keys, versions, lengths, version, floor, order, tops, forms)
+    STORE_SIZE <= n && board_proper::is_proper(b)
 }
 
 // Place i, from 0, starts at 384 times i.
@@ -38,16 +28,27 @@ pub fn start_of(i: usize) -> usize
     ROOM * i
 }
 
-// The length at a place; 0 for no place.
-pub fn length_in(lengths: &[u16; 128], at: usize) -> usize
-    ensures length { result ≡ in_column lengths.now at }
+// The place of the key's path, if the key has one.
+#[tactic(auto, using(octets::proofs::Tests::tests), unfolding(board_rules::specs::Rules::has_path))]
+pub fn path_place(b: Lent<'_>, key: u64) -> Option<usize>
+    ensures has { is_some result ≡ has_path (table_lent b.entry) key }
+    ensures place { IfSome result (λ i. (i < places) × (i ≡ place_of (table_lent b.entry) key)) }
 {
-    if at < PLACES { wide16(lengths[at]) } else { 0 }
+    let at = place_in(b.keys, key)?;
+    if b.lengths[at] == 0 {
+        return None;
+    }
+    Some(at)
 }
 
-// The form at a place; 0 for no place.
-pub fn form_in(forms: &[u8; 128], at: usize) -> usize
-    ensures form { result ≡ in_column forms.now at }
+// Where the path at place i lies, and its form.
+pub fn path_at(b: Lent<'_>, i: usize) -> Octets
+    requires { i < places }
+    ensures path { result ≡ path_at (table_lent b.entry) i }
 {
-    if at < PLACES { wide(forms[at]) } else { 0 }
+    Octets {
+        place: i,
+        length: usize::from(b.lengths[i]),
+        form: usize::from(b.forms[i]),
+    }
 }

@@ -29,8 +29,7 @@ use Rattle.board_record.specs.Record.{table_in, tidy}
 use Rattle.board_record.proofs.Logic.{true≢false, test_is}
 use Rattle.board_record.proofs.All.{all_at, all_of}
 use Rattle.board_record.proofs.Search.{Full, full_is, is_full}
-use Rattle.board_rules.specs.declared.answer.Handed.{Handed}
-use Rattle.board_rules.specs.declared.answer.Handed.TheVariants.{Refused, Path, Removed, Level}
+use Rattle.board_rules.specs.Handed.{Handed, Refused, Path, Removed, Level}
 use Rattle.board_rules.specs.Rules.{is_board, in_range, has_path}
 use Rattle.board_rules.specs.Report.{body_in, report_rules, report_verdict, report_with, report_answer}
 use Rattle.board_rules.specs.Remove.{remove_rules, remove_verdict, remove_answer}

@@ -18,7 +18,7 @@ use Rattle.route.proofs.Setups.{judge_low}
 use Rattle.board_record.specs.Sizes.{places, room, version_most}
 use Rattle.board_record.specs.Table.{Table}
 use Rattle.board_record.specs.Search.{target_of}
-use Rattle.board_rules.specs.declared.answer.Handed.TheVariants.{Refused}
+use Rattle.board_rules.specs.Handed.{Refused}
 use Rattle.board_rules.specs.Rules.{is_board, in_range, has_path}
 use Rattle.board_rules.specs.Report.{body_in, report_rules, report_verdict, report_with, report_answer}
 use Rattle.board_rules.specs.Remove.{remove_rules, remove_verdict, remove_answer}

@@ -16,8 +16,7 @@ use Rattle.board_record.specs.Search.{place_of, next_of}
 use Rattle.board_record.proofs.Proper.{proper_sound}
 use Rattle.board_rules.specs.declared.answer.Change.{Change}
 use Rattle.board_rules.specs.declared.answer.Octets.{Octets}
-use Rattle.board_rules.specs.declared.answer.Handed.{Handed}
-use Rattle.board_rules.specs.declared.answer.Handed.TheVariants.{Refused, Path, Removed, Level}
+use Rattle.board_rules.specs.Handed.{Handed, Refused, Path, Removed, Level}
 use Rattle.board_rules.specs.Rules.{is_board}
 use Rattle.board_rules.specs.Body.{body_number, body_of, octets_at}
 use Rattle.board_rules.specs.Next.{next_rules, next_verdict, next_answer, handed_at, change_at, number_in}

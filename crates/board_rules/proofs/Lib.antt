@@ -9,3 +9,4 @@ pub mod Told
 pub mod Moves
 pub mod OnRecord
 pub mod Checks
+pub mod Results

@@ -23,8 +23,7 @@ use Rattle.octets.proofs.Said.{both_true}
 use Rattle.board_record.proofs.Logic.{true≢false}
 use Rattle.board_record.proofs.Tops.{top_of_lem, top_one, top_tops, tops_top}
 use Rattle.board_order.proofs.Chains.{proper_apart, chained_in, in_chained}
-use Rattle.board_rules.specs.declared.answer.Handed.{Handed}
-use Rattle.board_rules.specs.declared.answer.Handed.TheVariants.{Refused}
+use Rattle.board_rules.specs.Handed.{Handed, Refused}
 use Rattle.board_rules.specs.Rules.{Outcome, is_board, outcome_of}
 use Rattle.board_rules.specs.Report.{report_answer, report_store}
 use Rattle.board_rules.specs.Remove.{remove_answer}

@@ -14,7 +14,7 @@ use Rattle.board_record.specs.Search.{KeyPlace, place_of, ReportPlace, keeps, ta
 use Rattle.board_record.specs.Proper.{Proper}
 use Rattle.board_record.proofs.Logic.{from?}
 use Rattle.board_record.proofs.Search.{key_place_found, report_place_is, report_place_one, Full, full_is, next_is, next_none, next_one}
-use Rattle.board_rules.specs.declared.answer.Handed.TheVariants.{Level}
+use Rattle.board_rules.specs.Handed.{Level}
 use Rattle.board_rules.specs.Rules.{has_path}
 use Rattle.board_rules.specs.Report.{body_in, reported}
 use Rattle.board_rules.specs.Remove.{removed}

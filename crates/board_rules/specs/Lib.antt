@@ -3,6 +3,7 @@ pub mod Report
 pub mod Remove
 pub mod Compact
 pub mod Body
+pub mod Handed
 pub mod Next
 pub mod Moved
 pub mod OnRecord

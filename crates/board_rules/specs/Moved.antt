@@ -3,10 +3,11 @@
 --
 -- A history: report 10 (1), report 20 (2), remove 10 (3). Keys 10 to 19 after 1: yes, the removal. Keys 20 to 29 after 1: yes; after 2: no, a change is not after itself.
 -- After compact 3 the floor is 3: after 2 is 23; after 3 is not, and no.
-use Rattle.std.specs.Prelude.{ℕ, Bool, not, cond, List, length, ltb}
+use Rattle.std.specs.Prelude.{ℕ, Bool, not, cond, List, length, ltb, Result}
 use Rattle.answers.specs.declared.verdict.Verdict.{Verdict}
 use Rattle.answers.specs.Numbers.{not_a_board, mark_too_old, mark_ahead}
-use Rattle.answers.specs.Verdicts.{refused_by, accepted_with, kept}
+use Rattle.answers.specs.declared.refusal.Refusal.{Refusal}
+use Rattle.answers.specs.Verdicts.{refused_by, accepted_with, kept, answer_of}
 use Rattle.board_record.specs.Table.{Table}
 use Rattle.board_record.specs.Search.{moved_in}
 use Rattle.board_rules.specs.Rules.{is_board}
@@ -25,3 +26,7 @@ moved_verdict b store v = moved_rules (is_board b (length store)) v b.version b.
 unfoldable pub moved_answer : Table → List ℕ → ℕ → ℕ → ℕ → Verdict
 moved_answer b store from to v =
     kept (moved_verdict b store v).number (moved_verdict b store v) (accepted_with (cond (moved_in b.keys b.versions from to v) 1 0))
+
+-- a call's result, as that verdict
+abbrev pub told_of : Result Bool Refusal → Verdict
+told_of r = answer_of (λ (yes : Bool). accepted_with (cond yes 1 0)) r

@@ -13,8 +13,7 @@ use Rattle.board_record.specs.Sizes.{places}
 use Rattle.board_record.specs.Table.{Table, key_at, version_at, length_at, form_at}
 use Rattle.board_record.specs.Search.{next_of}
 use Rattle.board_rules.specs.declared.answer.Mark.{Mark}
-use Rattle.board_rules.specs.declared.answer.Handed.{Handed}
-use Rattle.board_rules.specs.declared.answer.Handed.TheVariants.{Refused, Path, Removed, Level}
+use Rattle.board_rules.specs.Handed.{Handed, Refused, Path, Removed, Level}
 use Rattle.board_rules.specs.Rules.{is_board}
 
 -- The first broken rule. `whole`: it is a board; `version` and `floor` are the board's.

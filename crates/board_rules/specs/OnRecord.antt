@@ -9,8 +9,7 @@ use Rattle.answers.specs.Verdicts.{refused_by, kept}
 use Rattle.session.specs.declared.Session.{Session}
 use Rattle.board_record.specs.declared.record.Board.{Board}
 use Rattle.board_record.specs.Record.{table_in, record_of, tidy}
-use Rattle.board_rules.specs.declared.answer.Handed.{Handed}
-use Rattle.board_rules.specs.declared.answer.Handed.TheVariants.{Refused}
+use Rattle.board_rules.specs.Handed.{Handed, Refused}
 use Rattle.board_rules.specs.Rules.{Outcome, is_board}
 use Rattle.board_rules.specs.Report.{report_answer, report_store}
 use Rattle.board_rules.specs.Remove.{remove_answer}

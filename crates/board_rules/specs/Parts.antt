@@ -1,7 +1,7 @@
--- What the code reads at a place that may be none. Contracts of inner functions and proofs cite it; no promise rests on it.
-use Rattle.std.specs.Prelude.{ℕ, cond, List, get_or, ltb}
-use Rattle.board_record.specs.Sizes.{places}
+-- Where the path at a place lies, and its form, as body and next name it.
+use Rattle.std.specs.Prelude.{ℕ}
+use Rattle.board_record.specs.Table.{Table, length_at, form_at}
+use Rattle.board_rules.specs.declared.answer.Octets.{Octets}
 
--- the number of a column at a place, a length or a form; 0 for no place
-unfoldable pub in_column : List ℕ → ℕ → ℕ
-in_column column at = cond (ltb at places) (get_or column at 0) 0
+abbrev pub path_at : Table → ℕ → Octets
+path_at b i = record { place = i; length = length_at b i; form = form_at b i }

@@ -1,5 +1,4 @@
 // What the board's calls answer.
-use answers::Verdict;
 
 // A change comes with its key and version.
 #[derive(Clone, Copy)]
@@ -17,10 +16,10 @@ pub struct Octets {
     pub form: usize,
 }
 
-// Next hands out a path, or a removal, or says that the follower is level with the board's version.
+// Next hands out a path, or a removal, or says that the follower is level with the board's version. These are three answers, each with
+// what belongs to it alone, so neither an Option nor a Result has their shape; a refusal is the Err around them.
 #[derive(Clone, Copy)]
 pub enum Handed {
-    Refused(Verdict),
     Path(Change, Octets),
     Removed(Change),
     Level(u64),

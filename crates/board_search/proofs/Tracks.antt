@@ -1,77 +1,64 @@
--- A search that keeps the best place so far ends at the place of the smallest version. On a board an empty place has version 0 and every version is
--- below the first best, so the test that reads no key is that of the table. Assumes nothing.
+-- A search that keeps the best place so far ends at the place of the smallest version. On a board an empty place has version 0, so the test that reads no
+-- key is that of the table. Assumes nothing.
 use Prim.Native.Nat.{ℕ, zero, suc, ◌+◌, ◌<◌, ◌≤◌}
 use native.Mathlib.Numerals.{add-one}
 use native.Mathlib.Omega.{arith}
 use mathlib.Core.Path.{◌≡◌, refl, sym, ◌∙◌}
 use mathlib.Core.Bool.{Bool, true, false, not, cond, ◌&&◌}
 use mathlib.Core.List.{List}
+use mathlib.Core.Logic.{◌⊎◌, inl, inr}
 use lib.ListN.{get_or}
 use lib.Dec.{eqb, ltb, leb}
-use borrow.Author.Tests.{eq-eqb, ne_eqb, eqb-true, eqb-false, lt-ltb, leb-true}
+use borrow.Author.Tests.{eq-eqb, ne_eqb, eqb-true, eqb-false, lt-ltb, le-leb, lt-leb}
 use Rattle.octets.proofs.Said.{and_false, and_holding}
 use Rattle.board_record.specs.Sizes.{places}
 use Rattle.board_record.specs.Table.{Table, table_of, removal_b, entry_at}
 use Rattle.board_record.specs.Search.{least_where, oldest_of}
 use Rattle.board_record.specs.Proper.{proper_b}
 use Rattle.board_record.proofs.Proper.{Sound, proper_b_sound, proper_is}
-use Rattle.board_search.specs.declared.best.Best.{Best}
-use Rattle.board_search.specs.Best.{no_version, no_best, better_of, bare}
+use Rattle.board_search.specs.Oldest.{bare}
 
--- the best among the first n
-pub record Tracks (t : ℕ → Bool) (v : ℕ → ℕ) (n : ℕ) (b : Best) : Type 0 where
-  pub at : b.at ≡ least_where t v n
-  pub version : b.version ≡ cond (ltb (least_where t v n) places) (v (least_where t v n)) no_version
-
-pub tracks_none : (t : ℕ → Bool) (v : ℕ → ℕ) → Tracks t v 0 no_best
+pub least_none : (t : ℕ → Bool) (v : ℕ → ℕ) → places ≡ least_where t v 0
 unfolding least_where
-tracks_none t v = record { at = refl; version = refl }
+least_none t v = refl
 
-keep : (t : ℕ → Bool) (v : ℕ → ℕ) (n : ℕ) (b c : Best) → Tracks t v n b → least_where t v (suc n) ≡ least_where t v n → c ≡ b → Tracks t v (suc n) c
-keep t v n b c r e f = rw f (record { at = rw e r.at; version = rw e r.version })
+-- ---- a turn of the loop: number i fails, is the first to pass, has a smaller value than the best so far, or not
+module _ (t : ℕ → Bool) (v : ℕ → ℕ) (i : ℕ) where
+  pub least_skip : (m : ℕ) → t i ≡ false → m ≡ least_where t v i → m ≡ least_where t v (i + 1)
+  unfolding least_where
+  least_skip m f e = rw (add-one i, least_where, f) e
 
-take_it : (t : ℕ → Bool) (v : ℕ → ℕ) (n : ℕ) (c : Best) → n < places → least_where t v (suc n) ≡ n → c ≡ record { at = n; version = v n } → Tracks t v (suc n) c
-take_it t v n c l e f = rw f (record { at = sym e; version = rw (e, lt-ltb n 128 l) })
+  pub least_first : t i ≡ true → places ≡ least_where t v i → i ≡ least_where t v (i + 1)
+  unfolding least_where
+  least_first f e = rw (add-one i, least_where, f, ← e) refl
 
-tracks_step : (t : ℕ → Bool) (v : ℕ → ℕ) (n : ℕ) (b : Best) → Tracks t v n b → n < places → v n < no_version → Tracks t v (suc n) (better_of b (t n) n (v n))
-unfolding least_where better_of
-tracks_step t v n b r l low = go (ltb (least_where t v n) 128) refl (t n) refl (leb b.version (v n)) refl
-  where
-    new : Best
-    new = record { at = n; version = v n }
+  pub least_less : (p : ℕ) → t i ≡ true → p ≡ least_where t v i → p < places → v i < v p → i ≡ least_where t v (i + 1)
+  unfolding least_where
+  least_less p f e l h = rw (add-one i, least_where, f, ← e, lt-ltb p 128 l, lt-leb (v p) (v i) h) refl
 
-    go : (p : Bool) → ltb (least_where t v n) 128 ≡ p → (q : Bool) → t n ≡ q → (y : Bool) → leb b.version (v n) ≡ y
-        → Tracks t v (suc n) (cond (leb b.version (v n)) b (cond (t n) (record { at = n; version = v n }) b))
-    go true e q f true g =
-        let h : b.version ≡ v (least_where t v n) = rw e at r.version in
-        keep t v n b _ r (rw (least_where, e, ← h, g, and_false (t n))) (rw g)
-    go true e true f false g =
-        let h : b.version ≡ v (least_where t v n) = rw e at r.version in
-        take_it t v n _ l (rw (least_where, e, ← h, g, f)) (rw (g, f))
-    go true e false f false g = keep t v n b _ r (rw (least_where, f)) (rw (g, f))
-    go false e q f true g = absurd (omega (arith, rw e at r.version, leb-true b.version (v n) g))
-    go false e true f false g = take_it t v n _ l (rw (least_where, e, f)) (rw (g, f))
-    go false e false f false g = keep t v n b _ r (rw (least_where, f)) (rw (g, f))
-
--- a turn of the loop, and its end
-pub tracks_more : (t : ℕ → Bool) (v : ℕ → ℕ) (i : ℕ) (a b : Best) → Tracks t v i a → i < places → v i < no_version → b ≡ better_of a (t i) i (v i) → Tracks t v (i + 1) b
-tracks_more t v i a b r l low e = rw (add-one, e) (tracks_step t v i a r l low)
+  pub least_keep : (p : ℕ) → p ≡ least_where t v i → p < places → v p ≤ v i → p ≡ least_where t v (i + 1)
+  unfolding least_where
+  least_keep p e l h = rw (add-one i, least_where, ← e, lt-ltb p 128 l, le-leb (v p) (v i) h, and_false (t i)) refl
 
 least_same : (t u : ℕ → Bool) (v : ℕ → ℕ) (n : ℕ) → ((i : ℕ) → i < n → t i ≡ u i) → least_where t v n ≡ least_where u v n
 unfolding least_where
 least_same t u v zero f = refl
 least_same t u v (suc n) f = rw (least_same t u v n (λ i l. f i (omega arith)), f n (omega arith))
 
-tracks_done : (t u : ℕ → Bool) (v : ℕ → ℕ) (i : ℕ) (b : Best) → Tracks t v i b → i ≤ places → places ≤ i → ((j : ℕ) → j < places → t j ≡ u j) → b.at ≡ least_where u v places
-tracks_done t u v i b r h l f = let q : i ≡ 128 = omega arith in rw q at r.at ∙ least_same t u v 128 f
+-- the test of a place
+pub bare_no : (v l : ℕ) → ((l ≡ 0 → ⊥) ⊎ (v ≡ 0)) → bare v l ≡ false
+unfolding bare
+bare_no v l (inl d) = rw (ne_eqb l 0 d)
+bare_no v l (inr e) = rw (eq-eqb v 0 e) (and_false (eqb l 0))
+
+pub bare_yes : (v l : ℕ) → l ≡ 0 → (v ≡ 0 → ⊥) → bare v l ≡ true
+unfolding bare
+bare_yes v l e d = rw (eq-eqb l 0 e, ne_eqb v 0 d)
 
 -- ---- what the tests say on a board
 module _ (ks vs ls : List ℕ) (version floor : ℕ) (fs : List ℕ) (p : proper_b (table_of ks vs ls version floor fs) ≡ true) where
   abbrev table : Table
   table = table_of ks vs ls version floor fs
-
-  pub below : (i : ℕ) → i < places → get_or vs i 0 < no_version
-  below i l = omega (arith, (proper_b_sound table p i l).high, (proper_is table p).version_in)
 
   bare_is : (i : ℕ) → i < places → bare (get_or vs i 0) (get_or ls i 0) ≡ removal_b table i
   unfolding bare removal_b
@@ -85,6 +72,7 @@ module _ (ks vs ls : List ℕ) (version floor : ℕ) (fs : List ℕ) (p : proper
       go false e y = rw (ne_eqb (get_or vs i 0) 0 (λ z. omega (arith, o.low (eqb-false (get_or ks i 0) 0 e)))) (and_holding y)
 
   -- the search ends
-  pub oldest_done : (i : ℕ) (b : Best) → Tracks (λ j. bare (get_or vs j 0) (get_or ls j 0)) (λ j. get_or vs j 0) i b → i ≤ places → places ≤ i → b.at ≡ oldest_of table
+  pub oldest_done : (i m : ℕ) → m ≡ least_where (λ j. bare (get_or vs j 0) (get_or ls j 0)) (λ j. get_or vs j 0) i → i ≤ places → places ≤ i → m ≡ oldest_of table
   unfolding oldest_of
-  oldest_done i b r h l = tracks_done _ (removal_b table) _ i b r h l bare_is
+  oldest_done i m r h l =
+      let q : i ≡ 128 = omega arith in rw q at r ∙ least_same (λ j. bare (get_or vs j 0) (get_or ls j 0)) (removal_b table) (λ j. get_or vs j 0) 128 bare_is

@@ -2,7 +2,6 @@
 // oldest removal, where a report goes, and the floor after it.
 #![tactic(auto)]
 
-mod best;
 mod key;
 mod report;
 

@@ -1,77 +1,60 @@
 // Where a report goes: a key on the table keeps its place; a new key takes the lowest empty place; with none, that of the
 // oldest removal, and the floor rises to that removal's version.
-ghost use Rattle.std.specs.Prelude.{◌≡◌, true, List, ℕ, ◌<◌};
+ghost use Rattle.std.specs.Prelude.{◌≡◌, true, ◌<◌, IfSome};
+ghost use Rattle.std.specs.Option.{unwrap_or};
 ghost use Rattle.board_record.specs.Sizes.{places};
-ghost use Rattle.board_record.specs.Table.{table_of};
+ghost use Rattle.board_record.specs.Lent.{table_lent};
 ghost use Rattle.board_record.specs.Search.{oldest_of, target_of, floor_after};
 ghost use Rattle.board_record.specs.Proper.{proper_b};
 
-use super::best::{no_best, older};
 use super::key::place_in;
-use board_record::{PLACES, wide32};
+use board_record::{Lent, PLACES};
 
-// The place of the oldest removal; 128 where there is none.
-fn oldest<'a>(
-    keys: &'a [u32; 128],
-    versions: &'a [u64; 128],
-    lengths: &'a [u16; 128],
-    version: u64,
-    floor: u64,
-    forms: &'a [u8; 128],
-) -> usize
-    requires { proper_b (table_of keys.now versions.now lengths.now version floor forms.now) ≡ true }
-    ensures oldest { result ≡ oldest_of (table_of keys.now versions.now lengths.now version floor forms.now) }
+// The place of the oldest removal.
+fn oldest(b: Lent<'_>) -> Option<usize>
+    requires { proper_b (table_lent b) ≡ true }
+    ensures oldest { unwrap_or result places ≡ oldest_of (table_lent b.entry) }
+    ensures within { IfSome result (λ i. i < places) }
 {
-    let mut best = no_best();
-    let mut i: usize = 0;
-    while i < PLACES {
-        best = older(best, i, versions[i], lengths[i]);
-        i += 1;
+    let mut best = None;
+    for i in 0..PLACES {
+        if b.lengths[i] != 0 || b.versions[i] == 0 {
+            continue;
+        }
+        let Some(p) = best else {
+            best = Some(i);
+            continue;
+        };
+        if b.versions[i] < b.versions[p] {
+            best = Some(i);
+        }
     }
-    best.at
+    best
 }
 
-// The place that a report of the key takes; 128 where there is none.
-pub fn target<'a>(
-    keys: &'a [u32; 128],
-    versions: &'a [u64; 128],
-    lengths: &'a [u16; 128],
-    version: u64,
-    floor: u64,
-    forms: &'a [u8; 128],
-    key: u64,
-) -> usize
-    requires { proper_b (table_of keys.now versions.now lengths.now version floor forms.now) ≡ true }
-    ensures target { result ≡ target_of (table_of keys.now versions.now lengths.now version floor forms.now) key }
+// The place that a report of the key takes.
+pub fn target(b: Lent<'_>, key: u64) -> Option<usize>
+    requires { proper_b (table_lent b) ≡ true }
+    ensures target { unwrap_or result places ≡ target_of (table_lent b.entry) key }
+    ensures within { IfSome result (λ i. i < places) }
 {
-    let known = place_in(keys, key);
-    if known < PLACES {
-        return known;
+    if let Some(known) = place_in(b.keys, key) {
+        return Some(known);
     }
-    let free = place_in(keys, 0);
-    if free < PLACES {
-        return free;
+    if let Some(free) = place_in(b.keys, 0) {
+        return Some(free);
     }
-    oldest(keys, versions, lengths, version, floor, forms)
+    oldest(b)
 }
 
 // The floor after a report of the key at the place.
-pub fn floor_after<'a>(
-    keys: &'a [u32; 128],
-    versions: &'a [u64; 128],
-    floor: u64,
-    key: u64,
-    at: usize,
-) -> u64
+pub fn floor_after(b: Lent<'_>, key: u64, at: usize) -> u64
     requires { at < places }
-    ensures floor { (lengths forms : List ℕ) (version : ℕ) → result ≡ floor_after (table_of keys.now versions.now lengths version floor forms) key at }
+    ensures floor { result ≡ floor_after (table_lent b.entry) key at }
 {
-    let old = wide32(keys[at]);
-    if old == 0 {
-        return floor;
+    let old = u64::from(b.keys[at]);
+    if old == 0 || old == key {
+        return b.floor;
     }
-    if old == key {
-        return floor;
-    }
-    versions[at]
+    b.versions[at]
 }

@@ -1,5 +1,5 @@
 // The sweep over all places. Where there was no mark to drop, nothing has moved.
-ghost use Rattle.std.specs.Prelude.{◌≡◌, false, not, ◌&&◌, length, eqb, leb};
+ghost use Rattle.std.specs.Prelude.{◌≡◌, false, not, ◌&&◌, eqb, leb};
 ghost use Rattle.board_record.specs.Sizes.{places};
 ghost use Rattle.board_sweep.specs.Sweep.{keys_kept, versions_kept};
 
@@ -9,33 +9,23 @@ use board_record::PLACES;
 fn is_dropped(k: u32, v: u64, l: u16, c: u64) -> bool
     ensures dropped { result ≡ (eqb l 0 && not (eqb k 0) && leb v c) }
 {
-    if l != 0 {
-        return false;
-    }
-    if k == 0 {
-        return false;
-    }
-    v <= c
+    l == 0 && k != 0 && v <= c
 }
 
 // Empties the places whose mark has version at most c, and says whether there was one.
-pub fn sweep(keys: &mut [u32], versions: &mut [u64], lengths: &[u16; 128], c: u64) -> bool
-    requires { (length keys.old ≡ places) × (length versions.old ≡ places) }
+pub fn sweep(keys: &mut [u32; 128], versions: &mut [u64; 128], lengths: &[u16; 128], c: u64) -> bool
     ensures keys { keys.new ≡ keys_kept keys.old versions.old lengths.now c places }
     ensures versions { versions.new ≡ versions_kept keys.old versions.old lengths.now c places }
     ensures stays { result ≡ false → (keys.new ≡ keys.old) × (versions.new ≡ versions.old) }
 {
     let mut dropped = false;
-    let mut i: usize = 0;
-    while i < PLACES {
+    for i in 0..PLACES {
         if !is_dropped(keys[i], versions[i], lengths[i], c) {
-            i += 1;
             continue;
         }
         keys[i] = 0;
         versions[i] = 0;
         dropped = true;
-        i += 1;
     }
     dropped
 }

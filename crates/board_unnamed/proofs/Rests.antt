@@ -1,6 +1,7 @@
 -- Places in which there is nothing, and their three counts as the code tests them. Assumes nothing.
 use Prim.Native.Nat.{ℕ, ◌≤◌, ◌<◌}
-use mathlib.Core.Path.{◌≡◌, refl, sym, ap, ◌∙◌}
+use native.Mathlib.Omega.{arith}
+use mathlib.Core.Path.{◌≡◌, refl, sym, ◌∙◌}
 use mathlib.Core.Bool.{Bool, true, false, cond, ◌&&◌}
 use mathlib.Core.List.{List}
 use lib.Dec.{eqb}
@@ -18,9 +19,14 @@ pub place_none : (ks ls fs : List ℕ) (m : ℕ) → EmptyFrom ks m → EmptyFro
 unfolding empty_b
 place_none ks ls fs m a b d j h l = rw (a j h l, b j h l, d j h l) refl
 
--- one for a place of which three things hold
-pub one_of_three : (a b d r s y : Bool) → r ≡ (a && b) → s ≡ (r && d) → s ≡ y → ◌≡◌ {A = ℕ} (cond y 1 0) (cond (a && b && d) 1 0)
-one_of_three a b d r s y p q z = let w : y ≡ (a && b && d) = cc in ap (λ (x : Bool). cond {A = ℕ} x 1 0) w
+-- ---- a test as a number
+pub byte_is : (b : Bool) → mir.Val.bool_byte b ≡ cond b 1 0
+byte_is true = refl
+byte_is false = refl
+
+pub byte_most : (b : Bool) → mir.Val.bool_byte b ≤ 1
+byte_most true = omega arith
+byte_most false = omega arith
 
 -- ---- three counts as the code tests them
 module _ (a b d m : ℕ) where

@@ -1,7 +1,9 @@
 // What next hands out.
 ghost use Rattle.std.specs.Prelude.{◌≡◌};
+ghost use Rattle.board_rules.specs.Handed.{handed_of};
 ghost use Rattle.border_answers.specs.AnswersOut.{change_out};
 
+use answers::Refusal;
 use board_rules::Handed;
 
 // Its kind, then what comes with it; the form is a path's.
@@ -26,12 +28,12 @@ const REMOVED_KIND: usize = 2;
 
 const LEVEL_KIND: usize = 3;
 
-pub fn change_out(h: Handed) -> ChangeRecord
-    ensures change { result ≡ change_out h }
+pub fn change_out(handed: Result<Handed, Refusal>) -> ChangeRecord
+    ensures change { result ≡ change_out (handed_of handed) }
 {
-    match h {
-        Handed::Refused(v) => ChangeRecord {
-            number: v.number,
+    match handed {
+        Err(refusal) => ChangeRecord {
+            number: refusal.reason.number(),
             kind: REFUSED_KIND,
             key: 0,
             version: 0,
@@ -39,7 +41,7 @@ pub fn change_out(h: Handed) -> ChangeRecord
             length: 0,
             form: 0,
         },
-        Handed::Path(c, o) => ChangeRecord {
+        Ok(Handed::Path(c, o)) => ChangeRecord {
             number: 0,
             kind: PATH_KIND,
             key: c.key,
@@ -48,7 +50,7 @@ pub fn change_out(h: Handed) -> ChangeRecord
             length: o.length,
             form: o.form,
         },
-        Handed::Removed(c) => ChangeRecord {
+        Ok(Handed::Removed(c)) => ChangeRecord {
             number: 0,
             kind: REMOVED_KIND,
             key: c.key,
@@ -57,11 +59,11 @@ pub fn change_out(h: Handed) -> ChangeRecord
             length: 0,
             form: 0,
         },
-        Handed::Level(version) => ChangeRecord {
+        Ok(Handed::Level(version)) => ChangeRecord {
             number: 0,
             kind: LEVEL_KIND,
             key: 0,
-            version: version,
+            version,
             place: 0,
             length: 0,
             form: 0,

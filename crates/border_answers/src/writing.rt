@@ -1,5 +1,6 @@
 // The writer's state, and what its calls hand back.
 ghost use Rattle.std.specs.Prelude.{◌≡◌};
+ghost use Rattle.writer_state.specs.Written.{written_of};
 ghost use Rattle.border_answers.specs.AnswersOut.{writer_in, written_out};
 
 use border_records::VerdictRecord;
@@ -25,23 +26,21 @@ pub fn writer_in(w: WriterRecord) -> Writer
     ensures writer { result ≡ writer_in w }
 {
     Writer {
-        ero: border_records::yes(w.ero),
+        ero: w.ero != 0,
         at: w.at,
         form: w.form,
     }
 }
 
 pub fn written_out(w: Written) -> WrittenRecord
-    ensures written { result ≡ written_out w }
+    ensures written { result ≡ written_out (written_of w) }
 {
-    let verdict = w.verdict;
-    let state = w.writer;
     WrittenRecord {
-        verdict: border_records::verdict_out(verdict),
+        verdict: border_records::passed_out(w.answer),
         writer: WriterRecord {
-            ero: border_records::flag_of(state.ero),
-            form: state.form,
-            at: state.at,
+            ero: u8::from(w.writer.ero),
+            form: w.writer.form,
+            at: w.writer.at,
         },
     }
 }

@@ -22,7 +22,7 @@ pub fn read_open(positions: PositionsRecord, octets: &[u8]) -> OpenedRecord
 pub fn agree(pcc: OpenedRecord, pce: OpenedRecord) -> SessionRecord
     ensures sessions { result ≡ sessions_out (sessions_of (opened_in pcc) (opened_in pce)) }
 {
-    let first = border_opened::opened_in(pcc);
-    let second = border_opened::opened_in(pce);
+    let first = border_opened::carried_in(pcc);
+    let second = border_opened::carried_in(pce);
     border_session::sessions_out(session::agree(first, second))
 }

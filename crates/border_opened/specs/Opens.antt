@@ -2,7 +2,7 @@
 use Rattle.std.specs.Prelude.{ℕ, cond, ltb}
 use Rattle.flag_positions.specs.declared.Positions.{Positions}
 use Rattle.session.specs.Sessions.{most_of}
-use Rattle.session.specs.declared.Opened.{Opened}
+use Rattle.session.specs.Opened.{Opened}
 use Rattle.border_records.specs.Records.{is_yes, bit, limit_in, limited_flag, depth_from, there_of, value_of}
 use Rattle.border_opened.specs.declared.opened.OpenedRecord.{OpenedRecord}
 use Rattle.border_opened.specs.declared.positions.PositionsRecord.{PositionsRecord}

@@ -4,5 +4,5 @@
 mod opened;
 mod positions;
 
-pub use opened::{OpenedRecord, opened_in, opened_out};
+pub use opened::{OpenedRecord, carried_in, opened_out};
 pub use positions::{PositionsRecord, positions_in};

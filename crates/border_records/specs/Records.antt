@@ -1,12 +1,9 @@
 -- What a record at the border stands for, and the record that an answer is handed out as (include/strundevi.h).
 -- `..In` reads a record that came in, `..Out` lays out an answer.
-use Rattle.std.specs.Prelude.{ℕ, ◌-◌, min, Bool, cond, not, eqb, ltb}
+use Rattle.std.specs.Prelude.{ℕ, ◌-◌, min, Bool, cond, not, eqb, Option, None, Some}
 use Rattle.octets.specs.Octets.{end16}
 use Rattle.answers.specs.declared.verdict.Verdict.{Verdict}
 pub use Rattle.octets.specs.Octets.{bit}
-use Rattle.msd.specs.Msd.{absent}
-use Rattle.session.specs.declared.Limit.{Limit}
-use Rattle.session.specs.declared.Limit.TheVariants.{Free, Most}
 use Rattle.border_records.specs.declared.verdict.VerdictRecord.{VerdictRecord}
 
 -- A flag is an octet: 0 is no, every other number is yes; an answer has 0 or 1, its `bit`.
@@ -14,30 +11,32 @@ abbrev pub is_yes : ℕ → Bool
 is_yes flag = not (eqb flag 0)
 
 -- A limit is a flag and a number; without the flag the number does not count, and an answer has 0 there (`most_of`, session/specs/Sessions).
-abbrev pub limit_in : ℕ → ℕ → Limit
-limit_in limited limit = cond (eqb limited 0) Free (Most limit)
+abbrev pub limit_in : ℕ → ℕ → Option ℕ
+limit_in limited limit = cond (eqb limited 0) None (Some limit)
 
-abbrev pub limited_flag : Limit → ℕ
-limited_flag Free = 0
-limited_flag (Most n) = 1
+abbrev pub limited_flag : Option ℕ → ℕ
+limited_flag None = 0
+limited_flag (Some n) = 1
 
 -- In a session the number has 16 bits; a larger one is handed out as the largest of these, which no route reaches.
 abbrev pub limit_most : ℕ
 limit_most = end16 - 1
 
-abbrev pub short_of : Limit → ℕ
-short_of Free = 0
-short_of (Most n) = min n limit_most
+abbrev pub short_of : Option ℕ → ℕ
+short_of None = 0
+short_of (Some n) = min n limit_most
 
--- v and m likewise; inside, 256 stands for none.
-abbrev pub depth_from : ℕ → ℕ → ℕ
-depth_from there value = cond (eqb there 0) absent value
+-- v and m likewise.
+abbrev pub depth_from : ℕ → ℕ → Option ℕ
+depth_from there value = cond (eqb there 0) None (Some value)
 
-abbrev pub there_of : ℕ → ℕ
-there_of d = cond (ltb d absent) 1 0
+abbrev pub there_of : Option ℕ → ℕ
+there_of None = 0
+there_of (Some v) = 1
 
-abbrev pub value_of : ℕ → ℕ
-value_of d = cond (ltb d absent) d 0
+abbrev pub value_of : Option ℕ → ℕ
+value_of None = 0
+value_of (Some v) = v
 
 -- The verdict, field by field.
 abbrev pub verdict_out : Verdict → VerdictRecord

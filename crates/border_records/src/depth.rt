@@ -2,33 +2,22 @@
 ghost use Rattle.std.specs.Prelude.{◌≡◌};
 ghost use Rattle.border_records.specs.Records.{depth_from, there_of, value_of};
 
-use msd::ABSENT;
-
-pub fn depth_in(there: u8, value: u8) -> usize
+pub fn depth_in(there: u8, value: u8) -> Option<u8>
     ensures depth { result ≡ depth_from there value }
 {
-    if there == 0 {
-        return ABSENT;
-    }
-    octets::wide(value)
+    if there == 0 { None } else { Some(value) }
 }
 
 // Whether there is a value.
-pub fn there(d: usize) -> u8
+pub fn there(d: Option<u8>) -> u8
     ensures there { result ≡ there_of d }
 {
-    if d < ABSENT {
-        return 1;
-    }
-    0
+    u8::from(d.is_some())
 }
 
 // The value, 0 where there is none.
-pub fn value(d: usize) -> u8
+pub fn value(d: Option<u8>) -> u8
     ensures value { result ≡ value_of d }
 {
-    if d < ABSENT {
-        return d as u8;
-    }
-    0
+    d.unwrap_or(0)
 }

@@ -6,11 +6,9 @@
 #![tactic(auto)]
 
 mod depth;
-mod flag;
 mod limit;
 mod verdict;
 
 pub use depth::{depth_in, there, value};
-pub use flag::{flag_of, yes};
 pub use limit::{limit_in, limited, most, short, short_in};
-pub use verdict::{VerdictRecord, verdict_out};
+pub use verdict::{VerdictRecord, answer_out, passed_out};

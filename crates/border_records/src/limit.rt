@@ -3,47 +3,37 @@ ghost use Rattle.std.specs.Prelude.{min, ◌≡◌};
 ghost use Rattle.session.specs.Sessions.{most_of};
 ghost use Rattle.border_records.specs.Records.{limit_in, limited_flag, limit_most, short_of};
 
-use session::Limit;
-
-pub fn limit_in(limited: u8, limit: usize) -> Limit
+pub fn limit_in(limited: u8, limit: usize) -> Option<usize>
     ensures limit { result ≡ limit_in limited limit }
 {
-    if limited == 0 {
-        return Limit::Free;
-    }
-    Limit::Most(limit)
+    if limited == 0 { None } else { Some(limit) }
 }
 
 // Whether there is a limit.
-pub fn limited(limit: Limit) -> u8
+pub fn limited(limit: Option<usize>) -> u8
     ensures limited { result ≡ limited_flag limit }
 {
-    match limit {
-        Limit::Free => 0,
-        Limit::Most(_) => 1,
-    }
+    u8::from(limit.is_some())
 }
 
 // The limit, 0 where there is none.
-pub fn most(limit: Limit) -> usize
+pub fn most(limit: Option<usize>) -> usize
     ensures most { result ≡ most_of limit }
 {
-    match limit {
-        Limit::Free => 0,
-        Limit::Most(n) => n,
-    }
+    limit.unwrap_or(0)
 }
 
 // The largest limit that is handed out: the largest number of 16 bits.
 const LIMIT_MOST: usize = octets::END16 - 1;
 
-pub fn short_in(limited: u8, limit: u16) -> Limit
+pub fn short_in(limited: u8, limit: u16) -> Option<usize>
     ensures limit { result ≡ limit_in limited limit }
 {
     if limited == 0 {
-        return Limit::Free;
+        None
+    } else {
+        Some(usize::from(limit))
     }
-    Limit::Most(limit as usize)
 }
 
 fn cut(n: usize) -> u16
@@ -56,11 +46,11 @@ fn cut(n: usize) -> u16
 }
 
 // The limit in 16 bits, 0 where there is none.
-pub fn short(limit: Limit) -> u16
+pub fn short(limit: Option<usize>) -> u16
     ensures short { result ≡ short_of limit }
 {
     match limit {
-        Limit::Free => 0,
-        Limit::Most(n) => cut(n),
+        None => 0,
+        Some(n) => cut(n),
     }
 }

@@ -1,26 +1,20 @@
 -- What the calls below answer, and what judging lays out by hand, is what is asked for at the border. Each law puts what the code has in the place of what the definitions name: the flag
--- of an ERO, the session that the setup type names (with neither A nor R it may go without v and m, `plain_judged`), and a verdict that counts something, which is an acceptance
--- (`counted`). Assumes nothing.
+-- of an ERO, the session that the setup type names (with neither A nor R it may go without v and m, `plain_judged`). Assumes nothing.
+use Rattle.std.specs.Prelude.{Option, None}
 use Prim.Native.Nat.{ℕ}
 use mathlib.Core.Path.{◌≡◌, refl, sym, ap, ◌∙◌}
-use mathlib.Core.List.{List, [], ◌∷◌}
-use mathlib.Core.Bool.{Bool, true, false, cond, not}
-use lib.Dec.{eqb}
+use mathlib.Core.List.{List}
+use mathlib.Core.Bool.{Bool, false, cond}
 use borrow.Author.Tests.{ne_eqb}
 use Rattle.answers.specs.declared.verdict.Verdict.{Verdict}
 use Rattle.answers.specs.Numbers.{not_usable}
 use Rattle.answers.specs.Verdicts.{refused_by}
 use Rattle.objects.specs.Objects.{mpls_setup}
-use Rattle.msd.specs.Msd.{absent}
-use Rattle.session.specs.declared.Limit.TheVariants.{Free, Most}
 use Rattle.session.specs.declared.Session.{Session}
 use Rattle.session.specs.Sessions.{session_under}
-use Rattle.forms.specs.Forms.{form_of}
-use Rattle.frame.specs.Checks.{Check, first_broken}
-use Rattle.route.specs.declared.picking.Picked.{Picked}
+use Rattle.route.specs.Picked.{Picked}
 use Rattle.route.specs.Parts.{session_by}
-use Rattle.route.specs.Routes.{judge_as, judge_of, checks_of, acceptance_of}
-use Rattle.route_limit.specs.FirstOff.{session_for}
+use Rattle.route.specs.Routes.{judge_as, judge_of}
 use Rattle.octets.proofs.Said.{either_false}
 use Rattle.route_call.proofs.Laws.{own_session}
 use Rattle.route_call.specs.Called.{rule28, judged_in, judged_for, segment_in, segment_for}
@@ -32,31 +26,12 @@ use Rattle.border_session.specs.Parts.{flagged_of}
 use Rattle.border_segment.specs.declared.picking.PickedRecord.{PickedRecord}
 use Rattle.border_segment.specs.declared.stepping.SteppedRecord.{SteppedRecord}
 use Rattle.border_segment.specs.Segments.{picked_out, stepped_out}
-use Rattle.route_step.specs.declared.stepping.Stepped.{Stepped}
+use Rattle.route_step.specs.Stepped.{Stepped}
 use Rattle.route_step.specs.Steps.{step_of}
-
--- A verdict with a count is an acceptance.
-counted_at : (c : Bool) (n p : ℕ) (v : Verdict) → ((cond c (refused_by n p) v).count ≡ 0 → ⊥) → cond c (refused_by n p) v ≡ v
-counted_at true n p v d = absurd (d refl)
-counted_at false n p v d = refl
-
-counted : (cs : List Check) (after : Verdict) → ((first_broken cs after).count ≡ 0 → ⊥) → first_broken cs after ≡ after
-counted [] after d = refl
-counted (c ∷ cs) after d =
-    let e = counted_at c.broken c.number c.place (first_broken cs after) d in
-    e ∙ counted cs after (λ z. d (ap (λ (v : Verdict). v.count) e ∙ z))
-
--- A limit of a record is there or not, and has a number.
-limit_read : (limited limit : ℕ) → cond (is_yes limited) (Most limit) Free ≡ limit_in limited limit
-limit_read limited limit = go (eqb limited 0)
-  where
-    go : (b : Bool) → cond (not b) (Most limit) Free ≡ cond b Free (Most limit)
-    go true = refl
-    go false = refl
 
 -- A session without A and R, and without v and m, which only they bring in.
 abbrev plain_of : Session → Session
-plain_of x = record { agreed = x.agreed; n = x.n; limit = x.limit; a = false; r = false; v = absent; m = absent }
+plain_of x = record { agreed = x.agreed; n = x.n; limit = x.limit; a = false; r = false; v = None; m = None }
 
 -- With neither flag v and m play no part, so that a session without them is judged in alike.
 plain_judged : (s : List ℕ) (ero : Bool) (session : Session) (pst : ℕ) (addresses : List ℕ) → flagged_of session ≡ false
@@ -68,20 +43,20 @@ plain_judged s ero session pst addresses e =
     ap judged (own_session s ero (plain_of session) pst addresses refl refl) ∙ sym (ap judged (own_session s ero session pst addresses none.0 none.1))
 
 -- The parts that are handed on are those of the session that the setup type names.
-module _ (s addresses : List ℕ) (ero : Bool) (session : SessionRecord) (pst : ℕ) {agreed n has : Bool} where
-  pub mpls_judged : {v : Verdict} → pst ≡ mpls_setup → agreed ≡ is_yes session.mpls → n ≡ is_yes session.mplsn → has ≡ is_yes session.mplslimited
-      → v ≡ judged_in s ero (session_by agreed n has session.mplslimit) pst addresses → v ≡ judged_for s ero (sessions_in session) pst addresses
+module _ (s addresses : List ℕ) (ero : Bool) (session : SessionRecord) (pst : ℕ) {agreed n : Bool} {limit : Option ℕ} where
+  pub mpls_judged : {v : Verdict} → pst ≡ mpls_setup → agreed ≡ is_yes session.mpls → n ≡ is_yes session.mplsn → limit ≡ limit_in session.mplslimited session.mplslimit
+      → v ≡ judged_in s ero (session_by agreed n limit) pst addresses → v ≡ judged_for s ero (sessions_in session) pst addresses
   unfolding session_under
   mpls_judged p a b c e =
-      let same : session_by agreed n has session.mplslimit ≡ mpls_in session = rw (a, b, c, limit_read session.mplslimited session.mplslimit) refl in
+      let same : session_by agreed n limit ≡ mpls_in session = rw (a, b, c) refl in
       e ∙ ap (λ (x : Session). judged_in s ero x pst addresses) (same ∙ rw p refl)
 
   pub srv6_judged : {v : Verdict} → (pst ≡ mpls_setup → ⊥) → flagged_of (session_under (sessions_in session) pst) ≡ false → agreed ≡ is_yes session.agreed → n ≡ is_yes session.n
-      → has ≡ is_yes session.limited → v ≡ judged_in s ero (session_by agreed n has session.limit) pst addresses → v ≡ judged_for s ero (sessions_in session) pst addresses
+      → limit ≡ limit_in session.limited session.limit → v ≡ judged_in s ero (session_by agreed n limit) pst addresses → v ≡ judged_for s ero (sessions_in session) pst addresses
   unfolding session_under
   srv6_judged p f a b c e =
       let under : session_under (sessions_in session) pst ≡ srv6_in session = rw (ne_eqb pst mpls_setup p) refl in
-      let same : session_by agreed n has session.limit ≡ plain_of (srv6_in session) = rw (a, b, c, limit_read session.limited session.limit) refl in
+      let same : session_by agreed n limit ≡ plain_of (srv6_in session) = rw (a, b, c) refl in
       e ∙ ap (λ (x : Session). judged_in s ero x pst addresses) (same ∙ ap plain_of (sym under))
       ∙ plain_judged s ero (session_under (sessions_in session) pst) pst addresses f
 
@@ -89,20 +64,6 @@ module _ (s addresses : List ℕ) (ero : ℕ) (session : SessionRecord) (pst : �
   pub judge_told : (v : Verdict) (r : VerdictRecord) → v ≡ judged_for s k (sessions_in session) pst addresses → r ≡ verdict_out v
       → r ≡ verdict_out (judged_for s (is_yes ero) (sessions_in session) pst addresses)
   judge_told v r e o = o ∙ ap verdict_out (e ∙ ap (λ (x : Bool). judged_for s x (sessions_in session) pst addresses) f)
-
-  accepted : (v : Verdict) → v ≡ judged_for s k (sessions_in session) pst addresses → (v.count ≡ 0 → ⊥)
-      → record { number = 0; place = 0; count = v.count; stray = v.stray } ≡ verdict_out v
-  unfolding judged_in judge_of judge_as
-  accepted v e d =
-      let form = form_of pst in
-      let under = session_for s k (session_under (sessions_in session) pst) addresses in
-      let judged = first_broken (checks_of form s k under pst) (acceptance_of form s k) in
-      let f = e ∙ counted_at (rule28 addresses) not_usable 0 judged (λ z. d (ap (λ (x : Verdict). x.count) e ∙ z)) in
-      rw (f ∙ counted (checks_of form s k under pst) (acceptance_of form s k) (λ z. d (ap (λ (x : Verdict). x.count) f ∙ z)))
-
-  pub judge_counted : (v : Verdict) → v ≡ judged_for s k (sessions_in session) pst addresses → (v.count ≡ 0 → ⊥)
-      → record { number = 0; place = 0; count = v.count; stray = v.stray } ≡ verdict_out (judged_for s (is_yes ero) (sessions_in session) pst addresses)
-  judge_counted v e d = judge_told v _ e (accepted v e d)
 
   pub segment_told : (i : ℕ) (g : Session) (p : Picked) (r : PickedRecord) → g ≡ session_under (sessions_in session) pst → p ≡ segment_in s k g pst addresses i → r ≡ picked_out p
       → r ≡ picked_out (segment_for s (is_yes ero) (sessions_in session) pst addresses i)

@@ -40,12 +40,12 @@ pub fn outline_in(o: OutlineRecord) -> Outline
     ensures small { result.behaviour < end16 }
 {
     Outline {
-        loose: border_records::yes(o.loose),
-        verify: border_records::yes(o.verify),
+        loose: o.loose != 0,
+        verify: o.verify != 0,
         nt: o.nt,
-        behaviour: o.behaviour as usize,
-        hassid: border_records::yes(o.hassid),
-        structured: border_records::yes(o.structured),
+        behaviour: usize::from(o.behaviour),
+        hassid: o.hassid != 0,
+        structured: o.structured != 0,
         labelled: o.label % 2 == 1,
         complete: o.label / 2 % 2 == 1,
     }
@@ -54,20 +54,23 @@ pub fn outline_in(o: OutlineRecord) -> Outline
 pub fn segment_out(g: Segment) -> SegmentRecord
     ensures segment { result ≡ segment_out g }
 {
-    let sid = g.sid;
-    let nai = g.nai;
-    let structure = g.structure;
+    let Segment {
+        sid,
+        nai,
+        structure,
+        ..
+    } = g;
     SegmentRecord {
-        loose: border_records::flag_of(g.loose),
-        verify: border_records::flag_of(g.verify),
+        loose: u8::from(g.loose),
+        verify: u8::from(g.verify),
         nt: g.nt,
         behaviour: g.behaviour,
-        hassid: border_records::flag_of(g.hassid),
-        sid: sid,
-        nai: nai,
-        structured: border_records::flag_of(g.structured),
-        structure: structure,
-        labelled: border_records::flag_of(g.labelled),
-        complete: border_records::flag_of(g.complete),
+        hassid: u8::from(g.hassid),
+        sid,
+        nai,
+        structured: u8::from(g.structured),
+        structure,
+        labelled: u8::from(g.labelled),
+        complete: u8::from(g.complete),
     }
 }

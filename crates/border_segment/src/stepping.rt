@@ -1,5 +1,6 @@
 // What a step through a route hands back.
 ghost use Rattle.std.specs.Prelude.{◌≡◌};
+ghost use Rattle.route_step.specs.Steps.{stepped_of};
 ghost use Rattle.border_segment.specs.Segments.{stepped_out};
 
 use super::segment;
@@ -14,15 +15,13 @@ pub struct SteppedRecord {
     pub next: usize,
 }
 
+// What a step answered.
 pub fn stepped_out(x: route_step::Stepped) -> SteppedRecord
-    ensures stepped { result ≡ stepped_out x }
+    ensures stepped { result ≡ stepped_out (stepped_of x) }
 {
-    let verdict = x.verdict;
-    let theirs = x.segment;
-    let behind = x.next;
     SteppedRecord {
-        verdict: border_records::verdict_out(verdict),
-        segment: segment::segment_out(theirs),
-        next: behind,
+        verdict: border_records::passed_out(x.answer),
+        segment: segment::segment_out(x.segment),
+        next: x.next,
     }
 }

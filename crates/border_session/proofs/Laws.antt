@@ -1,9 +1,8 @@
 -- Sessions that are handed out and come back are what they were.
-use Prim.Native.Nat.{◌≤◌}
 use mathlib.Core.Path.{◌≡◌, refl}
 use mathlib.Core.Bool.{Bool, true, false, cond}
-use Rattle.msd.specs.Msd.{absent}
-use Rattle.session.specs.declared.Opened.{Opened}
+use Rattle.std.specs.Prelude.{None}
+use Rattle.session.specs.Opened.{Opened}
 use Rattle.session.specs.declared.Session.{Session}
 use Rattle.session.specs.declared.Sessions.{Sessions}
 use Rattle.session.specs.Sessions.{mpls_agreed_by, mpls_agreed_on, not_agreed_on, mpls_session_of}
@@ -14,8 +13,8 @@ use Rattle.border_session.specs.Agreed.{sessions_in, sessions_out}
 pub record Plain (s : Session) : Type 0 where
   pub a : s.a ≡ false
   pub r : s.r ≡ false
-  pub v : s.v ≡ absent
-  pub m : s.m ≡ absent
+  pub v : s.v ≡ None
+  pub m : s.m ≡ None
 
 pub mpls_plain : (pcc pce : Opened) → Plain (mpls_session_of pcc pce)
 unfolding mpls_session_of
@@ -25,17 +24,17 @@ mpls_plain pcc pce = go (mpls_agreed_by pcc pce)
     go true = record { a = refl; r = refl; v = refl; m = refl }
     go false = record { a = refl; r = refl; v = refl; m = refl }
 
-pub sessions_back : (s : Sessions) → InShort s.srv6.limit → s.srv6.v ≤ absent → s.srv6.m ≤ absent → InShort s.mpls.limit → Plain s.mpls
+pub sessions_back : (s : Sessions) → InShort s.srv6.limit → InShort s.mpls.limit → Plain s.mpls
     → sessions_in (sessions_out s) ≡ s
-sessions_back s l v m d h =
+sessions_back s l d h =
     rw (
       flag_back s.srv6.agreed,
       flag_back s.srv6.n,
       short_back s.srv6.limit l,
       flag_back s.srv6.a,
       flag_back s.srv6.r,
-      depth_back s.srv6.v v,
-      depth_back s.srv6.m m,
+      depth_back s.srv6.v,
+      depth_back s.srv6.m,
       flag_back s.mpls.agreed,
       flag_back s.mpls.n,
       short_back s.mpls.limit d,

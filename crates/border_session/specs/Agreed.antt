@@ -1,6 +1,5 @@
 -- The record of the sessions of the two forms: what it stands for when it comes in, and how they are handed out (include/strundevi.h).
-use Rattle.std.specs.Prelude.{false}
-use Rattle.msd.specs.Msd.{absent}
+use Rattle.std.specs.Prelude.{false, None}
 use Rattle.session.specs.declared.Session.{Session}
 use Rattle.session.specs.declared.Sessions.{Sessions}
 use Rattle.border_records.specs.Records.{is_yes, bit, limit_in, limited_flag, short_of, depth_from, there_of, value_of}
@@ -27,8 +26,8 @@ mpls_in s =
       limit = limit_in s.mplslimited s.mplslimit;
       a = false;
       r = false;
-      v = absent;
-      m = absent;
+      v = None;
+      m = None;
     }
 
 abbrev pub sessions_in : SessionRecord → Sessions

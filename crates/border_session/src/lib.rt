@@ -7,7 +7,6 @@ ghost use Rattle.session.specs.Sessions.{session_under};
 ghost use Rattle.border_session.specs.Agreed.{srv6_in, mpls_in, sessions_in, sessions_out};
 ghost use Rattle.border_session.specs.Parts.{flagged_of};
 
-use msd::ABSENT;
 use session::{Session, Sessions};
 
 #[repr(C)]
@@ -33,11 +32,11 @@ fn srv6_in(s: SessionRecord) -> Session
     ensures session { result ≡ srv6_in s }
 {
     Session {
-        agreed: border_records::yes(s.agreed),
-        n: border_records::yes(s.n),
+        agreed: s.agreed != 0,
+        n: s.n != 0,
         limit: border_records::short_in(s.limited, s.limit),
-        a: border_records::yes(s.a),
-        r: border_records::yes(s.r),
+        a: s.a != 0,
+        r: s.r != 0,
         v: border_records::depth_in(s.hasv, s.v),
         m: border_records::depth_in(s.hasm, s.m),
     }
@@ -47,13 +46,13 @@ fn mpls_in(s: SessionRecord) -> Session
     ensures session { result ≡ mpls_in s }
 {
     Session {
-        agreed: border_records::yes(s.mpls),
-        n: border_records::yes(s.mplsn),
+        agreed: s.mpls != 0,
+        n: s.mplsn != 0,
         limit: border_records::short_in(s.mplslimited, s.mplslimit),
         a: false,
         r: false,
-        v: ABSENT,
-        m: ABSENT,
+        v: None,
+        m: None,
     }
 }
 
@@ -67,6 +66,7 @@ pub fn sessions_in(s: SessionRecord) -> Sessions
 }
 
 // The session of the form that a setup type names, SRv6's if it names none; the other is not looked at.
+#[tactic(auto, unfolding(session::specs::Sessions::session_under))]
 pub fn session_under(s: SessionRecord, pst: u64) -> Session
     ensures session { result ≡ session_under (sessions_in s) pst }
 {
@@ -77,36 +77,33 @@ pub fn session_under(s: SessionRecord, pst: u64) -> Session
 }
 
 // Whether A or R is agreed in that session. MPLS's has neither.
+#[tactic(auto, unfolding(session::specs::Sessions::session_under))]
 pub fn flagged(s: SessionRecord, pst: u64) -> bool
     ensures flagged { result ≡ flagged_of (session_under (sessions_in s) pst) }
 {
     if pst == objects::MPLS_SETUP {
         return false;
     }
-    octets::either(border_records::yes(s.a), border_records::yes(s.r))
+    s.a != 0 || s.r != 0
 }
 
 pub fn sessions_out(s: Sessions) -> SessionRecord
     ensures sessions { result ≡ sessions_out s }
 {
-    let one = s.srv6;
-    let other = s.mpls;
-    let theirs = one.limit;
-    let labelled = other.limit;
     SessionRecord {
-        agreed: border_records::flag_of(one.agreed),
-        n: border_records::flag_of(one.n),
-        a: border_records::flag_of(one.a),
-        r: border_records::flag_of(one.r),
-        hasv: border_records::there(one.v),
-        v: border_records::value(one.v),
-        hasm: border_records::there(one.m),
-        m: border_records::value(one.m),
-        limited: border_records::limited(theirs),
-        mpls: border_records::flag_of(other.agreed),
-        mplsn: border_records::flag_of(other.n),
-        mplslimited: border_records::limited(labelled),
-        limit: border_records::short(theirs),
-        mplslimit: border_records::short(labelled),
+        agreed: u8::from(s.srv6.agreed),
+        n: u8::from(s.srv6.n),
+        a: u8::from(s.srv6.a),
+        r: u8::from(s.srv6.r),
+        hasv: border_records::there(s.srv6.v),
+        v: border_records::value(s.srv6.v),
+        hasm: border_records::there(s.srv6.m),
+        m: border_records::value(s.srv6.m),
+        limited: border_records::limited(s.srv6.limit),
+        mpls: u8::from(s.mpls.agreed),
+        mplsn: u8::from(s.mpls.n),
+        mplslimited: border_records::limited(s.mpls.limit),
+        limit: border_records::short(s.srv6.limit),
+        mplslimit: border_records::short(s.mpls.limit),
     }
 }

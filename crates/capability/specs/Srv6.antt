@@ -1,15 +1,13 @@
 -- "Sub-TLV 27 holds 2 reserved octets, 2 flag octets, then pairs of MSD type and MSD value" (document 01, "The OPEN object").
-use Rattle.std.specs.Prelude.{ℕ, ◌/◌, ◌%◌, List, [], Bool, true, cond, not, ◌&&◌, length, drop, eqb, leb}
-use Rattle.std.proofs.Math.Option.{Option}
+use Rattle.std.specs.Prelude.{ℕ, ◌/◌, ◌%◌, List, [], Bool, true, cond, not, ◌&&◌, length, drop, eqb, leb, Option}
 use Rattle.octets.specs.Octets.{octet_of, be16}
 use Rattle.objects.specs.Objects.{srv6_setup}
 use Rattle.answers.specs.Numbers.{open_malformed, wrong_msd}
 use Rattle.flag_positions.specs.declared.Positions.{Positions}
 use Rattle.flag_positions.specs.Positions.{flag_at}
-use Rattle.session.specs.declared.Limit.{Limit}
-use Rattle.session.specs.declared.Opened.{Opened}
+use Rattle.session.specs.Opened.{Opened}
 use Rattle.session.specs.Sessions.{open_refused, open_carries}
-use Rattle.msd.specs.Msd.{max_segments_left, max_h_encaps, Pair, pairs_in, wrong_pairs, smallest_of, depth_number}
+use Rattle.msd.specs.Msd.{max_segments_left, max_h_encaps, Pair, pairs_in, wrong_pairs, smallest_of}
 use Rattle.msd_limit.specs.Limits.{limit_by}
 
 -- The type of the sub-TLV.
@@ -71,12 +69,12 @@ h_encaps_of w = smallest_of (counting_of w) max_h_encaps
 unfoldable pub segments_left_of : List ℕ → Option ℕ
 segments_left_of w = smallest_of (counting_of w) max_segments_left
 
-unfoldable pub limit_of : List ℕ → Limit
+unfoldable pub limit_of : List ℕ → Option ℕ
 limit_of w = limit_by (h_encaps_of w) (segments_left_of w)
 
 -- What the value of sub-TLV 27 carries where none of its rules is broken.
 abbrev pub carries_by : Positions → List ℕ → Opened
-carries_by p w = open_carries true (n_of w) (limit_of w) (a_of p w) (r_of p w) (depth_number (h_encaps_of w)) (depth_number (segments_left_of w))
+carries_by p w = open_carries true (n_of w) (limit_of w) (a_of p w) (r_of p w) (h_encaps_of w) (segments_left_of w)
 
 -- What a side that lists type 3 announces by the value of sub-TLV 27, in the order 1, 3.
 unfoldable pub announced_of : Positions → List ℕ → Opened

@@ -4,19 +4,31 @@
 // It must have an even length of at least 4: else 1. X is 0 and a pair's type is unknown: 3.
 // With X set the pairs are not looked at, and there is no limit.
 ghost use Rattle.std.specs.Prelude.{◌≡◌};
+ghost use Rattle.session.specs.Answered.{srv6_of};
 ghost use Rattle.capability.specs.Srv6.{announced_of};
 
-use answers::{OPEN_MALFORMED, WRONG_MSD};
+use answers::Reason;
 use flag_positions::Positions;
-use msd::ABSENT;
+use msd::Depths;
 use objects::SRV6_SETUP;
-use session::{Limit, Opened};
+use session::{OpenRefusal, Srv6Half};
 
 // The type of the sub-TLV.
 pub const SRV6_CAPABILITY: usize = 27;
 
 // The form at fault where its value breaks a rule.
 pub const SRV6_FORM: usize = SRV6_SETUP as usize;
+
+// 1: a wrong length. 3: a pair's type is unknown.
+const MALFORMED: OpenRefusal = OpenRefusal {
+    reason: Reason::OpenMalformed,
+    form: Some(SRV6_FORM),
+};
+
+const WRONG_PAIR: OpenRefusal = OpenRefusal {
+    reason: Reason::WrongMsd,
+    form: Some(SRV6_FORM),
+};
 
 // The places of the two flag octets, and what N and X are worth in the second.
 const BOTH_FLAGS_AT: usize = 2;
@@ -31,11 +43,11 @@ const WORTH_X: usize = 1;
 const PAIRS_AT: usize = 4;
 
 // What a side that lists setup type 3 announces by the value of its sub-TLV 27.
-pub fn announced(p: Positions, w: &[u8]) -> Opened
-    ensures announced { result ≡ announced_of p w.now }
+pub fn announced(p: Positions, w: &[u8]) -> Result<Srv6Half, OpenRefusal>
+    ensures announced { srv6_of result ≡ announced_of p w.now }
 {
-    if !octets::both(w.len() % 2 == 0, PAIRS_AT <= w.len()) {
-        return session::refused_open(OPEN_MALFORMED, SRV6_FORM);
+    if w.len() % 2 != 0 || w.len() < PAIRS_AT {
+        return Err(MALFORMED);
     }
     let flags = octets::octet(w, FLAGS_AT);
     let n = flags / WORTH_N % 2 == 1;
@@ -43,13 +55,24 @@ pub fn announced(p: Positions, w: &[u8]) -> Opened
     let a = flag_positions::flag(all, p.a);
     let r = flag_positions::flag(all, p.r);
     if flags / WORTH_X % 2 == 1 {
-        return session::carried(true, n, Limit::Free, a, r, ABSENT, ABSENT);
+        return Ok(Srv6Half {
+            n,
+            limit: None,
+            a,
+            r,
+            v: None,
+            m: None,
+        });
     }
-    let pairs = msd::gather(&w[PAIRS_AT..]);
-    if pairs.wrong {
-        return session::refused_open(WRONG_MSD, SRV6_FORM);
-    }
-    let v = pairs.encaps;
-    let m = pairs.left;
-    session::carried(true, n, msd_limit::limit(v, m), a, r, v, m)
+    let Some(Depths { encaps, left }) = msd::gather(&w[PAIRS_AT..]) else {
+        return Err(WRONG_PAIR);
+    };
+    Ok(Srv6Half {
+        n,
+        limit: msd_limit::limit(encaps, left),
+        a,
+        r,
+        v: encaps,
+        m: left,
+    })
 }

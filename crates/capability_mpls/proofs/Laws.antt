@@ -1,4 +1,5 @@
 -- What sub-TLV 26 announces, by each way out of the code. Assumes nothing.
+use Rattle.std.specs.Prelude.{None, Some}
 use Prim.Native.Nat.{ℕ, ◌/◌, ◌%◌}
 use mathlib.Core.Path.{◌≡◌}
 use mathlib.Core.List.{List}
@@ -9,8 +10,7 @@ use Rattle.answers.proofs.Determined.{determined}
 use Rattle.answers.specs.Numbers.{open_malformed, wrong_msd}
 use Rattle.octets.specs.Octets.{octet_of}
 use Rattle.objects.specs.Objects.{mpls_setup}
-use Rattle.session.specs.declared.Limit.TheVariants.{Free, Most}
-use Rattle.session.specs.declared.Opened.{Opened}
+use Rattle.session.specs.Opened.{Opened}
 use Rattle.session.specs.Sessions.{open_refused, without_srv6, with_mpls}
 use Rattle.capability_mpls.specs.Mpls.{mpls_size, mpls_flags_at, depth_at, mpls_sized_of, mpls_n_of, mpls_x_of, depth_of, depthless, mpls_limit_of, mpls_announced_of}
 
@@ -23,7 +23,7 @@ module _ (w : List ℕ) where
 
   -- of a value of length 4, by its flags and its depth
   module _ (flags : ℕ) (s : length w ≡ mpls_size) (e : flags ≡ octet_of w mpls_flags_at) where
-    pub announced_free : flags / 1 % 2 ≡ 1 → with_mpls without_srv6 (eqb (flags / 2 % 2) 1) Free ≡ mpls_announced_of w
+    pub announced_free : flags / 1 % 2 ≡ 1 → with_mpls without_srv6 (eqb (flags / 2 % 2) 1) None ≡ mpls_announced_of w
     unfolding mpls_announced_of mpls_sized_of depthless mpls_x_of mpls_n_of mpls_limit_of
     announced_free x = rw (eq-eqb (length w) mpls_size s, ← e, eq-eqb (flags / 1 % 2) 1 x)
 
@@ -32,7 +32,7 @@ module _ (w : List ℕ) where
     announced_depthless depth x d z = rw (eq-eqb (length w) mpls_size s, ← e, ne_eqb (flags / 1 % 2) 1 x, ← d, eq-eqb depth 0 z)
 
     pub announced_depth : (depth : ℕ) → (flags / 1 % 2 ≡ 1 → ⊥) → depth ≡ octet_of w depth_at → (depth ≡ 0 → ⊥)
-        → with_mpls without_srv6 (eqb (flags / 2 % 2) 1) (Most depth) ≡ mpls_announced_of w
+        → with_mpls without_srv6 (eqb (flags / 2 % 2) 1) (Some depth) ≡ mpls_announced_of w
     unfolding mpls_announced_of mpls_sized_of depthless depth_of mpls_x_of mpls_n_of mpls_limit_of
     announced_depth depth x d z = rw (eq-eqb (length w) mpls_size s, ← e, ne_eqb (flags / 1 % 2) 1 x, ← d, ne_eqb depth 0 z)
 

@@ -1,11 +1,9 @@
 -- Sub-TLV 26 holds 2 reserved octets, a flag octet and a depth (RFC 8664, section 4.1.2; document 02, C-16).
-use Rattle.std.specs.Prelude.{ℕ, ◌/◌, ◌%◌, List, Bool, cond, not, ◌&&◌, length, eqb}
+use Rattle.std.specs.Prelude.{ℕ, ◌/◌, ◌%◌, List, Bool, cond, not, ◌&&◌, length, eqb, Option, None, Some}
 use Rattle.octets.specs.Octets.{octet_of}
 use Rattle.objects.specs.Objects.{mpls_setup}
 use Rattle.answers.specs.Numbers.{open_malformed, wrong_msd}
-use Rattle.session.specs.declared.Limit.{Limit}
-use Rattle.session.specs.declared.Limit.TheVariants.{Free, Most}
-use Rattle.session.specs.declared.Opened.{Opened}
+use Rattle.session.specs.Opened.{Opened}
 use Rattle.session.specs.Sessions.{open_refused, without_srv6, with_mpls}
 
 -- The type of the sub-TLV.
@@ -50,8 +48,8 @@ unfoldable pub depthless : List ℕ → Bool
 depthless w = not (mpls_x_of w) && eqb (depth_of w) 0
 
 -- The depth is the limit; with X set there is none.
-unfoldable pub mpls_limit_of : List ℕ → Limit
-mpls_limit_of w = cond (mpls_x_of w) Free (Most (depth_of w))
+unfoldable pub mpls_limit_of : List ℕ → Option ℕ
+mpls_limit_of w = cond (mpls_x_of w) None (Some (depth_of w))
 
 -- What the value of sub-TLV 26 adds to an answer where none of its rules is broken.
 abbrev pub mpls_beside : Opened → List ℕ → Opened

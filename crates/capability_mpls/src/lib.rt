@@ -6,17 +6,29 @@
 #![tactic(auto)]
 
 ghost use Rattle.std.specs.Prelude.{◌≡◌};
+ghost use Rattle.session.specs.Answered.{mpls_of};
 ghost use Rattle.capability_mpls.specs.Mpls.{mpls_announced_of};
 
-use answers::{OPEN_MALFORMED, WRONG_MSD};
+use answers::Reason;
 use objects::MPLS_SETUP;
-use session::{Limit, Opened};
+use session::{MplsHalf, OpenRefusal};
 
 // The type of the sub-TLV.
 pub const MPLS_CAPABILITY: usize = 26;
 
 // The form at fault where its value breaks a rule.
 pub const MPLS_FORM: usize = MPLS_SETUP as usize;
+
+// 1: a wrong length. 3: neither X nor a depth.
+const MALFORMED: OpenRefusal = OpenRefusal {
+    reason: Reason::OpenMalformed,
+    form: Some(MPLS_FORM),
+};
+
+const DEPTHLESS: OpenRefusal = OpenRefusal {
+    reason: Reason::WrongMsd,
+    form: Some(MPLS_FORM),
+};
 
 // The place of the flag octet, and what N and X are worth in it.
 const MPLS_FLAGS_AT: usize = 2;
@@ -31,20 +43,23 @@ const DEPTH_AT: usize = 3;
 const MPLS_SIZE: usize = 4;
 
 // What a side that lists setup type 1 announces by the value of its sub-TLV 26.
-pub fn announced_mpls(w: &[u8]) -> Opened
-    ensures announced { result ≡ mpls_announced_of w.now }
+pub fn announced_mpls(w: &[u8]) -> Result<MplsHalf, OpenRefusal>
+    ensures announced { mpls_of result ≡ mpls_announced_of w.now }
 {
     if w.len() != MPLS_SIZE {
-        return session::refused_open(OPEN_MALFORMED, MPLS_FORM);
+        return Err(MALFORMED);
     }
     let flags = octets::octet(w, MPLS_FLAGS_AT);
     let n = flags / MPLS_WORTH_N % 2 == 1;
     if flags / MPLS_WORTH_X % 2 == 1 {
-        return session::with_mpls(session::without_srv6(), n, Limit::Free);
+        return Ok(MplsHalf { n, limit: None });
     }
     let depth = octets::octet(w, DEPTH_AT);
     if depth == 0 {
-        return session::refused_open(WRONG_MSD, MPLS_FORM);
+        return Err(DEPTHLESS);
     }
-    session::with_mpls(session::without_srv6(), n, Limit::Most(depth))
+    Ok(MplsHalf {
+        n,
+        limit: Some(depth),
+    })
 }

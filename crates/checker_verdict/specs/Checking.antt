@@ -5,7 +5,7 @@ use Rattle.std.specs.Prelude.{ℕ, true, cond, List, [], eqb}
 use Rattle.objects.specs.Objects.{srv6_setup}
 use Rattle.answers.specs.declared.verdict.Verdict.{Verdict}
 use Rattle.answers.specs.Verdicts.{refused_by}
-use Rattle.session.specs.declared.Opened.{Opened}
+use Rattle.session.specs.Opened.{Opened}
 use Rattle.session.specs.Sessions.{sessions_of}
 use Rattle.flag_positions.specs.Positions.{first_two}
 use Rattle.open.specs.Open.{open_of}

@@ -5,26 +5,28 @@
 #![tactic(auto)]
 
 ghost use Rattle.std.specs.Prelude.{◌≡◌};
+ghost use Rattle.answers.specs.Verdicts.{verdict_of};
 ghost use Rattle.checker_verdict.specs.Checking.{checked_of};
 
-use answers::Verdict;
+use answers::{Counts, Refusal, Verdict};
 use cut_objects::{first, rest};
 use objects::SRV6_SETUP;
 
-// The verdict on three objects.
-pub fn check(s: &[u8]) -> Verdict
-    ensures checked { result ≡ checked_of s.now }
+// The answer on three objects.
+fn answer(s: &[u8]) -> Result<Counts, Refusal>
+    ensures checked { verdict_of result ≡ checked_of s.now }
 {
     let behind = rest(s);
     let p = flag_positions::first_two();
-    let pcc = open::read_open(p, first(s));
-    if pcc.number != 0 {
-        return answers::refused(pcc.number, 0);
-    }
-    let pce = open::read_open(p, first(behind));
-    if pce.number != 0 {
-        return answers::refused(pce.number, 0);
-    }
-    let session = session::agree(pcc, pce);
+    let pcc = open::read_open(p, first(s))?;
+    let pce = open::read_open(p, first(behind))?;
+    let session = session::agree(Some(pcc), Some(pce));
     route_call::judge(first(rest(behind)), true, session, SRV6_SETUP, &s[..0])
+}
+
+// The verdict on them.
+pub fn check(s: &[u8]) -> Verdict
+    ensures checked { result ≡ checked_of s.now }
+{
+    answers::told(answer(s))
 }

@@ -10,13 +10,12 @@ ghost use Rattle.words.specs.Words.{space, word_of};
 ghost use Rattle.hexadecimal.specs.Hexadecimal.{octets_of};
 ghost use Rattle.command.specs.Commands.{command_of, skipped, bare_command, number_at};
 
-use command_forms::{ERO, Verb, is_formed, place_named, verb_at};
+use command_forms::{ERO, Verb, is_formed};
 use decimal::value;
-use same_octets::same;
 use words::{SPACE, word};
 
-// `#`
-const HASH: u8 = 35;
+// what begins a comment
+const HASH: u8 = b'#';
 
 // the most octets of a line that is no bad line
 pub const LONGEST_LINE: usize = 131200;
@@ -33,20 +32,27 @@ pub struct Command {
     pub four: u64,
 }
 
+// A line, and the command that it was read as.
+#[derive(Clone, Copy)]
+pub struct Line<'a> {
+    pub command: Command,
+    pub octets: &'a [u8],
+}
+
 fn is_skipped(line: &[u8]) -> bool
     ensures skipped { result ≡ skipped line.now }
 {
-    if line.len() == 0 {
-        return true;
+    match line {
+        [] => true,
+        [first, ..] => *first == HASH,
     }
-    line[0] == HASH
 }
 
 fn alone(verb: Verb) -> Command
     ensures bare { result ≡ bare_command verb }
 {
     Command {
-        verb: verb,
+        verb,
         ero: false,
         one: 0,
         two: 0,
@@ -65,23 +71,22 @@ pub fn parse(line: &[u8]) -> Command
     if line.len() > LONGEST_LINE {
         return alone(Verb::Bad);
     }
-    let place = place_named(word(line, SPACE, 0));
-    if !is_formed(line, place) {
+    let verb = Verb::named(word(line, SPACE, 0));
+    if !is_formed(line, verb) {
         return alone(Verb::Bad);
     }
-    let verb = verb_at(place);
-    let ero = same(word(line, SPACE, 1), &ERO);
+    let ero = word(line, SPACE, 1) == &ERO[..];
     let one = number_at(line, 1);
     let two = number_at(line, 2);
     let three = number_at(line, 3);
     let four = number_at(line, 4);
     Command {
-        verb: verb,
-        ero: ero,
-        one: one,
-        two: two,
-        three: three,
-        four: four,
+        verb,
+        ero,
+        one,
+        two,
+        three,
+        four,
     }
 }
 

@@ -4,6 +4,8 @@ use Rattle.words.specs.Words.{space, ascii, word_of, words_in}
 use Rattle.same_octets.specs.Same.{same_octets}
 use Rattle.decimal.specs.Decimal.{most_octet, most_two_octets, is_number, is_at_most, is_structure}
 use Rattle.hexadecimal.specs.Hexadecimal.{is_octets, is_sid, is_nai}
+use Rattle.command_forms.specs.declared.kind.Kind.{Kind}
+use Rattle.command_forms.specs.declared.kind.Kind.TheVariants as k
 use Rattle.command_forms.specs.declared.verb.Verb.{Verb}
 use Rattle.command_forms.specs.declared.verb.Verb.TheVariants as v
 
@@ -61,68 +63,49 @@ the_rro = ascii "rro"
 abbrev pub most_size : ℕ
 most_size = 65536
 
--- what a word behind the name may be
-pub data Kind : Type 0 where
-  -- any number
-  number : Kind
-  -- 0 or 1
-  bit : Kind
-  -- 0 to 255
-  octet : Kind
-  -- 0 to 65,535
-  two_octets : Kind
-  -- SIZE, 0 to 65,536
-  size : Kind
-  -- OCTETS
-  octets : Kind
-  -- `ero` or `rro`
-  side : Kind
-  sid : Kind
-  nai : Kind
-  structure : Kind
-
+-- Is a word of this kind?
 abbrev pub fits : List ℕ → Kind → Bool
-fits w number = is_number w
-fits w bit = is_at_most w 1
-fits w octet = is_at_most w most_octet
-fits w two_octets = is_at_most w most_two_octets
-fits w size = is_at_most w most_size
-fits w octets = is_octets w
-fits w side = same_octets w the_ero || same_octets w the_rro
-fits w sid = is_sid w
-fits w nai = is_nai w
-fits w structure = is_structure w
+fits w k.Number = is_number w
+fits w k.Bit = is_at_most w 1
+fits w k.Octet = is_at_most w most_octet
+fits w k.TwoOctets = is_at_most w most_two_octets
+fits w k.Size = is_at_most w most_size
+fits w k.Octets = is_octets w
+fits w k.Side = same_octets w the_ero || same_octets w the_rro
+fits w k.Sid = is_sid w
+fits w k.Nai = is_nai w
+fits w k.Structure = is_structure w
 
 -- `pcc OCTETS`, `ero PST OCTETS`, and so on, line by line of the table
 abbrev pub kinds_of : Verb → List Kind
 kinds_of v.Skip = []
 kinds_of v.Bad = []
-kinds_of v.Pcc = octets ∷ []
-kinds_of v.Pce = octets ∷ []
-kinds_of v.Ero = number ∷ octets ∷ []
-kinds_of v.Rro = number ∷ octets ∷ []
-kinds_of v.EroSegment = number ∷ number ∷ octets ∷ []
-kinds_of v.RroSegment = number ∷ number ∷ octets ∷ []
-kinds_of v.Begin = side ∷ number ∷ size ∷ []
-kinds_of v.Add = bit ∷ bit ∷ octet ∷ two_octets ∷ sid ∷ nai ∷ structure ∷ bit ∷ bit ∷ []
+kinds_of v.Pcc = k.Octets ∷ []
+kinds_of v.Pce = k.Octets ∷ []
+kinds_of v.Ero = k.Number ∷ k.Octets ∷ []
+kinds_of v.Rro = k.Number ∷ k.Octets ∷ []
+kinds_of v.EroSegment = k.Number ∷ k.Number ∷ k.Octets ∷ []
+kinds_of v.RroSegment = k.Number ∷ k.Number ∷ k.Octets ∷ []
+kinds_of v.Begin = k.Side ∷ k.Number ∷ k.Size ∷ []
+kinds_of v.Add = k.Bit ∷ k.Bit ∷ k.Octet ∷ k.TwoOctets ∷ k.Sid ∷ k.Nai ∷ k.Structure ∷ k.Bit ∷ k.Bit ∷ []
 kinds_of v.Finish = []
 kinds_of v.Lent = []
-kinds_of v.Report = number ∷ number ∷ octets ∷ []
-kinds_of v.Remove = number ∷ []
-kinds_of v.Compact = number ∷ []
-kinds_of v.Body = number ∷ []
-kinds_of v.Next = number ∷ number ∷ []
+kinds_of v.Report = k.Number ∷ k.Number ∷ k.Octets ∷ []
+kinds_of v.Remove = k.Number ∷ []
+kinds_of v.Compact = k.Number ∷ []
+kinds_of v.Body = k.Number ∷ []
+kinds_of v.Next = k.Number ∷ k.Number ∷ []
 kinds_of v.Mark = []
 kinds_of v.Board = []
 kinds_of v.Chain = []
-kinds_of v.Positions = number ∷ number ∷ []
-kinds_of v.Addresses = octets ∷ []
-kinds_of v.Moved = number ∷ number ∷ number ∷ []
+kinds_of v.Positions = k.Number ∷ k.Number ∷ []
+kinds_of v.Addresses = k.Octets ∷ []
+kinds_of v.Moved = k.Number ∷ k.Number ∷ k.Number ∷ []
 
 -- Words i, i + 1, .. are of these kinds.
 abbrev pub fit_from : List Kind → List ℕ → ℕ → Bool
 fit_from [] line i = true
-fit_from (k ∷ ks) line i = fits (word_of line space i) k && fit_from ks line (suc i)
+fit_from (x ∷ xs) line i = fits (word_of line space i) x && fit_from xs line (suc i)
 
 -- There are as many words as the form has, and each is of its kind.
 unfoldable pub formed : List Kind → List ℕ → Bool

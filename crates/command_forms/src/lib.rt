@@ -3,7 +3,9 @@
 #![tactic(auto)]
 
 mod form;
+mod kind;
 mod verb;
 
-pub use form::{MOST_SIZE, is_formed};
-pub use verb::{ERO, Verb, place_named, verb_at};
+pub use form::is_formed;
+pub use kind::{Kind, MOST_SIZE};
+pub use verb::{ERO, Verb};

@@ -1,12 +1,12 @@
-// The table of commands (console.md): to a row its name and a letter for each word behind it.
+// The commands, their names, and what stands behind these (console.md, the table of commands).
 ghost use Rattle.std.specs.Prelude.{◌≡◌};
-ghost use Rattle.command_forms.specs.Forms.{rows};
-ghost use Rattle.command_forms.specs.Rows.{place_named, verb_at};
+ghost use Rattle.command_forms.specs.Forms.{kinds_of, verb_of};
+ghost use Rattle.command_forms.specs.Names.{name_of};
 
+use crate::kind::Kind;
 use same_octets::same;
-use words::{NEWLINE, SPACE, count, word};
 
-#[derive(Clone, Copy)]
+#[derive(Clone, Copy, Debug, PartialEq, Eq)]
 pub enum Verb {
     // an empty line or a comment: answered by nothing
     Skip,
@@ -39,74 +39,113 @@ pub const ERO: [u8; 3] = *b"ero";
 
 pub const RRO: [u8; 3] = *b"rro";
 
-// The letters: n a number, 1 one of 0 or 1, 8 of 0 to 255, 6 of 0 to 65,535, z a size, o octets, e `ero` or `rro`,
-// s a SID, a a NAI, t a structure.
-pub const ROWS: [u8; 190] = *b"\
-pcc o\n\
-pce o\n\
-ero no\n\
-rro no\n\
-ero-segment nno\n\
-rro-segment nno\n\
-begin enz\n\
-add 1186sat11\n\
-finish\n\
-lent\n\
-report nno\n\
-remove n\n\
-compact n\n\
-body n\n\
-next nn\n\
-mark\n\
-board\n\
-chain\n\
-positions nn\n\
-addresses o\n\
-moved nnn";
+// the commands that have a name
+const VERBS: [Verb; 21] = [
+    Verb::Pcc,
+    Verb::Pce,
+    Verb::Ero,
+    Verb::Rro,
+    Verb::EroSegment,
+    Verb::RroSegment,
+    Verb::Begin,
+    Verb::Add,
+    Verb::Finish,
+    Verb::Lent,
+    Verb::Report,
+    Verb::Remove,
+    Verb::Compact,
+    Verb::Body,
+    Verb::Next,
+    Verb::Mark,
+    Verb::Board,
+    Verb::Chain,
+    Verb::Positions,
+    Verb::Addresses,
+    Verb::Moved,
+];
 
-// The place of the row that has this name, from 0; behind the last where none has it.
-pub fn place_named(w: &[u8]) -> usize
-    ensures place { result ≡ place_named rows w.now }
-{
-    let rows = ROWS;
-    let n = count(&rows, NEWLINE);
-    let mut i: usize = 0;
-    while i < n {
-        let row = word(&rows, NEWLINE, i);
-        if same(w, word(row, SPACE, 0)) {
-            return i;
+impl Verb {
+    // Its name.
+    fn name(self) -> &'static [u8]
+        ensures name { result.now ≡ name_of self }
+    {
+        match self {
+            Verb::Skip => b"",
+            Verb::Bad => b"",
+            Verb::Pcc => b"pcc",
+            Verb::Pce => b"pce",
+            Verb::Ero => b"ero",
+            Verb::Rro => b"rro",
+            Verb::EroSegment => b"ero-segment",
+            Verb::RroSegment => b"rro-segment",
+            Verb::Begin => b"begin",
+            Verb::Add => b"add",
+            Verb::Finish => b"finish",
+            Verb::Lent => b"lent",
+            Verb::Report => b"report",
+            Verb::Remove => b"remove",
+            Verb::Compact => b"compact",
+            Verb::Body => b"body",
+            Verb::Next => b"next",
+            Verb::Mark => b"mark",
+            Verb::Board => b"board",
+            Verb::Chain => b"chain",
+            Verb::Positions => b"positions",
+            Verb::Addresses => b"addresses",
+            Verb::Moved => b"moved",
         }
-        i = i + 1;
     }
-    i
-}
 
-// The command of the row at a place.
-pub fn verb_at(place: usize) -> Verb
-    ensures verb { result ≡ verb_at place }
-{
-    match place {
-        0 => Verb::Pcc,
-        1 => Verb::Pce,
-        2 => Verb::Ero,
-        3 => Verb::Rro,
-        4 => Verb::EroSegment,
-        5 => Verb::RroSegment,
-        6 => Verb::Begin,
-        7 => Verb::Add,
-        8 => Verb::Finish,
-        9 => Verb::Lent,
-        10 => Verb::Report,
-        11 => Verb::Remove,
-        12 => Verb::Compact,
-        13 => Verb::Body,
-        14 => Verb::Next,
-        15 => Verb::Mark,
-        16 => Verb::Board,
-        17 => Verb::Chain,
-        18 => Verb::Positions,
-        19 => Verb::Addresses,
-        20 => Verb::Moved,
-        _ => Verb::Bad,
+    // The command that has this name; `Bad` where none has it.
+    pub fn named(w: &[u8]) -> Verb
+        ensures verb { result ≡ verb_of w.now }
+    {
+        for verb in VERBS {
+            if same(w, verb.name()) {
+                return verb;
+            }
+        }
+        Verb::Bad
+    }
+
+    // The kinds of the words behind the name.
+    pub fn kinds(self) -> &'static [Kind]
+        ensures kinds { result.now ≡ kinds_of self }
+    {
+        match self {
+            Verb::Skip => &[],
+            Verb::Bad => &[],
+            Verb::Pcc => &[Kind::Octets],
+            Verb::Pce => &[Kind::Octets],
+            Verb::Ero => &[Kind::Number, Kind::Octets],
+            Verb::Rro => &[Kind::Number, Kind::Octets],
+            Verb::EroSegment => &[Kind::Number, Kind::Number, Kind::Octets],
+            Verb::RroSegment => &[Kind::Number, Kind::Number, Kind::Octets],
+            Verb::Begin => &[Kind::Side, Kind::Number, Kind::Size],
+            Verb::Add => &[
+                Kind::Bit,
+                Kind::Bit,
+                Kind::Octet,
+                Kind::TwoOctets,
+                Kind::Sid,
+                Kind::Nai,
+                Kind::Structure,
+                Kind::Bit,
+                Kind::Bit,
+            ],
+            Verb::Finish => &[],
+            Verb::Lent => &[],
+            Verb::Report => &[Kind::Number, Kind::Number, Kind::Octets],
+            Verb::Remove => &[Kind::Number],
+            Verb::Compact => &[Kind::Number],
+            Verb::Body => &[Kind::Number],
+            Verb::Next => &[Kind::Number, Kind::Number],
+            Verb::Mark => &[],
+            Verb::Board => &[],
+            Verb::Chain => &[],
+            Verb::Positions => &[Kind::Number, Kind::Number],
+            Verb::Addresses => &[Kind::Octets],
+            Verb::Moved => &[Kind::Number, Kind::Number, Kind::Number],
+        }
     }
 }

@@ -8,7 +8,7 @@ ghost use Rattle.command_rows.specs.Rows.{row_verb};
 use command_forms::Verb;
 
 // about a route under the session
-#[derive(Clone, Copy)]
+#[derive(Clone, Copy, Debug, PartialEq, Eq)]
 pub enum Asking {
     Ero,
     Rro,
@@ -17,7 +17,7 @@ pub enum Asking {
 }
 
 // what later lines are read under
-#[derive(Clone, Copy)]
+#[derive(Clone, Copy, Debug, PartialEq, Eq)]
 pub enum Setting {
     Pcc,
     Pce,
@@ -26,7 +26,7 @@ pub enum Setting {
 }
 
 // about the writer
-#[derive(Clone, Copy)]
+#[derive(Clone, Copy, Debug, PartialEq, Eq)]
 pub enum Writing {
     Begin,
     Add,
@@ -35,7 +35,7 @@ pub enum Writing {
 }
 
 // what may change the board
-#[derive(Clone, Copy)]
+#[derive(Clone, Copy, Debug, PartialEq, Eq)]
 pub enum Changing {
     Report,
     Remove,
@@ -43,7 +43,7 @@ pub enum Changing {
 }
 
 // what the board says
-#[derive(Clone, Copy)]
+#[derive(Clone, Copy, Debug, PartialEq, Eq)]
 pub enum Looking {
     Body,
     Next,
@@ -53,7 +53,7 @@ pub enum Looking {
     Chain,
 }
 
-#[derive(Clone, Copy)]
+#[derive(Clone, Copy, Debug, PartialEq, Eq)]
 pub enum Row {
     Skip,
     Bad,

@@ -1,28 +1,24 @@
 -- "It .. writes exactly one line for each": the answer to a line that is not skipped is one line, with no newline but at its end. Every word that a line is made of has octets above 31 only
 -- (`clear-..`), words joined by spaces have too (`line_one`), and each row of the table gives such a line (`by_verb_one`).
+use Rattle.std.specs.Prelude.{Option, None, Some}
 use Prim.Native.Nat.{ℕ, zero, suc, ◌+◌, ◌/◌, ◌%◌, ◌<◌}
 use mathlib.Core.Path.{◌≡◌, refl, sym, ◌∙◌, ap}
 use mathlib.Core.Bool.{Bool, true, false, cond, ◌&&◌}
 use mathlib.Core.List.{List, [], ◌∷◌, ◌++◌, append_assoc}
-use mathlib.Core.Option.{Option, none, some}
 use lib.Dec.{eqb, ltb}
 use lib.ListN.{take, get_or}
 use native.Mathlib.Omega.{arith}
 use borrow.Author.Tests.{lt-ltb}
 use Rattle.octets.proofs.Said.{both_true}
 use Rattle.answers.specs.declared.verdict.Verdict.{Verdict}
-use Rattle.msd.specs.Msd.{depth_in}
-use Rattle.session.specs.declared.Limit.{Limit}
-use Rattle.session.specs.declared.Limit.TheVariants.{Free, Most}
-use Rattle.session.specs.declared.Opened.{Opened}
+use Rattle.session.specs.Opened.{Opened}
 use Rattle.subobject.specs.declared.segment.Segment.{Segment}
 use Rattle.subobject_strays.specs.declared.Strays.{Strays}
 use Rattle.forms.specs.declared.Form.{Form}
 use Rattle.forms.specs.Forms.{nai_length}
-use Rattle.writer_state.specs.declared.Written.{Written}
-use Rattle.route.specs.declared.picking.Picked.{Picked}
-use Rattle.board_rules.specs.declared.answer.Handed.{Handed}
-use Rattle.board_rules.specs.declared.answer.Handed.TheVariants.{Refused, Path, Removed, Level}
+use Rattle.writer_state.specs.Written.{Written}
+use Rattle.route.specs.Picked.{Picked}
+use Rattle.board_rules.specs.Handed.{Handed, Refused, Path, Removed, Level}
 use Rattle.board_look_by_value.specs.ByValue.{body_number_by_value, body_by_value, body_form_by_value, next_by_value, moved_by_value, fresh_mark_on}
 use Rattle.printing.specs.Text.{spell, decimal_of, glyph_of, hex_of, octets_text, further_text, list_text}
 use Rattle.words.specs.Words.{newline, space, comma, ascii}
@@ -107,15 +103,15 @@ unfolding octets_text clear
 clear_octets [] = refl
 clear_octets (x ∷ xs) = clear_hex (x ∷ xs)
 
-clear_limit : (l : Limit) → clear (limit_text l) ≡ true
+clear_limit : (l : Option ℕ) → clear (limit_text l) ≡ true
 unfolding clear
-clear_limit Free = refl
-clear_limit (Most n) = clear_decimal n
+clear_limit None = refl
+clear_limit (Some n) = clear_decimal n
 
 clear_depth : (d : Option ℕ) → clear (depth_text d) ≡ true
 unfolding clear
-clear_depth none = refl
-clear_depth (some v) = clear_decimal v
+clear_depth None = refl
+clear_depth (Some v) = clear_decimal v
 
 clear_comma : (n : ℕ) (t : List ℕ) → clear t ≡ true → clear (decimal_of n ++ (comma ∷ t)) ≡ true
 clear_comma n t h = clear_append (decimal_of n) (comma ∷ t) (clear_decimal n) (clear_cons comma t (omega arith) h)
@@ -187,11 +183,11 @@ mpls_clear o = numbers_clear (bit o.mpls) (bit o.mplsn) _ (all_cons (limit_text 
 
 open_one : (o : Opened) → OneLine (open_line o)
 open_one o =
-    let v = depth_text (depth_in o.v) in
-    let m = depth_text (depth_in o.m) in
+    let v = depth_text o.v in
+    let m = depth_text o.m in
     accepted_one _ (numbers_clear (bit o.srv6) (bit o.n) _ (all_cons (limit_text o.limit) _ (clear_limit o.limit)
-    (numbers_clear (bit o.a) (bit o.r) (v ∷ m ∷ mpls_words o) (all_cons v (m ∷ mpls_words o) (clear_depth (depth_in o.v))
-    (all_cons m (mpls_words o) (clear_depth (depth_in o.m)) (mpls_clear o))))))
+    (numbers_clear (bit o.a) (bit o.r) (v ∷ m ∷ mpls_words o) (all_cons v (m ∷ mpls_words o) (clear_depth o.v)
+    (all_cons m (mpls_words o) (clear_depth o.m) (mpls_clear o))))))
 
 open_refusal_one : (number form : ℕ) → OneLine (open_refusal_line number form)
 open_refusal_one number form = line_one (decimal_of 0 ∷ decimal_of form ∷ []) (decimal_of number) (clear_decimal number) (numbers_clear 0 form [] all_none)

@@ -7,6 +7,7 @@ ghost use Rattle.printing.specs.Text.{Behind, field_size};
 ghost use Rattle.console_lines.specs.Lines.{short, done_line, one_line, two_line, octets_line, form_line, list_line, path_line, removed_line, level_line};
 
 use console_lines::{ACCEPTED, END};
+use printing::Text;
 
 // `0 0`
 pub fn done(out: &mut [u8]) -> usize
@@ -14,7 +15,9 @@ pub fn done(out: &mut [u8]) -> usize
     ensures told { Behind out.old out.new 0 result (done_line) }
     ensures within { result ≤ short }
 {
-    printing::push(out, 0, b"0 0\n")
+    let mut text = Text::new(out);
+    text.push(b"0 0\n");
+    text.at
 }
 
 // `0 0 A`
@@ -23,9 +26,11 @@ pub fn one(out: &mut [u8], a: u64) -> usize
     ensures told { Behind out.old out.new 0 result (one_line a) }
     ensures within { result ≤ short }
 {
-    let at = printing::push(out, 0, &ACCEPTED);
-    let at = printing::field(out, at, a);
-    printing::push(out, at, &END)
+    let mut text = Text::new(out);
+    text.push(&ACCEPTED);
+    text.field(a);
+    text.push(&END);
+    text.at
 }
 
 // `0 0 A B`
@@ -34,10 +39,12 @@ pub fn two(out: &mut [u8], a: u64, b: u64) -> usize
     ensures told { Behind out.old out.new 0 result (two_line a b) }
     ensures within { result ≤ short }
 {
-    let at = printing::push(out, 0, &ACCEPTED);
-    let at = printing::field(out, at, a);
-    let at = printing::field(out, at, b);
-    printing::push(out, at, &END)
+    let mut text = Text::new(out);
+    text.push(&ACCEPTED);
+    text.field(a);
+    text.field(b);
+    text.push(&END);
+    text.at
 }
 
 // `0 0 OCTETS`
@@ -46,9 +53,11 @@ pub fn octets(out: &mut [u8], s: &[u8]) -> usize
     ensures told { Behind out.old out.new 0 result (octets_line s.now) }
     ensures within { result ≤ 2 * length s.now + short }
 {
-    let at = printing::push(out, 0, &ACCEPTED);
-    let at = printing::octets_field(out, at, s);
-    printing::push(out, at, &END)
+    let mut text = Text::new(out);
+    text.push(&ACCEPTED);
+    text.octets_field(s);
+    text.push(&END);
+    text.at
 }
 
 // `0 0 FORM OCTETS`
@@ -57,10 +66,12 @@ pub fn formed(out: &mut [u8], form: u64, s: &[u8]) -> usize
     ensures told { Behind out.old out.new 0 result (form_line form s.now) }
     ensures within { result ≤ 2 * length s.now + short }
 {
-    let at = printing::push(out, 0, &ACCEPTED);
-    let at = printing::field(out, at, form);
-    let at = printing::octets_field(out, at, s);
-    printing::push(out, at, &END)
+    let mut text = Text::new(out);
+    text.push(&ACCEPTED);
+    text.field(form);
+    text.octets_field(s);
+    text.push(&END);
+    text.at
 }
 
 // `0 0 LIST`
@@ -69,9 +80,11 @@ pub fn list(out: &mut [u8], s: &[u8]) -> usize
     ensures told { Behind out.old out.new 0 result (list_line s.now) }
     ensures within { result ≤ field_size * length s.now + short }
 {
-    let at = printing::push(out, 0, &ACCEPTED);
-    let at = printing::list_field(out, at, s);
-    printing::push(out, at, &END)
+    let mut text = Text::new(out);
+    text.push(&ACCEPTED);
+    text.list_field(s);
+    text.push(&END);
+    text.at
 }
 
 // `0 0 path KEY VERSION FORM OCTETS`
@@ -80,12 +93,14 @@ pub fn path(out: &mut [u8], key: u64, version: u64, form: u64, s: &[u8]) -> usiz
     ensures told { Behind out.old out.new 0 result (path_line key version form s.now) }
     ensures within { result ≤ 2 * length s.now + short }
 {
-    let at = printing::push(out, 0, b"0 0 path");
-    let at = printing::field(out, at, key);
-    let at = printing::field(out, at, version);
-    let at = printing::field(out, at, form);
-    let at = printing::octets_field(out, at, s);
-    printing::push(out, at, &END)
+    let mut text = Text::new(out);
+    text.push(b"0 0 path");
+    text.field(key);
+    text.field(version);
+    text.field(form);
+    text.octets_field(s);
+    text.push(&END);
+    text.at
 }
 
 // `0 0 removed KEY VERSION`
@@ -94,10 +109,12 @@ pub fn removed(out: &mut [u8], key: u64, version: u64) -> usize
     ensures told { Behind out.old out.new 0 result (removed_line key version) }
     ensures within { result ≤ short }
 {
-    let at = printing::push(out, 0, b"0 0 removed");
-    let at = printing::field(out, at, key);
-    let at = printing::field(out, at, version);
-    printing::push(out, at, &END)
+    let mut text = Text::new(out);
+    text.push(b"0 0 removed");
+    text.field(key);
+    text.field(version);
+    text.push(&END);
+    text.at
 }
 
 // `0 0 level VERSION`
@@ -106,7 +123,9 @@ pub fn level(out: &mut [u8], version: u64) -> usize
     ensures told { Behind out.old out.new 0 result (level_line version) }
     ensures within { result ≤ short }
 {
-    let at = printing::push(out, 0, b"0 0 level");
-    let at = printing::field(out, at, version);
-    printing::push(out, at, &END)
+    let mut text = Text::new(out);
+    text.push(b"0 0 level");
+    text.field(version);
+    text.push(&END);
+    text.at
 }

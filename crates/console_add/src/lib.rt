@@ -7,7 +7,7 @@ ghost use Rattle.console_state.specs.Spelled.{octets_in};
 ghost use Rattle.console_state.specs.Rooms.{Spells};
 ghost use Rattle.console_add.specs.Added.{sid_word, nai_word, sid_in, nai_in, segment_said, AddForm};
 
-use command::{Command, number_at, octets_at};
+use command::{Line, number_at, octets_at};
 use subobject::Segment;
 use words::{SPACE, word};
 
@@ -28,7 +28,7 @@ fn sid_in(line: &[u8], room: &mut [u8]) -> [u8; 16]
     ensures room { length room.new ≡ length room.old }
 {
     let n = octets_at(line, SID_WORD, room);
-    octets::part16(room, 0, n)
+    octets::part(room, 0, n)
 }
 
 fn nai_in(line: &[u8], room: &mut [u8]) -> [u8; 40]
@@ -37,30 +37,31 @@ fn nai_in(line: &[u8], room: &mut [u8]) -> [u8; 40]
     ensures room { length room.new ≡ length room.old }
 {
     let n = octets_at(line, NAI_WORD, room);
-    octets::part40(room, 0, n)
+    octets::part(room, 0, n)
 }
 
-pub fn segment_in(c: Command, line: &[u8], room: &mut [u8]) -> Segment
-    requires { Spells line.now room.old × AddForm c line.now }
-    ensures segment { result ≡ segment_said c line.now }
+pub fn segment_in(line: Line<'_>, room: &mut [u8]) -> Segment
+    requires { Spells line.octets.now room.old × AddForm line.command line.octets.now }
+    ensures segment { result ≡ segment_said line.entry.command line.entry.octets.now }
     ensures room { length room.new ≡ length room.old }
 {
-    let labelled = number_at(line, LABELLED_WORD) == 1;
-    let complete = number_at(line, COMPLETE_WORD) == 1;
-    let sid = sid_in(line, room);
-    let nai = nai_in(line, room);
-    let structure = decimal::structure(word(line, SPACE, STRUCTURE_WORD));
+    let Line { command: c, octets } = line;
+    let labelled = number_at(octets, LABELLED_WORD) == 1;
+    let complete = number_at(octets, COMPLETE_WORD) == 1;
+    let sid = sid_in(octets, room);
+    let nai = nai_in(octets, room);
+    let structure = decimal::structure(word(octets, SPACE, STRUCTURE_WORD));
     Segment {
         loose: c.one == 1,
         verify: c.two == 1,
         nt: c.three as u8,
         behaviour: c.four as u16,
-        hassid: !decimal::is_none(word(line, SPACE, SID_WORD)),
-        sid: sid,
-        nai: nai,
-        structured: !decimal::is_none(word(line, SPACE, STRUCTURE_WORD)),
-        structure: structure,
-        labelled: labelled,
-        complete: complete,
+        hassid: !decimal::is_none(word(octets, SPACE, SID_WORD)),
+        sid,
+        nai,
+        structured: !decimal::is_none(word(octets, SPACE, STRUCTURE_WORD)),
+        structure,
+        labelled,
+        complete,
     }
 }

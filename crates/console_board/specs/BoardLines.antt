@@ -4,8 +4,7 @@ use Rattle.session.specs.declared.Sessions.{Sessions}
 use Rattle.octets.specs.Octets.{part}
 use Rattle.board_record.specs.declared.record.Board.{Board}
 use Rattle.board_record.specs.Sizes.{room}
-use Rattle.board_rules.specs.declared.answer.Handed.{Handed}
-use Rattle.board_rules.specs.declared.answer.Handed.TheVariants.{Refused, Path, Removed, Level}
+use Rattle.board_rules.specs.Handed.{Handed, Refused, Path, Removed, Level}
 use Rattle.board_by_value.specs.ByValue.{remove_by_value, compact_by_value}
 use Rattle.board_report_by_value.specs.ByValue.{report_by_value, report_store_by_value}
 use Rattle.board_look_by_value.specs.ByValue.{body_number_by_value, body_by_value, body_form_by_value, next_by_value, moved_by_value, fresh_mark_on}

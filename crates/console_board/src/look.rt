@@ -15,9 +15,8 @@ pub fn body(b: Board, c: Command, store: &[u8], out: &mut [u8]) -> usize
     requires { 2 * length store.now + short ≤ length out.old }
     ensures told { Behind out.old out.new 0 result (body_line b store.now c) }
 {
-    let v = board_look_by_value::body_number(b, store, c.one);
-    if v.number != 0 {
-        return console_lines::refusal(out, v.number, v.place);
+    if let Err(refusal) = board_look_by_value::body_number(b, store, c.one) {
+        return console_lines::refusal(out, refusal.reason.number(), refusal.place);
     }
     let form = board_look_by_value::body_form(b, store, c.one);
     let path = board_look_by_value::body(b, store, c.one);
@@ -30,16 +29,16 @@ pub fn next(b: Board, c: Command, store: &[u8], out: &mut [u8]) -> usize
     ensures told { Behind out.old out.new 0 result (next_line b store.now c) }
 {
     match board_look_by_value::next(b, store, c.one, c.two) {
-        Handed::Refused(v) => console_lines::refusal(out, v.number, v.place),
-        Handed::Path(change, path) => console_accepted::path(
+        Err(refusal) => console_lines::refusal(out, refusal.reason.number(), refusal.place),
+        Ok(Handed::Path(change, path)) => console_accepted::path(
             out,
             change.key,
             change.version,
             path.form as u64,
             named(store, path.place, path.length),
         ),
-        Handed::Removed(change) => console_accepted::removed(out, change.key, change.version),
-        Handed::Level(version) => console_accepted::level(out, version),
+        Ok(Handed::Removed(change)) => console_accepted::removed(out, change.key, change.version),
+        Ok(Handed::Level(version)) => console_accepted::level(out, version),
     }
 }
 
@@ -48,11 +47,10 @@ pub fn moved(b: Board, c: Command, store: &[u8], out: &mut [u8]) -> usize
     requires { short ≤ length out.old }
     ensures told { Behind out.old out.new 0 result (moved_line b store.now c) }
 {
-    let v = board_look_by_value::moved(b, store, c.one, c.two, c.three);
-    if v.number != 0 {
-        return console_lines::refusal(out, v.number, v.place);
+    match board_look_by_value::moved(b, store, c.one, c.two, c.three) {
+        Ok(yes) => console_accepted::one(out, u64::from(yes)),
+        Err(refusal) => console_lines::refusal(out, refusal.reason.number(), refusal.place),
     }
-    console_accepted::one(out, v.count as u64)
 }
 
 // The octets that a place and a length name.
@@ -87,8 +85,7 @@ pub fn chain(b: Board, out: &mut [u8]) -> usize
     requires { field_size * places + short ≤ length out.old }
     ensures told { Behind out.old out.new 0 result (chain_line b) }
 {
-    let order = b.order;
     let mut laid = [0u8; PLACES];
-    let n = console_chain::along(&order, &mut laid);
+    let n = console_chain::along(&b.order, &mut laid);
     console_accepted::list(out, &laid[..n])
 }

@@ -10,21 +10,22 @@ ghost use Rattle.console_state.specs.State.{list_in};
 ghost use Rattle.console_board_rows.specs.Boarded.{changed_turn, looked_line};
 
 use board_record::Board;
-use command::Command;
+use command::{Command, Line};
 use command_rows::{Changing, Looking};
 use console_board::{
     Boarded, body, chain, compacted, mark, moved, next, numbers, removed, reported,
 };
+use console_state::{RouteLine, listed};
 use session::Sessions;
 
-pub fn changed(
+pub fn changed<'a>(
     row: Changing,
     b: Board,
     c: Command,
-    line: &[u8],
+    line: &'a [u8],
     sessions: Sessions,
     store: &mut [u8],
-    memory: &[u8],
+    memory: &'a [u8],
     given: usize,
     room: &mut [u8],
     out: &mut [u8],
@@ -36,7 +37,18 @@ pub fn changed(
         Behind out.old out.new 0 result.end turn.answer }
 {
     match row {
-        Changing::Report => reported(b, c, line, sessions, store, memory, given, room, out),
+        Changing::Report => {
+            let addresses = listed(memory, given);
+            let route = RouteLine {
+                line: Line {
+                    command: c,
+                    octets: line,
+                },
+                sessions,
+                addresses,
+            };
+            reported(b, route, store, room, out)
+        }
         Changing::Remove => removed(b, c, store, out),
         Changing::Compact => compacted(b, c, store, out),
     }

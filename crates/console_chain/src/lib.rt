@@ -11,14 +11,12 @@ pub fn along(order: &[u8], laid: &mut [u8]) -> usize
     ensures named { take result laid.new ≡ chain_of order.now }
     ensures within { result ≤ places }
 {
-    let mut i: usize = 0;
-    while i < board_record::PLACES {
+    for i in 0..board_record::PLACES {
         let n = order[i];
         if n == 0 {
             return i;
         }
         laid[i] = n - 1;
-        i += 1;
     }
-    i
+    board_record::PLACES
 }

@@ -6,7 +6,7 @@ use lib.ListN.{length, take, drop}
 use lib.Seq.{take_at, drop_at}
 use Rattle.flag_positions.specs.declared.Positions.{Positions}
 use Rattle.command_forms.specs.Forms.{most_size}
-use Rattle.session.specs.declared.Opened.{Opened}
+use Rattle.session.specs.Opened.{Opened}
 use Rattle.board_record.specs.declared.record.Board.{Board}
 use Rattle.writer_state.specs.declared.Writer.{Writer}
 use Rattle.printing.specs.Text.{Behind}

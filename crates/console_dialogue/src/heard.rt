@@ -36,18 +36,14 @@ pub fn answer(
     ensures told { Behind out.old out.new 0 result.end (turn_now (heard_of h store.old memory.old line.now)).answer }
     ensures begun { result.hearing.kept ≡ 0 }
 {
-    let kept = h.kept;
     let lines = numbered(h.lines);
-    let before = h.state;
-    let turn = answered(before, &line[..kept], lines, store, memory, room, out);
-    let after = turn.state;
-    let hearing = Hearing {
-        state: after,
-        kept: 0,
-        lines: lines,
-    };
+    let turn = answered(h.state, &line[..h.kept], lines, store, memory, room, out);
     Said {
-        hearing: hearing,
+        hearing: Hearing {
+            state: turn.state,
+            kept: 0,
+            lines,
+        },
         end: turn.end,
     }
 }

@@ -47,12 +47,11 @@ fn take_all<R: Read, W: Write>(
 {
     let mut heard = h;
     let mut at: usize = 0;
+    // no `for`: each line that is taken in says where the next begins
     while at < read.len() {
         let onward = take_in(heard, read, at, line, store, memory, room, out);
-        let end = onward.end;
-        streams.write(&out[..end]);
-        let next = onward.hearing;
-        heard = next;
+        streams.write(&out[..onward.end]);
+        heard = onward.hearing;
         at = onward.next;
     }
     heard
@@ -91,11 +90,9 @@ fn listen<R: Read, W: Write>(
         };
     }
     let said = answer(h, line, store, memory, room, out);
-    let end = said.end;
-    streams.write(&out[..end]);
-    let last = said.hearing;
+    streams.write(&out[..said.end]);
     Listened {
-        hearing: last,
+        hearing: said.hearing,
         more: false,
     }
 }
@@ -115,16 +112,16 @@ fn go_on<R: Read, W: Write>(
 {
     let state = console_state::start();
     let mut h = Hearing {
-        state: state,
+        state,
         kept: 0,
         lines: 0,
     };
     let mut more = true;
     let mut turns = u64::MAX;
+    // no `for`: the input ends it, and the count is there for the proof alone
     while turns > 0 && more {
         let l = listen(streams, h, line, store, memory, room, out);
-        let next = l.hearing;
-        h = next;
+        h = l.hearing;
         more = l.more;
         turns -= 1;
     }

@@ -37,17 +37,11 @@ pub fn take_in(
     let part = part_of(read, at);
     let end = at + part.len();
     let kept = keep(line, h.kept, part);
-    let state = h.state;
-    let longer = Hearing {
-        state: state,
-        kept: kept,
-        lines: h.lines,
-    };
+    let longer = Hearing { kept, ..h };
     if end < read.len() {
         let said = answer(longer, line, store, memory, room, out);
-        let hearing = said.hearing;
         return Onward {
-            hearing: hearing,
+            hearing: said.hearing,
             end: said.end,
             next: end + 1,
         };

@@ -25,15 +25,17 @@ pub fn answered(
         result.state store.new memory.new out.old out.new result.end }
 {
     let c = command::parse(line);
-    let verb = c.verb;
-    let row = row_of(verb);
-    let pcc = state.pcc;
-    let pce = state.pce;
-    let s = session::agree(pcc, pce);
-    let b = state.board;
-    let w = state.writer;
-    let size = state.size;
-    let given = state.given;
+    let row = row_of(c.verb);
+    let State {
+        board,
+        pcc,
+        pce,
+        writer: w,
+        size,
+        given,
+        ..
+    } = state;
+    let s = session::agree(pcc.ok(), pce.ok());
     match row {
         Row::Skip => ended(state, 0),
         Row::Bad => ended(state, console_lines::bad(out, n)),
@@ -45,8 +47,8 @@ pub fn answered(
         ),
         Row::Changes(x) => boarded(
             state,
-            changed(x, b, c, line, s, store, memory, given, room, out),
+            changed(x, board, c, line, s, store, memory, given, room, out),
         ),
-        Row::Looks(x) => ended(state, looked(x, b, c, store, out)),
+        Row::Looks(x) => ended(state, looked(x, board, c, store, out)),
     }
 }

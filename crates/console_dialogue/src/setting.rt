@@ -27,13 +27,11 @@ pub fn set(
 {
     match row {
         Setting::Pcc => {
-            let p = state.positions;
-            let o = console_routes::heard(p, line, room);
+            let o = console_routes::heard(state.positions, line, room);
             ended(with_pcc(state, o), console_fields::opened(out, o))
         }
         Setting::Pce => {
-            let p = state.positions;
-            let o = console_routes::heard(p, line, room);
+            let o = console_routes::heard(state.positions, line, room);
             ended(with_pce(state, o), console_fields::opened(out, o))
         }
         Setting::Positions => ended(

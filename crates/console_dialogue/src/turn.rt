@@ -15,24 +15,19 @@ pub struct Turn {
 pub fn ended(state: State, end: usize) -> Turn
     ensures ended { (result.state ≡ state) × (result.end ≡ end) }
 {
-    Turn {
-        state: state,
-        end: end,
-    }
+    Turn { state, end }
 }
 
 // After a command about the writer.
 pub fn composed(state: State, w: Composed) -> Turn
     ensures ended { (result.state ≡ with_writer state w.writer w.size) × (result.end ≡ w.end) }
 {
-    let writer = w.writer;
-    ended(with_writer(state, writer, w.size), w.end)
+    ended(with_writer(state, w.writer, w.size), w.end)
 }
 
 // After a command that may change the board.
 pub fn boarded(state: State, b: Boarded) -> Turn
     ensures ended { (result.state ≡ with_board state b.board) × (result.end ≡ b.end) }
 {
-    let board = b.board;
-    ended(with_board(state, board), b.end)
+    ended(with_board(state, b.board), b.end)
 }

@@ -1,12 +1,13 @@
 -- What an OPEN carries and what a segment says, as lines (console.md, the table's last column).
-use Rattle.std.specs.Prelude.{ℕ, Bool, cond, List, [], ◌∷◌, ◌++◌, eqb, get_or, take}
+use Rattle.std.specs.Prelude.{ℕ, ◌+◌, ◌*◌, Bool, cond, List, [], ◌∷◌, ◌++◌, eqb, get_or, take}
 use Rattle.words.specs.Words.{comma, dash}
-use Rattle.session.specs.declared.Opened.{Opened}
+use Rattle.session.specs.Opened.{Opened}
 use Rattle.subobject.specs.declared.segment.Segment.{Segment}
 use Rattle.subobject_strays.specs.declared.Strays.{Strays}
 use Rattle.forms.specs.declared.Form.{Form}
 use Rattle.forms.specs.Forms.{nai_length}
-use Rattle.printing.specs.Text.{decimal_of, octets_text}
+use Rattle.printing.specs.Text.{decimal_of, octets_text, spaced, field_size}
+use Rattle.subobject.specs.Layout.{sid_size, nai_size}
 use Rattle.console_line_ends.specs.Ends.{bit, limit_text, flag_words, label_words}
 use Rattle.console_lines.specs.Lines.{acceptance, open_refusal_line}
 
@@ -29,6 +30,18 @@ structure_text bits there =
     cond there
     (decimal_of (get_or bits 0 0) ++ (comma ∷ decimal_of (get_or bits 1 0) ++ (comma ∷ decimal_of (get_or bits 2 0) ++ (comma ∷ decimal_of (get_or bits 3 0)))))
     (dash ∷ [])
+
+-- ` L V NT BEHAVIOUR`
+abbrev pub head_text : Segment → List ℕ
+head_text g = spaced (decimal_of (bit g.loose)) ++ (spaced (decimal_of (bit g.verify)) ++ (spaced (decimal_of g.nt) ++ spaced (decimal_of g.behaviour)))
+
+-- ` SID NAI STRUCTURE`, and the octets that these take at most
+abbrev pub parts_text : Form → Segment → List ℕ
+parts_text form g =
+    spaced (octets_text (take (cond g.hassid form.sid 0) g.sid)) ++ (spaced (octets_text (take (nai_length form g.nt) g.nai)) ++ spaced (structure_text g.structure g.structured))
+
+abbrev pub parts_size : ℕ
+parts_size = 2 * sid_size + 2 + (2 * nai_size + 2) + 4 * field_size
 
 -- `0 0 L V NT BEHAVIOUR SID NAI STRUCTURE M C FLAGS SFLAGS RESERVED`, "SID and NAI as OCTETS of their own lengths, or `-`": the SID's is the form's
 abbrev pub segment_line : Form → Segment → Strays → List ℕ

@@ -7,13 +7,14 @@ ghost use Rattle.subobject.specs.Layout.{sid_size, nai_size};
 ghost use Rattle.forms.specs.Forms.{nai_length};
 ghost use Rattle.forms.specs.Sized.{Sized};
 ghost use Rattle.printing.specs.Text.{Behind, field_size, spaced, octets_text};
-ghost use Rattle.console_fields.specs.Shown.{long, open_line, opened_line, structure_text, segment_line};
+ghost use Rattle.session.specs.Answered.{carried_of, opened_of};
+ghost use Rattle.console_fields.specs.Shown.{long, open_line, opened_line, structure_text, head_text, parts_text, parts_size, segment_line};
 
-use console_line_ends::{NONE_FIELD, bit, flags_end, labels_end, limit_field};
+use console_line_ends::{NONE_FIELD, flags_end, labels_end, limit_field};
 use console_lines::ACCEPTED;
 use forms::Form;
-use printing::JOINT;
-use session::Opened;
+use printing::{JOINT, Text};
+use session::{Carried, NO_FORM, NO_SRV6, OpenRefusal};
 use subobject::Segment;
 use subobject_strays::Strays;
 
@@ -21,86 +22,114 @@ use subobject_strays::Strays;
 pub const LONG: usize = 512;
 
 // `0 0 SRV6 N LIMIT A R V M MPLS MN MLIMIT`
-fn carried(out: &mut [u8], o: Opened) -> usize
+fn carried_line(out: &mut [u8], carried: Carried) -> usize
     requires { long ≤ length out.old }
-    ensures told { Behind out.old out.new 0 result (open_line o) }
+    ensures told { Behind out.old out.new 0 result (open_line (carried_of carried)) }
     ensures within { result ≤ long }
 {
-    let at = printing::push(out, 0, &ACCEPTED);
-    let at = printing::field(out, at, bit(o.srv6));
-    let at = printing::field(out, at, bit(o.n));
-    let limit = o.limit;
-    let at = limit_field(out, at, limit);
-    flags_end(out, at, o)
+    let srv6 = carried.srv6.unwrap_or(NO_SRV6);
+    let mut text = Text::new(out);
+    text.push(&ACCEPTED);
+    text.field(u64::from(carried.srv6.is_some()));
+    text.field(u64::from(srv6.n));
+    limit_field(&mut text, srv6.limit);
+    flags_end(&mut text, carried);
+    text.at
 }
 
 // An OPEN's answer, a refusal too.
-pub fn opened(out: &mut [u8], o: Opened) -> usize
+pub fn opened(out: &mut [u8], answer: Result<Carried, OpenRefusal>) -> usize
     requires { long ≤ length out.old }
-    ensures told { Behind out.old out.new 0 result (opened_line o) }
+    ensures told { Behind out.old out.new 0 result (opened_line (opened_of answer)) }
     ensures within { result ≤ long }
 {
-    if o.number != 0 {
-        return console_lines::open_refusal(out, o.number, o.form);
+    match answer {
+        Ok(carried) => carried_line(out, carried),
+        Err(OpenRefusal { reason, form }) => {
+            console_lines::open_refusal(out, reason.number(), form.unwrap_or(NO_FORM))
+        }
     }
-    carried(out, o)
-}
-
-fn wide(x: u8) -> u64
-    ensures same { result ≡ x }
-{
-    x as u64
 }
 
 // A space and four numbers joined by commas.
-fn bits_field(out: &mut [u8], at: usize, bits: [u8; 4]) -> usize
-    requires { at + 4 * field_size ≤ length out.old }
-    ensures behind { Behind out.old out.new at result (spaced (structure_text bits true)) }
-    ensures short { result ≤ at + 4 * field_size }
+fn bits_field(text: &mut Text, bits: [u8; 4])
+    requires { text.old.at + 4 * field_size ≤ length text.old.out.now }
+    ensures same_reference { text.new.out.ghost_name ≡ text.old.out.ghost_name }
+    ensures behind { Behind text.old.out.now text.new.out.now text.old.at text.new.at (spaced (structure_text bits true)) }
+    ensures short { text.new.at ≤ text.old.at + 4 * field_size }
 {
-    let a = wide(bits[0]);
-    let b = wide(bits[1]);
-    let c = wide(bits[2]);
-    let d = wide(bits[3]);
-    let end = printing::field(out, at, a);
-    let end = printing::push(out, end, &JOINT);
-    let end = printing::number(out, end, b);
-    let end = printing::push(out, end, &JOINT);
-    let end = printing::number(out, end, c);
-    let end = printing::push(out, end, &JOINT);
-    printing::number(out, end, d)
+    let [a, b, c, d] = bits;
+    text.field(u64::from(a));
+    text.push(&JOINT);
+    text.number(u64::from(b));
+    text.push(&JOINT);
+    text.number(u64::from(c));
+    text.push(&JOINT);
+    text.number(u64::from(d));
 }
 
 // The same, or `-` for none.
-fn structure_field(out: &mut [u8], at: usize, bits: [u8; 4], there: bool) -> usize
-    requires { at + 4 * field_size ≤ length out.old }
-    ensures behind { Behind out.old out.new at result (spaced (structure_text bits there)) }
-    ensures short { result ≤ at + 4 * field_size }
+fn structure_field(text: &mut Text, bits: [u8; 4], there: bool)
+    requires { text.old.at + 4 * field_size ≤ length text.old.out.now }
+    ensures same_reference { text.new.out.ghost_name ≡ text.old.out.ghost_name }
+    ensures behind { Behind text.old.out.now text.new.out.now text.old.at text.new.at (spaced (structure_text bits there)) }
+    ensures short { text.new.at ≤ text.old.at + 4 * field_size }
 {
     if there {
-        return bits_field(out, at, bits);
+        bits_field(text, bits);
+    } else {
+        text.push(&NONE_FIELD);
     }
-    printing::push(out, at, &NONE_FIELD)
 }
 
 // A space and the SID, or `-` for none.
-fn sid_field(out: &mut [u8], at: usize, form: Form, sid: [u8; 16], there: bool) -> usize
-    requires { (at + (2 * sid_size + 2) ≤ length out.old) × (form.sid ≤ sid_size) }
-    ensures behind { Behind out.old out.new at result (spaced (octets_text (take (cond there form.sid 0) sid))) }
-    ensures short { result ≤ at + (2 * sid_size + 2) }
+fn sid_field(text: &mut Text, form: Form, sid: [u8; 16], there: bool)
+    requires room { text.old.at + (2 * sid_size + 2) ≤ length text.old.out.now }
+    requires sid { form.sid ≤ sid_size }
+    ensures same_reference { text.new.out.ghost_name ≡ text.old.out.ghost_name }
+    ensures behind { Behind text.old.out.now text.new.out.now text.old.at text.new.at (spaced (octets_text (take (cond there form.sid 0) sid))) }
+    ensures short { text.new.at ≤ text.old.at + (2 * sid_size + 2) }
 {
-    let k = octets::pick(there, octets::wide(form.sid), 0);
-    printing::octets_field(out, at, &sid[..k])
+    let k = if there { usize::from(form.sid) } else { 0 };
+    text.octets_field(&sid[..k]);
 }
 
 // A space and the NAI, or `-` for none.
-fn nai_field(out: &mut [u8], at: usize, form: Form, nai: [u8; 40], nt: usize) -> usize
-    requires { (at + (2 * nai_size + 2) ≤ length out.old) × (Sized form) }
-    ensures behind { Behind out.old out.new at result (spaced (octets_text (take (nai_length form nt) nai))) }
-    ensures short { result ≤ at + (2 * nai_size + 2) }
+fn nai_field(text: &mut Text, form: Form, nai: [u8; 40], nt: usize)
+    requires room { text.old.at + (2 * nai_size + 2) ≤ length text.old.out.now }
+    requires sized { Sized form }
+    ensures same_reference { text.new.out.ghost_name ≡ text.old.out.ghost_name }
+    ensures behind { Behind text.old.out.now text.new.out.now text.old.at text.new.at (spaced (octets_text (take (nai_length form nt) nai))) }
+    ensures short { text.new.at ≤ text.old.at + (2 * nai_size + 2) }
 {
     let n = forms::nai_length(form, nt);
-    printing::octets_field(out, at, &nai[..n])
+    text.octets_field(&nai[..n]);
+}
+
+// ` L V NT BEHAVIOUR`
+fn head_fields(text: &mut Text, g: Segment)
+    requires { text.old.at + 4 * field_size ≤ length text.old.out.now }
+    ensures same_reference { text.new.out.ghost_name ≡ text.old.out.ghost_name }
+    ensures behind { Behind text.old.out.now text.new.out.now text.old.at text.new.at (head_text g) }
+    ensures short { text.new.at ≤ text.old.at + 4 * field_size }
+{
+    text.field(u64::from(g.loose));
+    text.field(u64::from(g.verify));
+    text.field(u64::from(g.nt));
+    text.field(u64::from(g.behaviour));
+}
+
+// ` SID NAI STRUCTURE`
+fn part_fields(text: &mut Text, form: Form, g: Segment)
+    requires room { text.old.at + parts_size ≤ length text.old.out.now }
+    requires sized { Sized form }
+    ensures same_reference { text.new.out.ghost_name ≡ text.old.out.ghost_name }
+    ensures behind { Behind text.old.out.now text.new.out.now text.old.at text.new.at (parts_text form g) }
+    ensures short { text.new.at ≤ text.old.at + parts_size }
+{
+    sid_field(text, form, g.sid, g.hassid);
+    nai_field(text, form, g.nai, usize::from(g.nt));
+    structure_field(text, g.structure, g.structured);
 }
 
 // `0 0 L V NT BEHAVIOUR SID NAI STRUCTURE M C FLAGS SFLAGS RESERVED`, of a segment of a form
@@ -109,16 +138,10 @@ pub fn segment(out: &mut [u8], form: Form, g: Segment, x: Strays) -> usize
     ensures told { Behind out.old out.new 0 result (segment_line form g x) }
     ensures within { result ≤ long }
 {
-    let at = printing::push(out, 0, &ACCEPTED);
-    let at = printing::field(out, at, bit(g.loose));
-    let at = printing::field(out, at, bit(g.verify));
-    let at = printing::field(out, at, g.nt as u64);
-    let at = printing::field(out, at, g.behaviour as u64);
-    let sid = g.sid;
-    let at = sid_field(out, at, form, sid, g.hassid);
-    let nai = g.nai;
-    let at = nai_field(out, at, form, nai, g.nt as usize);
-    let bits = g.structure;
-    let at = structure_field(out, at, bits, g.structured);
-    labels_end(out, at, g.labelled, g.complete, x)
+    let mut text = Text::new(out);
+    text.push(&ACCEPTED);
+    head_fields(&mut text, g);
+    part_fields(&mut text, form, g);
+    labels_end(&mut text, g.labelled, g.complete, x);
+    text.at
 }

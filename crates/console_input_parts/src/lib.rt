@@ -19,5 +19,5 @@ pub fn part(read: &[u8], at: usize) -> &[u8]
 pub fn numbered(lines: u64) -> u64
     ensures number { result ≡ (lines + 1) % 2 ^ 64 }
 {
-    std::num::wrapping_add_u64(lines, 1)
+    lines.wrapping_add(1)
 }

@@ -1,24 +1,20 @@
 -- How the lines of an OPEN and of a segment end (console.md, the table's last column).
-use Rattle.std.specs.Prelude.{ℕ, ◌+◌, ◌*◌, Bool, List, [], ◌∷◌}
-use Rattle.std.proofs.Math.Option.{Option, none, some}
+use Rattle.std.specs.Prelude.{ℕ, ◌+◌, ◌*◌, Bool, List, [], ◌∷◌, Option, None, Some}
 -- "0 or 1"
 pub use Rattle.octets.specs.Octets.{bit}
 use Rattle.words.specs.Words.{dash}
-use Rattle.msd.specs.Msd.{depth_in}
-use Rattle.session.specs.declared.Limit.{Limit}
-use Rattle.session.specs.declared.Limit.TheVariants.{Free, Most}
-use Rattle.session.specs.declared.Opened.{Opened}
+use Rattle.session.specs.Opened.{Opened}
 use Rattle.subobject_strays.specs.declared.Strays.{Strays}
 use Rattle.printing.specs.Text.{decimal_of, field_size}
 
 -- "a number or `-`"
-abbrev pub limit_text : Limit → List ℕ
-limit_text Free = dash ∷ []
-limit_text (Most n) = decimal_of n
+abbrev pub limit_text : Option ℕ → List ℕ
+limit_text None = dash ∷ []
+limit_text (Some n) = decimal_of n
 
 abbrev pub depth_text : Option ℕ → List ℕ
-depth_text none = dash ∷ []
-depth_text (some v) = decimal_of v
+depth_text None = dash ∷ []
+depth_text (Some v) = decimal_of v
 
 -- `MPLS MN MLIMIT`: "MPLS, its N and its limit behind"
 abbrev pub mpls_words : Opened → List (List ℕ)
@@ -30,7 +26,7 @@ mpls_end_size = 3 * field_size + 1
 
 -- `A R V M`, "V and M numbers or `-`", and what is behind them
 abbrev pub flag_words : Opened → List (List ℕ)
-flag_words o = decimal_of (bit o.a) ∷ decimal_of (bit o.r) ∷ depth_text (depth_in o.v) ∷ depth_text (depth_in o.m) ∷ mpls_words o
+flag_words o = decimal_of (bit o.a) ∷ decimal_of (bit o.r) ∷ depth_text o.v ∷ depth_text o.m ∷ mpls_words o
 
 abbrev pub flags_end_size : ℕ
 flags_end_size = 4 * field_size + mpls_end_size

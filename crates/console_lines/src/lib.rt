@@ -8,6 +8,7 @@ ghost use Rattle.printing.specs.Text.{Behind};
 ghost use Rattle.console_lines.specs.Lines.{short, refusal_line, open_refusal_line, bad_line, verdict_line};
 
 use answers::Verdict;
+use printing::Text;
 use words::NEWLINE;
 
 // the octets that a line of words and numbers takes at most
@@ -25,9 +26,11 @@ pub fn refusal(out: &mut [u8], number: usize, place: usize) -> usize
     ensures told { Behind out.old out.new 0 result (refusal_line number place) }
     ensures within { result ≤ short }
 {
-    let at = printing::number(out, 0, number as u64);
-    let at = printing::field(out, at, place as u64);
-    printing::push(out, at, &END)
+    let mut text = Text::new(out);
+    text.number(number as u64);
+    text.field(place as u64);
+    text.push(&END);
+    text.at
 }
 
 // `NUMBER 0 FORM`, of an OPEN
@@ -36,10 +39,12 @@ pub fn open_refusal(out: &mut [u8], number: usize, form: usize) -> usize
     ensures told { Behind out.old out.new 0 result (open_refusal_line number form) }
     ensures within { result ≤ short }
 {
-    let at = printing::number(out, 0, number as u64);
-    let at = printing::field(out, at, 0);
-    let at = printing::field(out, at, form as u64);
-    printing::push(out, at, &END)
+    let mut text = Text::new(out);
+    text.number(number as u64);
+    text.field(0);
+    text.field(form as u64);
+    text.push(&END);
+    text.at
 }
 
 // `bad line N`
@@ -48,9 +53,11 @@ pub fn bad(out: &mut [u8], n: u64) -> usize
     ensures told { Behind out.old out.new 0 result (bad_line n) }
     ensures within { result ≤ short }
 {
-    let at = printing::push(out, 0, b"bad line");
-    let at = printing::field(out, at, n);
-    printing::push(out, at, &END)
+    let mut text = Text::new(out);
+    text.push(b"bad line");
+    text.field(n);
+    text.push(&END);
+    text.at
 }
 
 // The checking program's line: number, place, count, stray ones.
@@ -59,9 +66,11 @@ pub fn whole(out: &mut [u8], v: Verdict) -> usize
     ensures told { Behind out.old out.new 0 result (verdict_line v) }
     ensures within { result ≤ short }
 {
-    let at = printing::number(out, 0, v.number as u64);
-    let at = printing::field(out, at, v.place as u64);
-    let at = printing::field(out, at, v.count as u64);
-    let at = printing::field(out, at, v.stray as u64);
-    printing::push(out, at, &END)
+    let mut text = Text::new(out);
+    text.number(v.number as u64);
+    text.field(v.place as u64);
+    text.field(v.count as u64);
+    text.field(v.stray as u64);
+    text.push(&END);
+    text.at
 }

@@ -9,17 +9,18 @@ ghost use Rattle.console_state.specs.Rooms.{Spells};
 ghost use Rattle.console_state.specs.State.{list_in};
 ghost use Rattle.console_route_rows.specs.Asked.{asked_line};
 
-use command::Command;
+use command::{Command, Line};
 use command_rows::Asking;
 use console_routes::{judged, picked};
+use console_state::{RouteLine, listed};
 use session::Sessions;
 
-pub fn asked(
+pub fn asked<'a>(
     row: Asking,
     c: Command,
-    line: &[u8],
+    line: &'a [u8],
     sessions: Sessions,
-    memory: &[u8],
+    memory: &'a [u8],
     given: usize,
     room: &mut [u8],
     out: &mut [u8],
@@ -27,10 +28,19 @@ pub fn asked(
     requires { Spells line.now room.old × (long ≤ length out.old) }
     ensures told { Behind out.old out.new 0 result (asked_line row c line.now sessions (list_in memory.now given)) }
 {
+    let addresses = listed(memory, given);
+    let route = RouteLine {
+        line: Line {
+            command: c,
+            octets: line,
+        },
+        sessions,
+        addresses,
+    };
     match row {
-        Asking::Ero => judged(c, line, true, sessions, memory, given, room, out),
-        Asking::Rro => judged(c, line, false, sessions, memory, given, room, out),
-        Asking::EroSegment => picked(c, line, true, sessions, memory, given, room, out),
-        Asking::RroSegment => picked(c, line, false, sessions, memory, given, room, out),
+        Asking::Ero => judged(route, true, room, out),
+        Asking::Rro => judged(route, false, room, out),
+        Asking::EroSegment => picked(route, true, room, out),
+        Asking::RroSegment => picked(route, false, room, out),
     }
 }

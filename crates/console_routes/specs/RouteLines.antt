@@ -1,13 +1,13 @@
 -- The commands about OPENs and routes (console.md, the table's first rows).
 use Rattle.std.specs.Prelude.{ℕ, Bool, List}
-use Rattle.session.specs.declared.Opened.{Opened}
+use Rattle.session.specs.Opened.{Opened}
 use Rattle.session.specs.declared.Sessions.{Sessions}
 use Rattle.forms.specs.declared.Form.{Form}
 use Rattle.forms.specs.Forms.{form_of}
 use Rattle.flag_positions.specs.declared.Positions.{Positions}
 use Rattle.open.specs.Open.{open_of}
 use Rattle.route_call.specs.Called.{judged_for, segment_for}
-use Rattle.route.specs.declared.picking.Picked.{Picked}
+use Rattle.route.specs.Picked.{Picked}
 use Rattle.command.specs.declared.Command.{Command}
 use Rattle.console_fields.specs.Shown.{segment_line}
 use Rattle.console_state.specs.Answers.{answer_line, count_line}

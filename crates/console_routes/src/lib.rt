@@ -11,43 +11,36 @@ ghost use Rattle.command_forms.specs.Forms.{most_size};
 ghost use Rattle.console_state.specs.Rooms.{Spells};
 ghost use Rattle.console_state.specs.State.{list_in};
 ghost use Rattle.console_state.specs.Spelled.{octets_in};
+ghost use Rattle.session.specs.Answered.{opened_of};
 ghost use Rattle.console_routes.specs.RouteLines.{open_in, route_line, segment_answer};
 
-use command::{Command, octets_at};
+use command::{Line, octets_at};
 use command_forms::MOST_SIZE;
-use console_state::listed;
+use console_state::RouteLine;
 use flag_positions::Positions;
-use session::{Opened, Sessions};
+use session::{Carried, OpenRefusal};
 use subobject::Segment;
 use subobject_strays::Strays;
 
 // `pcc OCTETS`, `pce OCTETS`: the answer to the OPEN of the line.
-pub fn heard(p: Positions, line: &[u8], room: &mut [u8]) -> Opened
+pub fn heard(p: Positions, line: &[u8], room: &mut [u8]) -> Result<Carried, OpenRefusal>
     requires { Spells line.now room.old }
-    ensures read { result ≡ open_in p line.now }
+    ensures read { opened_of result ≡ open_in p line.now }
 {
     let n = octets_at(line, 1, room);
     open::read_open(p, &room[..n])
 }
 
 // `ero PST OCTETS`, `rro PST OCTETS`
-pub fn judged(
-    c: Command,
-    line: &[u8],
-    ero: bool,
-    sessions: Sessions,
-    memory: &[u8],
-    given: usize,
-    room: &mut [u8],
-    out: &mut [u8],
-) -> usize
-    requires { Spells line.now room.old × (short ≤ length out.old) }
-    ensures told { Behind out.old out.new 0 result (route_line c line.now ero sessions (list_in memory.now given)) }
+pub fn judged(r: RouteLine<'_>, ero: bool, room: &mut [u8], out: &mut [u8]) -> usize
+    requires { Spells r.line.octets.now room.old × (short ≤ length out.old) }
+    ensures told { let line = r.entry.line in
+        Behind out.old out.new 0 result (route_line line.command line.octets.now ero r.entry.sessions r.entry.addresses.now) }
 {
-    let n = octets_at(line, 2, room);
-    let list = listed(memory, given);
-    let v = route_call::judge(&room[..n], ero, sessions, c.one, list);
-    console_state::counted(out, v)
+    let Line { command: c, octets } = r.line;
+    let n = octets_at(octets, 2, room);
+    let answer = route_call::judge(&room[..n], ero, r.sessions, c.one, r.addresses);
+    console_state::counted(out, answer)
 }
 
 // The line of a segment of the form that a setup type names.
@@ -62,29 +55,17 @@ fn shown(out: &mut [u8], g: Segment, x: Strays, pst: u64) -> usize
 }
 
 // `ero-segment PST I OCTETS`, `rro-segment PST I OCTETS`
-pub fn picked(
-    c: Command,
-    line: &[u8],
-    ero: bool,
-    sessions: Sessions,
-    memory: &[u8],
-    given: usize,
-    room: &mut [u8],
-    out: &mut [u8],
-) -> usize
-    requires { Spells line.now room.old × (long ≤ length out.old) }
-    ensures told { Behind out.old out.new 0 result (segment_answer c line.now ero sessions (list_in memory.now given)) }
+pub fn picked(r: RouteLine<'_>, ero: bool, room: &mut [u8], out: &mut [u8]) -> usize
+    requires { Spells r.line.octets.now room.old × (long ≤ length out.old) }
+    ensures told { let line = r.entry.line in
+        Behind out.old out.new 0 result (segment_answer line.command line.octets.now ero r.entry.sessions r.entry.addresses.now) }
 {
-    let n = octets_at(line, 3, room);
-    let list = listed(memory, given);
-    let p = route_call::segment(&room[..n], ero, sessions, c.one, list, c.two);
-    let v = p.verdict;
-    if v.number != 0 {
-        return console_lines::refusal(out, v.number, v.place);
+    let Line { command: c, octets } = r.line;
+    let n = octets_at(octets, 3, room);
+    match route_call::segment(&room[..n], ero, r.sessions, c.one, r.addresses, c.two) {
+        Err(refusal) => console_lines::refusal(out, refusal.reason.number(), refusal.place),
+        Ok(p) => shown(out, p.segment, p.strays, c.one),
     }
-    let g = p.segment;
-    let x = p.strays;
-    shown(out, g, x, c.one)
 }
 
 // `addresses OCTETS`: the list laid behind the writer's part, and its octets.

@@ -1,6 +1,6 @@
 -- Laws of what a command answers by and of the octets of a lent buffer's start.
-use Prim.Native.Nat.{ℕ, zero, suc, ◌+◌, ◌-◌, ◌≤◌, ◌<◌, min}
-use mathlib.Core.Path.{◌≡◌, refl, sym, ap, ◌∙◌}
+use Prim.Native.Nat.{ℕ, zero, suc, ◌-◌, ◌≤◌, ◌<◌, min}
+use mathlib.Core.Path.{◌≡◌, refl, sym}
 use mathlib.Core.Bool.{Bool, true, false}
 use mathlib.Core.List.{List, []}
 use lib.ListN.{length, take, drop, drop_of_length-le, length-drop}
@@ -52,12 +52,12 @@ take_none : (n : ℕ) → take {A = ℕ} n [] ≡ []
 take_none zero = refl
 take_none (suc n) = refl
 
-pub list_short : (given : ℕ) (m : List ℕ) → length m < most_size → take 0 m ≡ list_in m given
+pub list_short : (given : ℕ) (m : List ℕ) → length m < most_size → [] ≡ list_in m given
 unfolding list_in
 list_short given m h = let k : length m ≤ most_size = omega (arith, h) in rw (drop_of_length-le m k) (sym (take_none given))
 
-pub list_part : (given : ℕ) (m : List ℕ) {n : ℕ} → n ≡ min given (length m - most_size) → take (most_size + n - most_size) (drop most_size m) ≡ list_in m given
+pub list_part : (given : ℕ) (m : List ℕ) {n : ℕ} → n ≡ min given (length (take (length m - most_size) (drop most_size m))) → take n (take (length m - most_size) (drop most_size m)) ≡ list_in m given
 unfolding list_in
 list_part given m {n} e =
-    let k : most_size + n - most_size ≡ n = omega arith in
-    rw k (take_fit given (drop most_size m) (e ∙ ap (min given) (sym (length-drop most_size m))))
+    let t = take_all (length m - most_size) (drop most_size m) (omega (arith, length-drop most_size m)) in
+    rw t (take_fit given (drop most_size m) (rw t at e))

@@ -1,12 +1,16 @@
 -- How the console stands between two lines (console.md).
-use Rattle.std.specs.Prelude.{ℕ, true, List, [], take, drop, replicate}
+use Rattle.std.specs.Prelude.{ℕ, true, List, [], take, drop, replicate, None, Result, Err}
 use Rattle.answers.specs.Numbers.{open_malformed}
+use Rattle.answers.specs.declared.reason.Reason.TheVariants.{OpenMalformed}
 use Rattle.objects.specs.Objects.{srv6_setup}
 use Rattle.flag_positions.specs.declared.Positions.{Positions}
 use Rattle.flag_positions.specs.Positions.{first_two}
 use Rattle.command_forms.specs.Forms.{most_size}
-use Rattle.session.specs.declared.Opened.{Opened}
+use Rattle.session.specs.Opened.{Opened}
 use Rattle.session.specs.Sessions.{no_form, open_refused}
+use Rattle.session.specs.declared.opened.Carried.{Carried}
+use Rattle.session.specs.declared.opened.OpenRefusal.{OpenRefusal}
+use Rattle.session.specs.Answered.{opened_of}
 use Rattle.board_record.specs.declared.record.Board.{Board}
 use Rattle.board_record.specs.Sizes.{store_size}
 use Rattle.board_record.specs.Record.{empty_board}
@@ -59,8 +63,8 @@ abbrev pub console_of : State → List ℕ → List ℕ → Console
 console_of s store memory = record {
   board = s.board;
   store = store;
-  pcc = s.pcc;
-  pce = s.pce;
+  pcc = opened_of s.pcc;
+  pce = opened_of s.pce;
   writer = s.writer;
   lent = writer_part memory s.size;
   positions = s.positions;
@@ -69,11 +73,14 @@ console_of s store memory = record {
 
 -- ## States
 
+abbrev pub unheard : Result Carried OpenRefusal
+unheard = Err (record { reason = OpenMalformed; form = None })
+
 abbrev pub state_at_start : State
 state_at_start = record {
   board = empty_board;
-  pcc = open_refused open_malformed no_form;
-  pce = open_refused open_malformed no_form;
+  pcc = unheard;
+  pce = unheard;
   writer = writer_at_start;
   size = 0;
   positions = first_two;
@@ -83,10 +90,10 @@ state_at_start = record {
 abbrev pub with_board : State → Board → State
 with_board s board = record { board = board; pcc = s.pcc; pce = s.pce; writer = s.writer; size = s.size; positions = s.positions; given = s.given }
 
-abbrev pub with_pcc : State → Opened → State
+abbrev pub with_pcc : State → Result Carried OpenRefusal → State
 with_pcc s pcc = record { board = s.board; pcc = pcc; pce = s.pce; writer = s.writer; size = s.size; positions = s.positions; given = s.given }
 
-abbrev pub with_pce : State → Opened → State
+abbrev pub with_pce : State → Result Carried OpenRefusal → State
 with_pce s pce = record { board = s.board; pcc = s.pcc; pce = pce; writer = s.writer; size = s.size; positions = s.positions; given = s.given }
 
 abbrev pub with_writer : State → Writer → ℕ → State

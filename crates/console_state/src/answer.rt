@@ -1,29 +1,30 @@
-// The line that answers a verdict: the refusal, or what stands in the table when accepted.
+// The line that answers a call: the refusal, or what stands in the table when accepted.
 ghost use Rattle.std.specs.Prelude.{◌≤◌, length};
+ghost use Rattle.answers.specs.Verdicts.{passed_of, verdict_of};
 ghost use Rattle.printing.specs.Text.{Behind};
 ghost use Rattle.console_lines.specs.Lines.{short};
 ghost use Rattle.console_state.specs.Answers.{count_line, plain_line};
 
-use answers::Verdict;
+use answers::{Counts, Refusal};
 
 // `0 0 COUNT STRAY`, or the refusal.
-pub fn counted(out: &mut [u8], v: Verdict) -> usize
+pub fn counted(out: &mut [u8], answer: Result<Counts, Refusal>) -> usize
     requires { short ≤ length out.old }
-    ensures told { Behind out.old out.new 0 result (count_line v) }
+    ensures told { Behind out.old out.new 0 result (count_line (verdict_of answer)) }
 {
-    if v.number != 0 {
-        return console_lines::refusal(out, v.number, v.place);
+    match answer {
+        Ok(c) => console_accepted::two(out, c.count as u64, c.stray as u64),
+        Err(e) => console_lines::refusal(out, e.reason.number(), e.place),
     }
-    console_accepted::two(out, v.count as u64, v.stray as u64)
 }
 
 // `0 0`, or the refusal.
-pub fn plain(out: &mut [u8], v: Verdict) -> usize
+pub fn plain(out: &mut [u8], answer: Result<(), Refusal>) -> usize
     requires { short ≤ length out.old }
-    ensures told { Behind out.old out.new 0 result (plain_line v) }
+    ensures told { Behind out.old out.new 0 result (plain_line (passed_of answer)) }
 {
-    if v.number != 0 {
-        return console_lines::refusal(out, v.number, v.place);
+    match answer {
+        Ok(()) => console_accepted::done(out),
+        Err(e) => console_lines::refusal(out, e.reason.number(), e.place),
     }
-    console_accepted::done(out)
 }

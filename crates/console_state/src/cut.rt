@@ -10,13 +10,7 @@ pub fn fit(s: &[u8], n: usize) -> usize
     ensures counts { IsPrefixLen result s.now }
     ensures cut { result ≡ min n (length s.now) }
 {
-    if n < s.len() { n } else { s.len() }
-}
-
-fn least(a: usize, b: usize) -> usize
-    ensures least { result ≡ min a b }
-{
-    if a < b { a } else { b }
+    n.min(s.len())
 }
 
 // The list of addresses, which lies behind the writer's part of the memory.
@@ -24,8 +18,8 @@ pub fn listed(memory: &[u8], given: usize) -> &[u8]
     ensures listed { result.now ≡ list_in memory.now given }
 {
     if memory.len() < MOST_SIZE {
-        return &memory[..0];
+        return &[];
     }
-    let n = least(given, memory.len() - MOST_SIZE);
-    &memory[MOST_SIZE..MOST_SIZE + n]
+    let behind = &memory[MOST_SIZE..];
+    &behind[..fit(behind, given)]
 }

@@ -5,10 +5,12 @@
 
 mod answer;
 mod cut;
+mod route_line;
 mod state;
 
 pub use answer::{counted, plain};
 pub use cut::{fit, listed};
+pub use route_line::RouteLine;
 pub use state::{
     State, start, with_board, with_given, with_pcc, with_pce, with_positions, with_writer,
 };

@@ -2,21 +2,28 @@
 ghost use Rattle.std.specs.Prelude.{◌≡◌};
 ghost use Rattle.console_state.specs.State.{state_at_start, with_board, with_pcc, with_pce, with_writer, with_positions, with_given};
 
+use answers::Reason;
 use board_record::Board;
 use flag_positions::Positions;
-use session::Opened;
+use session::{Carried, OpenRefusal};
 use writer_state::Writer;
 
 #[derive(Clone, Copy)]
 pub struct State {
     pub board: Board,
-    pub pcc: Opened,
-    pub pce: Opened,
+    pub pcc: Result<Carried, OpenRefusal>,
+    pub pce: Result<Carried, OpenRefusal>,
     pub writer: Writer,
     pub size: usize,
     pub positions: Positions,
     pub given: usize,
 }
+
+// An OPEN that has not been heard counts as refused.
+const UNHEARD: Result<Carried, OpenRefusal> = Err(OpenRefusal {
+    reason: Reason::OpenMalformed,
+    form: None,
+});
 
 // The start.
 pub fn start() -> State
@@ -24,8 +31,8 @@ pub fn start() -> State
 {
     State {
         board: board_record::empty(),
-        pcc: session::refused_open(answers::OPEN_MALFORMED, session::NO_FORM),
-        pce: session::refused_open(answers::OPEN_MALFORMED, session::NO_FORM),
+        pcc: UNHEARD,
+        pce: UNHEARD,
         writer: Writer {
             ero: true,
             at: 0,
@@ -40,73 +47,29 @@ pub fn start() -> State
 pub fn with_board(state: State, board: Board) -> State
     ensures board { result ≡ with_board state board }
 {
-    let pcc = state.pcc;
-    let pce = state.pce;
-    let writer = state.writer;
-    let positions = state.positions;
-    State {
-        board: board,
-        pcc: pcc,
-        pce: pce,
-        writer: writer,
-        size: state.size,
-        positions: positions,
-        given: state.given,
-    }
+    State { board, ..state }
 }
 
-pub fn with_pcc(state: State, pcc: Opened) -> State
+pub fn with_pcc(state: State, pcc: Result<Carried, OpenRefusal>) -> State
     ensures pcc { result ≡ with_pcc state pcc }
 {
-    let board = state.board;
-    let pce = state.pce;
-    let writer = state.writer;
-    let positions = state.positions;
-    State {
-        board: board,
-        pcc: pcc,
-        pce: pce,
-        writer: writer,
-        size: state.size,
-        positions: positions,
-        given: state.given,
-    }
+    State { pcc, ..state }
 }
 
-pub fn with_pce(state: State, pce: Opened) -> State
+pub fn with_pce(state: State, pce: Result<Carried, OpenRefusal>) -> State
     ensures pce { result ≡ with_pce state pce }
 {
-    let board = state.board;
-    let pcc = state.pcc;
-    let writer = state.writer;
-    let positions = state.positions;
-    State {
-        board: board,
-        pcc: pcc,
-        pce: pce,
-        writer: writer,
-        size: state.size,
-        positions: positions,
-        given: state.given,
-    }
+    State { pce, ..state }
 }
 
 // Another writer, and the octets that are lent to it.
 pub fn with_writer(state: State, writer: Writer, size: usize) -> State
     ensures writer { result ≡ with_writer state writer size }
 {
-    let board = state.board;
-    let pcc = state.pcc;
-    let pce = state.pce;
-    let positions = state.positions;
     State {
-        board: board,
-        pcc: pcc,
-        pce: pce,
-        writer: writer,
-        size: size,
-        positions: positions,
-        given: state.given,
+        writer,
+        size,
+        ..state
     }
 }
 
@@ -114,18 +77,9 @@ pub fn with_writer(state: State, writer: Writer, size: usize) -> State
 pub fn with_positions(state: State, a: u64, r: u64) -> State
     ensures positions { result ≡ with_positions state a r }
 {
-    let board = state.board;
-    let pcc = state.pcc;
-    let pce = state.pce;
-    let writer = state.writer;
     State {
-        board: board,
-        pcc: pcc,
-        pce: pce,
-        writer: writer,
-        size: state.size,
-        positions: Positions { a: a, r: r },
-        given: state.given,
+        positions: Positions { a, r },
+        ..state
     }
 }
 
@@ -133,18 +87,5 @@ pub fn with_positions(state: State, a: u64, r: u64) -> State
 pub fn with_given(state: State, given: usize) -> State
     ensures given { result ≡ with_given state given }
 {
-    let board = state.board;
-    let pcc = state.pcc;
-    let pce = state.pce;
-    let writer = state.writer;
-    let positions = state.positions;
-    State {
-        board: board,
-        pcc: pcc,
-        pce: pce,
-        writer: writer,
-        size: state.size,
-        positions: positions,
-        given: given,
-    }
+    State { given, ..state }
 }

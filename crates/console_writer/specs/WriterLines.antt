@@ -2,7 +2,7 @@
 use Rattle.std.specs.Prelude.{ℕ, List, take, replicate}
 use Rattle.answers.specs.Verdicts.{kept}
 use Rattle.writer_state.specs.declared.Writer.{Writer}
-use Rattle.writer_state.specs.declared.Written.{Written}
+use Rattle.writer_state.specs.Written.{Written}
 use Rattle.writer_begin_finish.specs.Ends.{begin_answer, begin_buffer, finish_answer, finish_buffer}
 use Rattle.writer.specs.Writing.{add_answer, add_buffer}
 use Rattle.command.specs.declared.Command.{Command}

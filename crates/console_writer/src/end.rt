@@ -24,18 +24,18 @@ fn close(part: &mut [u8], old: Writer, out: &mut [u8]) -> Closed
     ensures told { Behind out.old out.new 0 result.end (finish_line old part.old) }
 {
     let w = writer_begin_finish::finish(part, old);
-    let v = w.verdict;
-    let new = w.writer;
-    if v.number != 0 {
-        return Closed {
-            writer: new,
-            end: console_lines::refusal(out, v.number, v.place),
-        };
-    }
-    let n = fit(part, new.at);
-    Closed {
-        writer: new,
-        end: console_accepted::octets(out, &part[..n]),
+    match w.answer {
+        Err(refusal) => Closed {
+            writer: w.writer,
+            end: console_lines::refusal(out, refusal.reason.number(), refusal.place),
+        },
+        Ok(()) => {
+            let n = fit(part, w.writer.at);
+            Closed {
+                writer: w.writer,
+                end: console_accepted::octets(out, &part[..n]),
+            }
+        }
     }
 }
 
@@ -47,10 +47,9 @@ pub fn finished(old: Writer, size: usize, memory: &mut [u8], out: &mut [u8]) -> 
 {
     let n = fit(memory, size);
     let c = close(&mut memory[..n], old, out);
-    let writer = c.writer;
     Composed {
-        writer: writer,
-        size: size,
+        writer: c.writer,
+        size,
         end: c.end,
     }
 }

@@ -7,7 +7,7 @@ ghost use Rattle.console_add.specs.Added.{AddForm};
 ghost use Rattle.console_writer.specs.WriterLines.{add_turn};
 
 use crate::wrote::{Composed, placed};
-use command::Command;
+use command::Line;
 use console_add::segment_in;
 use console_state::fit;
 use writer_state::Writer;
@@ -15,24 +15,22 @@ use writer_state::Writer;
 pub fn added(
     old: Writer,
     size: usize,
-    c: Command,
-    line: &[u8],
+    line: Line<'_>,
     memory: &mut [u8],
     room: &mut [u8],
     out: &mut [u8],
 ) -> Composed
-    requires { Spells line.now room.old × AddForm c line.now × (short ≤ length out.old) }
-    ensures writer { result.writer ≡ (add_turn old (take size memory.old) c line.now).writer }
-    ensures lent { take result.size memory.new ≡ (add_turn old (take size memory.old) c line.now).lent }
-    ensures told { Behind out.old out.new 0 result.end (add_turn old (take size memory.old) c line.now).answer }
+    requires { Spells line.octets.now room.old × AddForm line.command line.octets.now × (short ≤ length out.old) }
+    ensures writer { result.writer ≡ (add_turn old (take size memory.old) line.entry.command line.entry.octets.now).writer }
+    ensures lent { take result.size memory.new ≡ (add_turn old (take size memory.old) line.entry.command line.entry.octets.now).lent }
+    ensures told { Behind out.old out.new 0 result.end (add_turn old (take size memory.old) line.entry.command line.entry.octets.now).answer }
 {
     let n = fit(memory, size);
-    let g = segment_in(c, line, room);
+    let g = segment_in(line, room);
     let w = writer::add(&mut memory[..n], old, g);
-    let writer = w.writer;
     Composed {
-        writer: writer,
-        size: size,
+        writer: w.writer,
+        size,
         end: placed(out, w),
     }
 }

@@ -2,6 +2,7 @@
 ghost use Rattle.std.specs.Prelude.{◌≤◌, length};
 ghost use Rattle.printing.specs.Text.{Behind};
 ghost use Rattle.console_lines.specs.Lines.{short};
+ghost use Rattle.writer_state.specs.Written.{written_of};
 ghost use Rattle.console_writer.specs.WriterLines.{place_line};
 
 use writer_state::{Writer, Written};
@@ -17,12 +18,10 @@ pub struct Composed {
 // `0 0 AT`, or the refusal.
 pub fn placed(out: &mut [u8], w: Written) -> usize
     requires { short ≤ length out.old }
-    ensures told { Behind out.old out.new 0 result (place_line w) }
+    ensures told { Behind out.old out.new 0 result (place_line (written_of w)) }
 {
-    let v = w.verdict;
-    if v.number != 0 {
-        return console_lines::refusal(out, v.number, v.place);
+    match w.answer {
+        Err(refusal) => console_lines::refusal(out, refusal.reason.number(), refusal.place),
+        Ok(()) => console_accepted::one(out, w.writer.at as u64),
     }
-    let writer = w.writer;
-    console_accepted::one(out, writer.at as u64)
 }

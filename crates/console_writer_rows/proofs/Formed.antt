@@ -13,8 +13,9 @@ use Rattle.decimal.specs.Decimal.{most_octet, most_two_octets, is_at_most, is_nu
 use Rattle.hexadecimal.specs.Hexadecimal.{octets_of, is_octets, is_sid, is_nai}
 use Rattle.command_forms.specs.declared.verb.Verb.{Verb}
 use Rattle.command_forms.specs.declared.verb.Verb.TheVariants as v
-use Rattle.command_forms.specs.Forms.{most_size, verb_of, Kind, fits, kinds_of, formed, fit_from}
-use Rattle.command_forms.specs.Forms.Kind.{number, bit, octet, two_octets, size, side, sid, nai, structure}
+use Rattle.command_forms.specs.declared.kind.Kind.{Kind}
+use Rattle.command_forms.specs.declared.kind.Kind.TheVariants.{Number, Bit, Octet, TwoOctets, Size, Side, Sid, Nai, Structure}
+use Rattle.command_forms.specs.Forms.{most_size, verb_of, fits, kinds_of, formed, fit_from}
 use Rattle.command.specs.declared.Command.{Command}
 use Rattle.command.specs.Commands.{skipped, longest_line, bare_command, commanded, command_of}
 use Rattle.console_add.specs.Added.{AddForm}
@@ -65,9 +66,9 @@ fit_word k ks line i e = both_true (fits (word_of line space i) k) (fit_from ks 
 
 begin_at : (line : List ℕ) → formed (kinds_of v.Begin) line ≡ true → decimal_value (word_of line space 3) ≤ most_size
 begin_at line e =
-    let a = fit_word side (number ∷ size ∷ []) line 1 (fit_words (kinds_of v.Begin) line e) in
-    let b = fit_word number (size ∷ []) line 2 a.1 in
-    at_most most_size (word_of line space 3) (fit_word size [] line 3 b.1).0
+    let a = fit_word Side (Number ∷ Size ∷ []) line 1 (fit_words (kinds_of v.Begin) line e) in
+    let b = fit_word Number (Size ∷ []) line 2 a.1 in
+    at_most most_size (word_of line space 3) (fit_word Size [] line 3 b.1).0
 
 -- "SIZE octets (0 to 65,536)"
 pub begin_size : (line : List ℕ) {c : Command} → c ≡ command_of line → c.verb ≡ v.Begin → c.three ≤ most_size
@@ -77,12 +78,12 @@ begin_size line {c} p q =
 
 add_at : (line : List ℕ) → formed (kinds_of v.Add) line ≡ true → AddForm (commanded line) line
 add_at line e =
-    let l = fit_word bit (bit ∷ octet ∷ two_octets ∷ sid ∷ nai ∷ structure ∷ bit ∷ bit ∷ []) line 1 (fit_words (kinds_of v.Add) line e) in
-    let m = fit_word bit (octet ∷ two_octets ∷ sid ∷ nai ∷ structure ∷ bit ∷ bit ∷ []) line 2 l.1 in
-    let t = fit_word octet (two_octets ∷ sid ∷ nai ∷ structure ∷ bit ∷ bit ∷ []) line 3 m.1 in
-    let b = fit_word two_octets (sid ∷ nai ∷ structure ∷ bit ∷ bit ∷ []) line 4 t.1 in
-    let s = fit_word sid (nai ∷ structure ∷ bit ∷ bit ∷ []) line 5 b.1 in
-    let n = fit_word nai (structure ∷ bit ∷ bit ∷ []) line 6 s.1 in
+    let l = fit_word Bit (Bit ∷ Octet ∷ TwoOctets ∷ Sid ∷ Nai ∷ Structure ∷ Bit ∷ Bit ∷ []) line 1 (fit_words (kinds_of v.Add) line e) in
+    let m = fit_word Bit (Octet ∷ TwoOctets ∷ Sid ∷ Nai ∷ Structure ∷ Bit ∷ Bit ∷ []) line 2 l.1 in
+    let t = fit_word Octet (TwoOctets ∷ Sid ∷ Nai ∷ Structure ∷ Bit ∷ Bit ∷ []) line 3 m.1 in
+    let b = fit_word TwoOctets (Sid ∷ Nai ∷ Structure ∷ Bit ∷ Bit ∷ []) line 4 t.1 in
+    let s = fit_word Sid (Nai ∷ Structure ∷ Bit ∷ Bit ∷ []) line 5 b.1 in
+    let n = fit_word Nai (Structure ∷ Bit ∷ Bit ∷ []) line 6 s.1 in
     record { nt = at_most most_octet _ t.0; behaviour = at_most most_two_octets _ b.0; sid = sid_short _ s.0; nai = nai_short _ n.0 }
 
 -- "NT 0 to 255, BEHAVIOUR 0 to 65,535, SID 1 to 16 octets .. or `-`, NAI 0 to 40 octets"

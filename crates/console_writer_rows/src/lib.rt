@@ -11,7 +11,7 @@ ghost use Rattle.console_lines.specs.Lines.{short};
 ghost use Rattle.console_state.specs.Rooms.{Spells};
 ghost use Rattle.console_writer_rows.specs.Written.{written_turn};
 
-use command::Command;
+use command::{Command, Line};
 use command_rows::Writing;
 use console_writer::{Composed, added, begun, finished, shown};
 use writer_state::Writer;
@@ -33,11 +33,17 @@ pub fn written(
 {
     match row {
         Writing::Begin => begun(old, size, c, memory, out),
-        Writing::Add => added(old, size, c, line, memory, room, out),
+        Writing::Add => {
+            let line = Line {
+                command: c,
+                octets: line,
+            };
+            added(old, size, line, memory, room, out)
+        }
         Writing::Finish => finished(old, size, memory, out),
         Writing::Lent => Composed {
             writer: old,
-            size: size,
+            size,
             end: shown(memory, size, out),
         },
     }

@@ -9,6 +9,7 @@ ghost use Rattle.cut_objects.specs.Cutting.{cut_of, first_object, rest_objects};
 use objects::{HEADER, LENGTH_PLACE};
 
 // How many octets the first object has.
+#[tactic(auto, unfolding(crate::specs::Cutting::cut_of))]
 pub fn cut(s: &[u8]) -> usize
     ensures cut { (result ≡ cut_of s.now) × (result ≤ length s.now) }
 {
@@ -16,13 +17,11 @@ pub fn cut(s: &[u8]) -> usize
         return s.len();
     }
     let n = octets::read16(s, LENGTH_PLACE);
-    if n < HEADER {
-        return s.len();
+    if HEADER <= n && n <= s.len() {
+        n
+    } else {
+        s.len()
     }
-    if s.len() < n {
-        return s.len();
-    }
-    n
 }
 
 // The first object.

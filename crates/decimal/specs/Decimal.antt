@@ -1,9 +1,8 @@
 -- Numbers and structures as a word spells them (console.md).
-use Rattle.std.specs.Prelude.{ℕ, ◌+◌, ◌-◌, ◌*◌, ◌%◌, Bool, true, false, cond, not, ◌&&◌, ◌||◌, List, [], ◌∷◌, eqb, ltb, leb}
+use Rattle.std.specs.Prelude.{ℕ, ◌+◌, ◌-◌, ◌*◌, ◌%◌, Bool, true, false, cond, not, ◌&&◌, ◌||◌, List, [], ◌∷◌, eqb, ltb, leb, Option, Some, None}
 use Rattle.octets.specs.Octets.{end16}
 use Rattle.words.specs.Words.{comma, dash, digit_zero, digit_nine, word_of, words_in}
 use Rattle.same_octets.specs.Same.{same_octets}
-use Rattle.decimal.specs.declared.Number.{Number}
 
 -- ## Numbers: "decimal digits and nothing else, 0 to 2^64-1, leading zeros allowed"
 
@@ -37,8 +36,22 @@ is_number w = not (is_empty w) && (all_digits w && ltb (worth w 0) number_range)
 unfoldable pub decimal_value : List ℕ → ℕ
 decimal_value w = cond (is_number w) (worth w 0) 0
 
+-- Is a word a number, and which? The value of a word that is none is 0.
+pub record Number : Type 0 where
+  pub good : Bool
+  pub value : ℕ
+
 unfoldable pub number_of : List ℕ → Number
 number_of w = record { good = is_number w; value = decimal_value w }
+
+-- The same as an option.
+unfoldable pub said : Option ℕ → Number
+said None = record { good = false; value = 0 }
+said (Some n) = record { good = true; value = n }
+
+-- What a digit stands for.
+unfoldable pub digit_value : ℕ → Option ℕ
+digit_value c = cond (is_digit c) (Some (c - digit_zero)) None
 
 unfoldable pub is_at_most : List ℕ → ℕ → Bool
 is_at_most w most = is_number w && leb (decimal_value w) most

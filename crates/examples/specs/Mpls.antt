@@ -1,9 +1,8 @@
 -- MPLS on either side (document 02, C-16; RFC 8664, 4.3.1 and 5.2.1), in the manner of P1 to P10.
-use Rattle.std.specs.Prelude.{ℕ, true, false, List, [], ◌∷◌, ◌++◌, set}
+use Rattle.std.specs.Prelude.{ℕ, true, false, List, [], ◌∷◌, ◌++◌, set, Some}
 use Rattle.objects.specs.Objects.{mpls_setup, srv6_setup}
 use Rattle.answers.specs.Numbers.{wrong_msd, length_wrong, sid_needed, too_many_segments, none_of_form, label_value, label_format}
 use Rattle.answers.specs.Verdicts.{refused_by, accepted_with}
-use Rattle.session.specs.declared.Limit.TheVariants.{Most}
 use Rattle.session.specs.declared.Sessions.{Sessions}
 use Rattle.session.specs.Sessions.{open_refused, with_mpls, without_srv6, sessions_of}
 use Rattle.flag_positions.specs.Positions.{first_two}
@@ -78,7 +77,7 @@ mpls_examples =
 
 abbrev pub mpls_answers : List ExampleAnswer
 mpls_answers =
-    opened (with_mpls without_srv6 false (Most 2))
+    opened (with_mpls without_srv6 false (Some 2))
     ∷ opened (open_refused wrong_msd mpls_setup)
     ∷ judged (refused_by label_value 0)
     ∷ judged (accepted_with 1)

@@ -1,14 +1,12 @@
 -- P1 to P10 (document 01, "Examples on either side"), with A and R at the positions 0 and 1 and no addresses (document 02, C-15).
-use Rattle.std.specs.Prelude.{ℕ, true, false, List, [], ◌∷◌, ◌++◌, set}
+use Rattle.std.specs.Prelude.{ℕ, true, false, List, [], ◌∷◌, ◌++◌, set, None, Some}
 use Rattle.objects.specs.Objects.{mpls_setup, srv6_setup}
 use Rattle.answers.specs.declared.verdict.Verdict.{Verdict}
 use Rattle.answers.specs.Numbers.{wrong_msd, length_wrong, nothing_there, structure_too_long, none_of_form}
 use Rattle.answers.specs.Verdicts.{refused_by, accepted_with}
-use Rattle.session.specs.declared.Limit.TheVariants.{Free, Most}
-use Rattle.session.specs.declared.Opened.{Opened}
+use Rattle.session.specs.Opened.{Opened}
 use Rattle.session.specs.declared.Sessions.{Sessions}
 use Rattle.session.specs.Sessions.{open_refused, open_carries, sessions_of}
-use Rattle.msd.specs.Msd.{absent}
 use Rattle.flag_positions.specs.Positions.{first_two}
 use Rattle.open.specs.Open.{open_of}
 use Rattle.route_call.specs.Called.{judged_for}
@@ -66,8 +64,8 @@ examples =
 -- P8: "pass"; P9: "11"; P10: "11".
 abbrev pub answers : List ExampleAnswer
 answers =
-    opened (open_carries true false (Most 4) false false 4 absent)
-    ∷ opened (open_carries false false Free false false absent absent)
+    opened (open_carries true false (Some 4) false false (Some 4) None)
+    ∷ opened (open_carries false false None false false None None)
     ∷ opened (open_refused wrong_msd srv6_setup)
     ∷ judged (accepted_with 1)
     ∷ judged (refused_by none_of_form 0)

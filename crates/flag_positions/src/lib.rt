@@ -28,24 +28,17 @@ pub fn first_two() -> Positions
 }
 
 // Whether the two positions can be used.
+#[tactic(auto, unfolding(crate::specs::Positions::usable_positions))]
 pub fn usable(p: Positions) -> bool
     ensures usable { result ≡ usable_positions p }
 {
-    if LAST_POSITION < p.a {
-        return false;
-    }
-    if LAST_POSITION < p.r {
-        return false;
-    }
-    p.a != p.r
+    p.a <= LAST_POSITION && p.r <= LAST_POSITION && p.a != p.r
 }
 
 // Whether the flag at a position is set in the 16 flags; none stands behind position 15.
+#[tactic(auto, unfolding(crate::specs::Positions::flag_at))]
 pub fn flag(flags: usize, p: u64) -> bool
     ensures flag { result ≡ flag_at flags p }
 {
-    if LOWEST_POSITION < p {
-        return false;
-    }
-    (flags >> (LOWEST_POSITION - p)) % 2 == 1
+    p <= LOWEST_POSITION && (flags >> (LOWEST_POSITION - p)) % 2 == 1
 }

@@ -28,7 +28,7 @@ use Rattle.board_rules.specs.Body.{octets_at}
 use Rattle.board_rules.specs.Report.{body_in, report_verdict, report_with, store_with, reported, report_answer, report_store}
 use Rattle.board_rules.specs.Remove.{remove_verdict, remove_answer, removed}
 use Rattle.board_rules.specs.Compact.{compact_verdict, compact_answer, compacted}
-use Rattle.board_rules.specs.declared.answer.Handed.TheVariants.{Path, Removed}
+use Rattle.board_rules.specs.Handed.{Path, Removed}
 use Rattle.board_rules.specs.Next.{next_rules, next_verdict, change_at, handed_at, next_answer}
 use Rattle.session.specs.declared.Session.{Session}
 use Rattle.session.specs.declared.Sessions.{Sessions}

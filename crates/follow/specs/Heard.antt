@@ -2,8 +2,7 @@
 use Rattle.std.specs.Prelude.{ℕ, ◌*◌, Bool, cond, List}
 use Rattle.octets.specs.Octets.{part}
 use Rattle.board_record.specs.Sizes.{room}
-use Rattle.board_rules.specs.declared.answer.Handed.{Handed}
-use Rattle.board_rules.specs.declared.answer.Handed.TheVariants.{Refused, Path, Removed, Level}
+use Rattle.board_rules.specs.Handed.{Handed, Refused, Path, Removed, Level}
 use Rattle.follow.specs.Story.{Deed, sets, clears}
 use Rattle.follow.specs.Follower.{Follower, makes, levels}
 

@@ -6,7 +6,7 @@ use Rattle.session.specs.declared.Sessions.{Sessions}
 use Rattle.board_record.specs.declared.record.Board.{Board}
 use Rattle.board_record.specs.Table.{Table, empty_table}
 use Rattle.board_record.specs.Record.{table_in, empty_board}
-use Rattle.board_rules.specs.declared.answer.Handed.{Handed}
+use Rattle.board_rules.specs.Handed.{Handed}
 use Rattle.board_rules.specs.declared.answer.Mark.{Mark}
 use Rattle.board_rules.specs.Remove.{remove_answer}
 use Rattle.board_rules.specs.Compact.{compact_answer}

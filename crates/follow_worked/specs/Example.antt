@@ -1,13 +1,11 @@
 -- The worked history of document 01: report A, report B, remove A; later compact 3. A has SRv6's form and B that of MPLS (document 02, C-16). What
 -- each mark then hears, and what a follower holds after each answer, is computed from the definitions in proofs/Worked.antt.
-use Rattle.std.specs.Prelude.{ℕ, ◌≡◌, true, false, cond, List, [], ◌∷◌, ◌++◌, replicate, eqb}
+use Rattle.std.specs.Prelude.{ℕ, ◌≡◌, true, false, cond, List, [], ◌∷◌, ◌++◌, replicate, eqb, None, Some}
 use Rattle.std.proofs.Math.Option.{Option, none, some}
 use Rattle.answers.specs.Numbers.{mark_too_old}
 use Rattle.board_record.specs.Sizes.{store_size}
 use Rattle.board_record.specs.Table.{empty_table}
 use Rattle.board_rules.specs.Next.{next_answer}
-use Rattle.msd.specs.Msd.{absent}
-use Rattle.session.specs.declared.Limit.TheVariants.{Most}
 use Rattle.session.specs.declared.Session.{Session}
 use Rattle.session.specs.declared.Sessions.{Sessions}
 use Rattle.objects.specs.Objects.{srv6_setup, mpls_setup}
@@ -41,11 +39,11 @@ object_b = 0x07 ∷ 0x10 ∷ 0x00 ∷ 0x0C ∷ second_body
 
 -- the session of O and O: SRv6 agreed, N 0, limit 4 by H.Encaps, neither flag
 abbrev pub agreed : Session
-agreed = record { agreed = true; n = false; limit = Most 4; a = false; r = false; v = 4; m = absent }
+agreed = record { agreed = true; n = false; limit = Some 4; a = false; r = false; v = Some 4; m = None }
 
 -- and of two that agree on MPLS, with a depth of 2
 abbrev pub mpls_agreed : Session
-mpls_agreed = record { agreed = true; n = false; limit = Most 2; a = false; r = false; v = absent; m = absent }
+mpls_agreed = record { agreed = true; n = false; limit = Some 2; a = false; r = false; v = None; m = None }
 
 abbrev pub sessions : Sessions
 sessions = record { srv6 = agreed; mpls = mpls_agreed }

@@ -3,7 +3,7 @@ use Rattle.std.specs.Prelude.{ℕ, ◌+◌, ◌*◌, ◌/◌, ◌%◌, Bool, tru
 use Rattle.objects.specs.Objects.{mpls_setup, srv6_setup, sid_size, nai_size}
 use Rattle.forms.specs.declared.Form.{Form}
 
--- Values of NT: no NAI; a node of IPv4 and of IPv6; an adjacency of either; an unnumbered adjacency; a local_link adjacency (RFC 8664, 4.3.1).
+-- Values of NT: no NAI; a node of IPv4 and of IPv6; an adjacency of either; an unnumbered adjacency; a link-local adjacency (RFC 8664, 4.3.1).
 abbrev pub no_nai : ℕ
 no_nai = 0
 
@@ -129,11 +129,11 @@ nai_length form nt =
     (cond (eqb nt unnumbered) (octet_at form.nais nt5)
     (cond (eqb nt link_local) (octet_at form.nais nt6) 0)))))
 
--- The same in the papers' words, one for each form: "NAI: NT 0 none, 2 node 16, 4 adjacency 32, 6 local_link adjacency 40" (document 01),
+-- The same in the papers' words, one for each form: "NAI: NT 0 none, 2 node 16, 4 adjacency 32, 6 link-local adjacency 40" (document 01),
 abbrev pub srv6_nai : ℕ → ℕ
 srv6_nai nt = cond (eqb nt node) node_size (cond (eqb nt adjacency) adjacency_size (cond (eqb nt link_local) link_local_size 0))
 
--- and NT 1 and 2, a node of IPv4 and of IPv6; 3 and 4, an adjacency of either; 5, an unnumbered adjacency; 6, a local_link adjacency (RFC 8664, 4.3.1 and 4.3.2).
+-- and NT 1 and 2, a node of IPv4 and of IPv6; 3 and 4, an adjacency of either; 5, an unnumbered adjacency; 6, a link-local adjacency (RFC 8664, 4.3.1 and 4.3.2).
 abbrev pub mpls_nai : ℕ → ℕ
 mpls_nai nt =
     cond (eqb nt ipv4_node) ipv4_node_size

@@ -14,9 +14,12 @@
 ghost use Rattle.std.specs.Prelude.{◌≡◌, ◌≤◌};
 ghost use Rattle.forms.specs.Forms.{srv6_form, mpls_form, form_of, flag_in, nai_length, knows};
 
+mod layouts;
+
+pub use layouts::{Layout, Mpls, Srv6};
 use objects::{MPLS_SETUP, NAI_SIZE, SID_SIZE, SRV6_SETUP};
 
-// values of NT: no NAI; a node of IPv4 and of IPv6; an adjacency of either; one of two nodes with an interface of each; one of local_link addresses
+// values of NT: no NAI; a node of IPv4 and of IPv6; an adjacency of either; one of two nodes with an interface of each; one of link-local addresses
 pub const NO_NAI: usize = 0;
 
 pub const IPV4_NODE: usize = 1;
@@ -154,18 +157,18 @@ pub fn named(pst: u64) -> Form
     srv6()
 }
 
-// The flag that is worth `worth` in an octet, as a number.
+// The flag that is worth `worth` in an octet, as a number: clauses count with it (`Forms.flag_in`). One that the form has not is a flag that is 0, no missing one.
 pub fn flag(octet: usize, worth: u8) -> usize
     ensures flag { (result ≡ flag_in octet worth) × (result ≤ 1) }
 {
-    let w = octets::wide(worth);
+    let w = usize::from(worth);
     if w == 0 {
         return 0;
     }
     octet / w % 2
 }
 
-// The octets of the NAI for an NT: its octet of the lengths.
+// The octets of the NAI for an NT: its octet of the lengths. No NAI is one of no octets, and its length, 0, is added up like any other (`Forms.nai_length`): no Option.
 pub fn nai_length(form: Form, nt: usize) -> usize
     ensures length { (result ≡ nai_length form nt) × (result ≤ 255) }
 {
@@ -179,8 +182,9 @@ pub fn nai_length(form: Form, nt: usize) -> usize
 }
 
 // Whether the form knows an NT; NT 0, no NAI, is known to all.
+#[tactic(auto, unfolding(crate::specs::Forms::knows))]
 pub fn known(form: Form, nt: usize) -> bool
     ensures known { result ≡ knows form nt }
 {
-    octets::either(nt == NO_NAI, nai_length(form, nt) != 0)
+    nt == NO_NAI || nai_length(form, nt) != 0
 }

@@ -1,6 +1,6 @@
 -- Laws about checks in order: those of rules in order (answers/proofs/First) for a route's checks, and the same by rank, the place in the list (`first_answer`,
 -- `answer_first`). Assumes nothing.
-use Prim.Native.Nat.{ℕ, zero, suc, ◌+◌, ◌<◌}
+use Prim.Native.Nat.{ℕ, zero, suc, ◌<◌}
 use mathlib.Core.Path.{◌≡◌, refl, sym, ◌∙◌, ap}
 use mathlib.Core.List.{List, [], ◌∷◌, ◌++◌}
 use mathlib.Core.Bool.{Bool, true, false}

@@ -4,19 +4,21 @@
 use Prim.Native.Nat.{ℕ, zero, suc, pred, ◌+◌, ◌-◌, ◌/◌, ◌%◌, ◌≤◌, ◌<◌}
 use mathlib.Core.Path.{◌≡◌, refl, sym, ◌∙◌, ap}
 use mathlib.Core.List.{List, [], ◌∷◌}
-use mathlib.Core.Bool.{Bool, true, false, cond, not, ◌&&◌, ◌||◌}
+use mathlib.Core.Bool.{Bool, true, false, false≢true, cond, not, ◌&&◌, ◌||◌}
 use lib.Dec.{ltb, leb, eqb}
 use lib.ListN.{length, get_or}
 use native.Mathlib.Nat.{zero-add}
 use native.Mathlib.Omega.{arith}
 use borrow.Author.Tests.{eq-eqb, ne_eqb, le-leb, lt-leb, ltb-true, ltb-false, leb-true, eqb-true, eqb-false, not-true, not-false}
+use Rattle.std.specs.Prelude.{Option, None, Some}
+use Rattle.std.specs.Option.{option_or}
 use Rattle.octets.specs.Octets.{octet_of, be16}
 use Rattle.subobject.specs.Layout.{kind_of}
 use Rattle.octets.proofs.Said.{both_true, or_assoc, or_none}
 use Rattle.objects.specs.Objects.{header, unit, class_place, type_place, length_place, type_worth, object_type}
 use Rattle.frame.specs.declared.gathering.Facts.{Facts}
 use Rattle.frame.specs.Frames.{class_of, headed, fits_in, Apart, ended, unfilled, from, apart, apart_of, kind_at, any_is, other_than, mixed_at}
-use Rattle.frame.specs.Gathered.{no_facts, seen_of, facts_in, facts_of}
+use Rattle.frame.specs.Gathered.{Found, Placed, PlacedIn, place_of, gathered, found_of, no_facts, seen_of, facts_in, facts_of}
 
 -- the header ---------------------------------------------------------------------------------------------------
 
@@ -146,7 +148,7 @@ any_other kinds kind first [] = false
 any_other kinds kind first (p ∷ ps) = cond (eqb (kinds p) first) (any_other kinds kind first ps) (eqb (kinds p) kind || any_other kinds kind first ps)
 
 -- The facts gathered, with those of the places that are left.
-abbrev pub joined : (ℕ → ℕ) → ℕ → ℕ → Facts → List ℕ → Facts
+abbrev pub joined : (ℕ → ℕ) → ℕ → ℕ → Found → List ℕ → Found
 joined kinds kind first g ps =
     record {
       whole = g.whole;
@@ -155,7 +157,7 @@ joined kinds kind first g ps =
       other = cond (eqb g.other 0) (other_than kinds ps first) g.other;
     }
 
-abbrev pub look_rest : (ℕ → ℕ) → ℕ → ℕ → Facts → Apart → Facts
+abbrev pub look_rest : (ℕ → ℕ) → ℕ → ℕ → Found → Apart → Found
 look_rest kinds kind first g a = cond a.whole (joined kinds kind first g a.places) (no_facts false)
 
 first_mixed : (kinds : ℕ → ℕ) (f : ℕ) (s : List ℕ) (at : ℕ) → other_than kinds (apart s at f).places (kinds at) ≡ mixed_at kinds (apart s at f).places
@@ -187,7 +189,7 @@ first_once kinds kind first ps = go (eqb first kind) refl
     go false e = unlike kinds kind first ps e
 
 -- The facts before the first subobject.
-abbrev pub start_facts : List ℕ → ℕ → ℕ → Facts
+abbrev pub start_facts : List ℕ → ℕ → ℕ → Found
 start_facts s kind first = record { whole = true; count = 0; any = not (eqb (length s) header) && eqb first kind; other = 0 }
 
 first_any : (kinds : ℕ → ℕ) (kind f : ℕ) (s : List ℕ) → (apart s header f).whole ≡ true
@@ -237,7 +239,7 @@ found_next o p rest h = go (eqb o 0) refl
     go false e = rw e
 
 -- A place less to come, and its subobject seen.
-joined_next : (kinds : ℕ → ℕ) (kind first p : ℕ) (g : Facts) (ps : List ℕ) → 0 < p
+joined_next : (kinds : ℕ → ℕ) (kind first p : ℕ) (g : Found) (ps : List ℕ) → 0 < p
     → joined kinds kind first g (p ∷ ps) ≡ joined kinds kind first (seen_of g (kinds p) kind first p) ps
 unfolding seen_of
 joined_next kinds kind first p g ps h = go (eqb (kinds p) first)
@@ -251,7 +253,7 @@ joined_next kinds kind first p g ps h = go (eqb (kinds p) first)
     o : cond (eqb g.other 0) p g.other ≡ cond (eqb (cond (eqb g.other 0) p g.other) 0) (other_than kinds ps first) (cond (eqb g.other 0) p g.other)
     o = found_next g.other p (other_than kinds ps first) h
 
-    go : (y : Bool) → ◌≡◌ {A = Facts}
+    go : (y : Bool) → ◌≡◌ {A = Found}
         (record {
           whole = g.whole;
           count = g.count + suc (length ps);
@@ -271,7 +273,7 @@ joined_next kinds kind first p g ps h = go (eqb (kinds p) first)
         }
     go false = λ i. record { whole = g.whole; count = n i; any = a i; other = o i }
 
-joined_all : (kinds : ℕ → ℕ) (kind first : ℕ) (g : Facts) → joined kinds kind first g [] ≡ g
+joined_all : (kinds : ℕ → ℕ) (kind first : ℕ) (g : Found) → joined kinds kind first g [] ≡ g
 joined_all kinds kind first g =
     let n : g.count + 0 ≡ g.count = omega arith in
     let a = or_none g.any in
@@ -279,14 +281,14 @@ joined_all kinds kind first g =
     λ i. record { whole = g.whole; count = n i; any = a i; other = o i }
 
 -- The pass has come to `at` with the facts g.
-pub record Looking (s : List ℕ) (ero : Bool) (kind first at : ℕ) (g whole : Facts) : Type 0 where
+pub record Looking (s : List ℕ) (ero : Bool) (kind first at : ℕ) (g whole : Found) : Type 0 where
   pub rest : Over (look_rest (kind_at s ero) kind first g) s at whole
 
 pub look_starts : (s : List ℕ) (ero : Bool) (kind first : ℕ) (any : Bool) → any ≡ (not (eqb (length s) header) && eqb first kind) → first ≡ kind_at s ero header
     → Looking s ero kind first header (record { whole = true; count = 0; any = any; other = 0 }) (facts_of s ero kind)
 look_starts s ero kind first any q e = rw q (record { rest = rest_starts s ero kind first e })
 
-module _ {s : List ℕ} {ero : Bool} {kind first at : ℕ} {g whole : Facts} (l : Looking s ero kind first at g whole) where
+module _ {s : List ℕ} {ero : Bool} {kind first at : ℕ} {g whole : Found} (l : Looking s ero kind first at g whole) where
   pub look_ends : at ≡ length s → g ≡ whole
   look_ends e = sym (joined_all (kind_at s ero) kind first g) ∙ over_ends l.rest e
 
@@ -295,7 +297,7 @@ module _ {s : List ℕ} {ero : Bool} {kind first at : ℕ} {g whole : Facts} (l 
   unfolding octet_of
   look_cut {r = r} n e f t = over_cut l.rest n (rw e at (sym f ∙ not-true r t))
 
-  pub look_next : {len x k : ℕ} {r : Bool} {g' : Facts} → 0 < at → at < length s → len ≡ get_or s (at + 1) 0 → r ≡ fits_in len (length s - at) → not r ≡ false
+  pub look_next : {len x k : ℕ} {r : Bool} {g' : Found} → 0 < at → at < length s → len ≡ get_or s (at + 1) 0 → r ≡ fits_in len (length s - at) → not r ≡ false
       → x ≡ get_or s at 0 → k ≡ kind_of x ero → g' ≡ seen_of g k kind first at → Looking s ero kind first (at + len) g' whole
   unfolding octet_of
   look_next {r = r} h n e f t ex ek eg =
@@ -309,15 +311,42 @@ module _ {s : List ℕ} {ero : Bool} {kind first at : ℕ} {g whole : Facts} (l 
 pub now_fits : (len room : ℕ) (r : Bool) → r ≡ fits_in len room → not r ≡ false → (unit ≤ len) × (len % unit ≡ 0) × (len ≤ room)
 now_fits len room r e n = fits_true len room (sym e ∙ not-false r n)
 
-pub seen_count : (g g' : Facts) (at k kind first : ℕ) → g' ≡ seen_of g k kind first at → g'.count ≡ g.count + 1
+pub seen_count : (g g' : Found) (at k kind first : ℕ) → g' ≡ seen_of g k kind first at → g'.count ≡ g.count + 1
 unfolding seen_of
-seen_count g g' at k kind first e = ap (λ (x : Facts). x.count) e ∙ go (eqb k first)
+seen_count g g' at k kind first e = ap (λ (x : Found). x.count) e ∙ go (eqb k first)
   where
-    go : (b : Bool) → (cond {A = Facts} b (record { whole = g.whole; count = g.count + 1; any = g.any; other = g.other })
+    go : (b : Bool) → (cond {A = Found} b (record { whole = g.whole; count = g.count + 1; any = g.any; other = g.other })
         (record { whole = g.whole; count = g.count + 1; any = g.any || eqb k kind; other = cond (eqb g.other 0) at g.other })).count
         ≡ g.count + 1
     go true = refl
     go false = refl
+
+-- A subobject of another type than the first one's more, as the code looks at it.
+or_place : (o r : Option ℕ) (at : ℕ) → Placed o → r ≡ option_or o (Some at) → place_of r ≡ cond (eqb (place_of o) 0) at (place_of o)
+or_place None r at p e = rw e
+or_place (Some x) r at p e = rw (e, ne_eqb x 0 (λ z. omega arith))
+
+pub seen_more : (g : Facts) (k kind first at : ℕ) (any : Bool) (other : Option ℕ) → (k ≡ first → ⊥) → any ≡ (g.any || eqb k kind) → Placed g.other
+    → other ≡ option_or g.other (Some at) → gathered (record { count = g.count + 1; any = any; other = other }) ≡ seen_of (gathered g) k kind first at
+unfolding seen_of
+seen_more g k kind first at any other n ea p eo =
+    let o = or_place g.other other at p eo in rw (ne_eqb k first n) (λ i. record { whole = true; count = g.count + 1; any = ea i; other = o i })
+
+-- What was gathered is determined by what the frame holds.
+place_once : (o p : Option ℕ) → Placed o → Placed p → place_of o ≡ place_of p → o ≡ p
+place_once None None x y e = refl
+place_once None (Some p) x y e = absurd (omega arith)
+place_once (Some o) None x y e = absurd (omega arith)
+place_once (Some o) (Some p) x y e = ap (λ (z : ℕ). Some z) e
+
+pub found_once : (a b : Option Facts) → PlacedIn a → PlacedIn b → found_of a ≡ found_of b → a ≡ b
+found_once None None x y e = refl
+found_once None (Some h) x y e = absurd (false≢true (ap (λ (f : Found). f.whole) e))
+found_once (Some g) None x y e = absurd (false≢true (sym (ap (λ (f : Found). f.whole) e)))
+found_once (Some g) (Some h) x y e =
+    let n = ap (λ (f : Found). f.count) e in
+    let a = ap (λ (f : Found). f.any) e in
+    let o = place_once g.other h.other x y (ap (λ (f : Found). f.other) e) in λ i. Some (record { count = n i; any = a i; other = o i })
 
 -- the place of a subobject -------------------------------------------------------------------------------------
 

@@ -3,7 +3,7 @@ ghost use Rattle.std.specs.Prelude.{◌≡◌, get_or};
 ghost use Rattle.frame.specs.Frames.{apart_of};
 ghost use Rattle.frame.specs.Gathered.{Walkable};
 
-// no octet of a subobject: the object begins with its header
+// no octet of a subobject: the object begins with its header. A refusal that names no place has it too, so that callers hand it on, where an Option would be unwrapped
 const NO_PLACE: usize = 0;
 
 // The place of subobject i, from 0; 0 where there is none.
@@ -13,13 +13,11 @@ pub fn nth(s: &[u8], i: usize) -> usize
 {
     let end = s.len();
     let mut at: usize = objects::HEADER;
-    let mut left = i;
-    while at != end {
-        if left == 0 {
-            return at;
+    for k in 0..i {
+        if at == end {
+            return NO_PLACE;
         }
-        left = left - 1;
-        at = at + octets::wide(s[at + subobject::SIZE_PLACE]);
+        at = at + usize::from(s[at + subobject::SIZE_PLACE]);
     }
-    NO_PLACE
+    if at == end { NO_PLACE } else { at }
 }

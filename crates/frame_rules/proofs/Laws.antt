@@ -11,9 +11,8 @@ use Rattle.objects.specs.Objects.{header, unit, class_place, type_place, length_
 use Rattle.answers.specs.declared.verdict.Verdict.{Verdict}
 use Rattle.answers.specs.Numbers.{frame_broken, route_empty, kinds_mixed, none_of_form}
 use Rattle.answers.specs.Verdicts.{refused_by, accepted_with}
-use Rattle.frame.specs.declared.gathering.Facts.{Facts}
 use Rattle.frame.specs.Frames.{class_of, headed, apart_of, rule4, rule5, rule6, rule6_place, rule14}
-use Rattle.frame.specs.Gathered.{facts_of, frame_of}
+use Rattle.frame.specs.Gathered.{Found, facts_of, frame_of}
 
 -- The last test of a header.
 pub headed_last : (ero : Bool) (s : List ℕ) → header ≤ length s → get_or s class_place 0 ≡ class_of ero → get_or s type_place 0 / type_worth ≡ object_type → be16 s length_place ≡ length s
@@ -25,7 +24,7 @@ headed_last ero s l c k n =
 -- the frame's answer -------------------------------------------------------------------------------------------
 
 -- The answer by the facts that the pass has gathered.
-abbrev pub by_facts : Facts → Verdict
+abbrev pub by_facts : Found → Verdict
 by_facts g =
     cond (not g.whole) (refused_by frame_broken 0)
     (cond (eqb g.count 0) (refused_by route_empty 0)
@@ -35,7 +34,7 @@ pub header_broken : (ero : Bool) (kind : ℕ) (s : List ℕ) (h : Bool) → h �
 unfolding frame_of rule4
 header_broken ero kind s h e n = rw (sym e ∙ not-true h n)
 
-pub frame_by : (ero : Bool) (kind : ℕ) (s : List ℕ) (h : Bool) (g : Facts) → h ≡ headed s ero → not h ≡ false → g ≡ facts_of s ero kind
+pub frame_by : (ero : Bool) (kind : ℕ) (s : List ℕ) (h : Bool) (g : Found) → h ≡ headed s ero → not h ≡ false → g ≡ facts_of s ero kind
     → by_facts g ≡ frame_of s ero kind
 unfolding frame_of facts_of rule4 rule5 rule6 rule6_place rule14
 frame_by ero kind s h g e n q = rw q (go (apart_of s).whole refl)

@@ -1,9 +1,21 @@
 // The frame's rules, over what one pass gathers.
 ghost use Rattle.std.specs.Prelude.{◌≡◌};
-ghost use Rattle.frame.specs.Frames.{headed};
+ghost use Rattle.answers.specs.Verdicts.{counted_of};
+ghost use Rattle.frame.specs.Frames.{class_of, headed};
 ghost use Rattle.frame.specs.Gathered.{frame_of};
 
-use answers::Verdict;
+use answers::{Reason, Refusal};
+
+// The class that an object is asked for.
+fn class(ero: bool) -> usize
+    ensures class { result ≡ class_of ero }
+{
+    if ero {
+        objects::ERO_CLASS
+    } else {
+        objects::RRO_CLASS
+    }
+}
 
 // The object's own part of 4.
 pub fn is_headed(s: &[u8], ero: bool) -> bool
@@ -13,12 +25,10 @@ pub fn is_headed(s: &[u8], ero: bool) -> bool
     if n < objects::HEADER {
         return false;
     }
-    if octets::wide(s[objects::CLASS_PLACE])
-        != octets::pick(ero, objects::ERO_CLASS, objects::RRO_CLASS)
-    {
+    if usize::from(s[objects::CLASS_PLACE]) != class(ero) {
         return false;
     }
-    if octets::wide(s[objects::TYPE_PLACE]) / objects::TYPE_WORTH != objects::OBJECT_TYPE {
+    if usize::from(s[objects::TYPE_PLACE]) / objects::TYPE_WORTH != objects::OBJECT_TYPE {
         return false;
     }
     if octets::read16(s, objects::LENGTH_PLACE) != n {
@@ -28,25 +38,27 @@ pub fn is_headed(s: &[u8], ero: bool) -> bool
 }
 
 // 4, 5, 6 and 14 for subobjects of the type `kind`; else how many subobjects there are.
-pub fn framed(s: &[u8], ero: bool, kind: usize) -> Verdict
-    ensures framed { result ≡ frame_of s.now ero kind }
+pub fn framed(s: &[u8], ero: bool, kind: usize) -> Result<usize, Refusal>
+    ensures framed { counted_of result ≡ frame_of s.now ero kind }
 {
     if !is_headed(s, ero) {
-        return answers::refused(answers::FRAME_BROKEN, 0);
+        return Err(Reason::FrameBroken.into());
     }
     let first = subobject::kind(octets::octet(s, objects::HEADER), ero);
-    let g = frame::look(s, ero, kind, first);
-    if !g.whole {
-        return answers::refused(answers::FRAME_BROKEN, 0);
-    }
+    let Some(g) = frame::look(s, ero, kind, first) else {
+        return Err(Reason::FrameBroken.into());
+    };
     if g.count == 0 {
-        return answers::refused(answers::ROUTE_EMPTY, 0);
-    }
-    if octets::both(g.any, g.other != 0) {
-        return answers::refused(answers::KINDS_MIXED, g.other);
+        return Err(Reason::RouteEmpty.into());
     }
     if !g.any {
-        return answers::refused(answers::NONE_OF_FORM, 0);
+        return Err(Reason::NoneOfForm.into());
     }
-    answers::accepted(g.count)
+    match g.other {
+        Some(place) => Err(Refusal {
+            reason: Reason::KindsMixed,
+            place,
+        }),
+        None => Ok(g.count),
+    }
 }

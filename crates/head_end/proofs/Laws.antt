@@ -1,6 +1,5 @@
--- Laws of the list of addresses: the loop, what a search answers, any two answers that fit are equal. Addresses are compared from the last to the first (`among_hit`,
--- `among_miss`, `among_end`); that a hit is an address of the list is shown along their number.
-use Prim.Native.Nat.{ℕ, zero, suc, ◌-◌, ◌*◌, ◌/◌, ◌≤◌, ◌<◌}
+-- Laws of the list of addresses: what a search answers, any two answers that fit are equal. That a hit is an address of the list is shown along their number.
+use Prim.Native.Nat.{ℕ, zero, suc, ◌+◌, ◌*◌, ◌/◌, ◌≤◌, ◌<◌}
 use native.Mathlib.Omega.{arith}
 use mathlib.Core.Path.{◌≡◌, refl, sym, ap, ◌∙◌}
 use mathlib.Core.Logic.{◌↔◌}
@@ -14,25 +13,15 @@ use Rattle.octets.specs.Octets.{part}
 use Rattle.octets.proofs.Laws.{length_part}
 use Rattle.same_octets.specs.Same.{same_octets}
 use Rattle.same_octets.proofs.Laws.{same_refl, same_is}
+use Rattle.std.proofs.Common.{Option, Some, None, Bor}
+use Rattle.std.specs.Option.{option_map, IsSomeAnd, IfSome}
+use Rattle.std.specs.Bool.{MatchBool}
+use Rattle.std.specs.List.{IsSubsliceAt}
+use Rattle.std.specs.Iterator.Runs.{Run, AnyItemGives, AllItemsGive, IsChunksExactRun}
+use denote.Param.Members.{Mut, Called}
 use Rattle.head_end.specs.Addresses.{address_size, usable_list, address_at, among_first, has_address}
 
 -- the search -----------------------------------------------------------------------------------------------------
-
-module _ (x list : List ℕ) where
-  -- One turn, from the last address to the first.
-  pub among_hit : (n : ℕ) {b : Bool} → 0 < n → b ≡ same_octets (part list (address_size * (n - 1)) address_size) x → b ≡ true → true ≡ among_first list x n
-  among_hit zero h f e = absurd (omega arith)
-  among_hit (suc n) h f e = let q : suc n - 1 ≡ n = omega arith in rw (ap (λ (k : ℕ). same_octets (address_at list k) x) (sym q) ∙ sym f ∙ e)
-
-  pub among_miss : (n : ℕ) {b : Bool} → 0 < n → b ≡ same_octets (part list (address_size * (n - 1)) address_size) x → b ≡ false → among_first list x (n - 1) ≡ among_first list x n
-  among_miss zero h f e = absurd (omega arith)
-  among_miss (suc n) h f e =
-      let q : suc n - 1 ≡ n = omega arith in
-      rw (ap (λ (k : ℕ). same_octets (address_at list k) x) (sym q) ∙ sym f ∙ e) (ap (λ (k : ℕ). among_first list x k) q)
-
-  pub among_end : (n : ℕ) → n ≤ 0 → false ≡ among_first list x n
-  among_end zero h = refl
-  among_end (suc n) h = absurd (omega arith)
 
 module _ (x list : List ℕ) where
   -- An address is found exactly if one of the list is it.
@@ -73,6 +62,54 @@ module _ (x list : List ℕ) where
 pub none_in_none : (x : List ℕ) → has_address [] x ≡ false
 unfolding has_address
 none_in_none x = refl
+
+-- A run along the addresses, in each step of which y is compared with x: it answers whether x is among them.
+module _ {S : Type 0} {steps : S → Option (Bor (List ℕ)) → S → Type 0} (p : Run steps) (x list : List ℕ) (chunks : IsChunksExactRun p address_size list) where
+  there : (k : ℕ) (o : Option (Bor (List ℕ))) → IsSomeAnd o (λ y. true ≡ same_octets y.now x)
+      → IfSome o (λ y. (length y.now ≡ address_size) × (k * address_size + address_size ≤ length list) × IsSubsliceAt address_size list (k * address_size) y.now)
+      → (k < length list / address_size) × (address_at list k ≡ x)
+  unfolding part
+  there k None a c = absurd a
+  there k (Some y) a c =
+      let at : k * address_size ≡ address_size * k = omega arith in
+      let h = c.2.0 in
+      (omega (arith, c.1), sym (rw at at h) ∙ same_is y.now x (sym a))
+
+  not_there : (k : ℕ) (o : Option (Bor (List ℕ))) (z : Bor (List ℕ)) → option_map (λ (y : Bor (List ℕ)). y) o ≡ Some z → IfSome o (λ y. false ≡ same_octets y.now x)
+      → IfSome o (λ y. (length y.now ≡ address_size) × (k * address_size + address_size ≤ length list) × IsSubsliceAt address_size list (k * address_size) y.now)
+      → address_at list k ≡ x → ⊥
+  unfolding part
+  not_there k None z e a c q = let n : ◌≡◌ {A = Bool} false true = cc in false≢true n
+  not_there k (Some y) z e a c q =
+      let at : k * address_size ≡ address_size * k = omega arith in
+      let h = c.2.0 in
+      false≢true (a ∙ ap (λ (w : List ℕ). same_octets w x) (rw at at h ∙ q) ∙ same_refl x)
+
+  module _ {F : Type 0} (g : Mut F (Bor (List ℕ) × Unit {0}) Bool) (f : F)
+      (says : (y : Bor (List ℕ)) (b : Bool) (f' : F) → Called g f (y, tt) b f' → (b ≡ same_octets y.now x) × (f' ≡ f)) where
+    pub searched : (r : Bool) → MatchBool r (AnyItemGives p g f true) ((p.whole ≡ true) × AllItemsGive p g f false) → r ≡ has_address list x
+    searched true m =
+        let h = m (λ a b f' k. (says a.0 b f' k).1) in
+        let found : IsSomeAnd (p.at h.0) (λ y. true ≡ same_octets y.now x) = one (p.at h.0) h.2 in
+        let k = there h.0 (p.at h.0) found (chunks.2 h.0) in
+        sym ((has_exactly x list).1 (h.0, k.0, k.1))
+      where
+        one : (o : Option (Bor (List ℕ))) → IsSomeAnd o (λ y. Called g f (y, tt) true f) → IsSomeAnd o (λ y. true ≡ same_octets y.now x)
+        one None a = a
+        one (Some y) a = (says y true f a).0
+    searched false m = go (has_address list x) refl
+      where
+        each : (o : Option (Bor (List ℕ))) → IfSome o (λ y. Called g f (y, tt) false f) → IfSome o (λ y. false ≡ same_octets y.now x)
+        each None a = tt
+        each (Some y) a = (says y false f a).0
+
+        go : (b : Bool) → has_address list x ≡ b → false ≡ b
+        go false e = refl
+        go true e =
+            let h = (has_exactly x list).0 e in
+            let n : Bor (List ℕ) = record { ref_ptr = (0, 0); now = [] } in
+            let within : h.0 < p.len = omega (arith, chunks.1 m.0, h.1) in
+            absurd (not_there h.0 (p.at h.0) _ (p.reads h.0 n within) (each (p.at h.0) (m.1 (λ a b f' k. (says a.0 b f' k).1) h.0)) (chunks.2 h.0) h.2)
 
 -- Any two answers that fit the contract of a call are equal ------------------------------------------------------
 

@@ -6,8 +6,6 @@
 ghost use Rattle.std.specs.Prelude.{◌≡◌};
 ghost use Rattle.head_end.specs.Addresses.{usable_list, has_address};
 
-use same_octets::same;
-
 // The octets of an address.
 pub const ADDRESS_SIZE: usize = 16;
 
@@ -22,13 +20,5 @@ pub fn usable(addresses: &[u8]) -> bool
 pub fn has(addresses: &[u8], x: &[u8]) -> bool
     ensures found { result ≡ has_address addresses.now x.now }
 {
-    let mut left = addresses.len() / ADDRESS_SIZE;
-    while 0 < left {
-        left = left - 1;
-        let at = ADDRESS_SIZE * left;
-        if same(&addresses[at..at + ADDRESS_SIZE], x) {
-            return true;
-        }
-    }
-    false
+    addresses.chunks_exact(ADDRESS_SIZE).any(|a| a == x)
 }

@@ -3,16 +3,21 @@
 use Prim.Native.Nat.{ℕ, zero, suc, ◌+◌, ◌-◌, ◌*◌, ◌/◌, ◌%◌, ◌≤◌, ◌<◌}
 use mathlib.Core.Path.{◌≡◌, refl, ap}
 use mathlib.Core.List.{List, [], ◌∷◌}
-use mathlib.Core.Bool.{Bool, true, false, ◌&&◌}
-use lib.ListN.{length, get_or, drop, drop_of_length-le}
-use lib.Seq.{drop-cons, take_all}
+use mathlib.Core.Bool.{Bool, true, false, cond, not, ◌&&◌}
+use lib.Dec.{eqb}
+use lib.ListN.{length, get_or}
+use lib.Seq.{take_all}
 use native.Mathlib.Omega.{arith}
-use native.Mathlib.Numerals.{add-one}
-use borrow.Author.Tests.{eq-eqb, ne_eqb, le-leb, lt-leb}
+use borrow.Author.Tests.{ne_eqb, le-leb, lt-leb}
 use Rattle.octets.proofs.Laws.{copied}
 use Rattle.octets.specs.Octets.{over}
+use Rattle.std.specs.Prelude.{Option, Some, None}
+use Rattle.std.specs.Option.{is_some, unwrap_or}
+use Rattle.std.specs.List.{list_all}
+use Rattle.std.proofs.lemmas.Grind.{common_steps}
+use Rattle.std.proofs.lemmas.Bool.Decides.{nat_tests}
 use Rattle.words.specs.Words.{digit_zero, digit_nine, upper_a, upper_f, lower_a, lower_f, upper_above, lower_above}
-use Rattle.hexadecimal.specs.Hexadecimal.{hex_code, is_hex, all_pairs, pair_of, octets_of}
+use Rattle.hexadecimal.specs.Hexadecimal.{hex_code, is_hex, digit_value, all_pairs, pair_of, octets_of}
 
 -- ## A digit
 
@@ -47,15 +52,41 @@ module _ (c : ℕ) where
       simp
       (le-leb digit_zero c (omega arith), lt-leb c digit_nine (omega arith), le-leb upper_a c (omega arith), lt-leb c upper_f (omega arith), le-leb lower_a c (omega arith), lt-leb c lower_f h)
 
+-- ## A digit as an option
+
+hex_least : (c : ℕ) → hex_code c ≤ 16
+unfolding hex_code
+hex_least c = grind (arith, common_steps, nat_tests)
+
+module _ (c : ℕ) where
+  pub value_some : (d : ℕ) → d ≡ hex_code c → d < 16 → Some d ≡ digit_value c
+  unfolding digit_value is_hex
+  value_some d e h = rw (← e, ne_eqb d 16 (λ (k : d ≡ 16). omega arith))
+
+  pub value_none : 16 ≡ hex_code c → None ≡ digit_value c
+  unfolding digit_value is_hex
+  value_none e = rw (← e)
+
+  pub worth_digit : (o : Option ℕ) → o ≡ digit_value c → unwrap_or o 0 ≡ hex_code c % 16
+  unfolding digit_value is_hex
+  worth_digit o e = go (hex_code c) (hex_least c) e where
+    go : (h : ℕ) → h ≤ 16 → o ≡ cond (not (eqb h 16)) (Some h) None → unwrap_or o 0 ≡ h % 16
+    go h l e = rw e (by (eqb h 16) refl) where
+      by : (b : Bool) → eqb h 16 ≡ b → unwrap_or (cond (not b) (Some h) None) 0 ≡ h % 16
+      by true q = let n : h ≡ 16 = grind (arith, common_steps) in rw n
+      by false q = let n : h < 16 = grind (arith, common_steps) in omega arith
+
+  pub hex_digit : (o : Option ℕ) → o ≡ digit_value c → is_some o ≡ is_hex c
+  unfolding digit_value
+  hex_digit o e = rw e (go (is_hex c)) where
+    go : (b : Bool) → is_some (cond b (Some (hex_code c)) None) ≡ b
+    go true = refl
+    go false = refl
+
 -- ## Pairs of digits
 
--- Every octet is a digit.
-unfoldable pub all_hex : List ℕ → Bool
-all_hex [] = true
-all_hex (c ∷ cs) = is_hex c && all_hex cs
-
-pub pairs_even : (w : List ℕ) → length w % 2 ≡ 0 → all_pairs w ≡ all_hex w
-unfolding all_pairs all_hex
+pub pairs_even : (w : List ℕ) → length w % 2 ≡ 0 → all_pairs w ≡ list_all is_hex w
+unfolding all_pairs
 pairs_even [] h = refl
 pairs_even (a ∷ []) h = absurd (omega arith)
 pairs_even (a ∷ b ∷ r) h = ap (λ (t : Bool). is_hex a && (is_hex b && t)) (pairs_even r (omega arith))
@@ -69,19 +100,6 @@ pairs_odd (a ∷ b ∷ r) h = go (is_hex a) (is_hex b) (pairs_odd r (λ e. h (om
   go true true e = e
   go true false e = refl
   go false y e = refl
-
-module _ (w : List ℕ) (i : ℕ) where
-  pub hex_miss : i < length w → hex_code (get_or w i 0) ≡ 16 → all_hex (drop i w) ≡ false
-  unfolding all_hex is_hex
-  hex_miss h e = rw (drop-cons w i 0 h, eq-eqb (hex_code (get_or w i 0)) 16 e)
-
-  pub hex_hit : i < length w → (hex_code (get_or w i 0) ≡ 16 → ⊥) → all_hex (drop i w) ≡ all_hex (drop (i + 1) w)
-  unfolding all_hex is_hex
-  hex_hit h e = rw (add-one, drop-cons w i 0 h, ne_eqb (hex_code (get_or w i 0)) 16 e)
-
-  pub hex_end : length w ≤ i → all_hex (drop i w) ≡ true
-  unfolding all_hex
-  hex_end h = rw (drop_of_length-le w h)
 
 -- ## The octets
 

@@ -1,5 +1,5 @@
 -- Octets as a word spells them (console.md).
-use Rattle.std.specs.Prelude.{ℕ, ◌+◌, ◌-◌, ◌*◌, ◌%◌, Bool, true, false, cond, not, ◌&&◌, ◌||◌, List, [], ◌∷◌, eqb, leb, length}
+use Rattle.std.specs.Prelude.{ℕ, ◌+◌, ◌-◌, ◌*◌, ◌%◌, Bool, true, false, cond, not, ◌&&◌, ◌||◌, List, [], ◌∷◌, eqb, leb, length, Option, Some, None}
 use Rattle.objects.specs.Objects.{sid_size, nai_size}
 use Rattle.words.specs.Words.{digit_zero, digit_nine, upper_a, upper_f, lower_a, lower_f, upper_above, lower_above}
 use Rattle.decimal.specs.Decimal.{is_none}
@@ -17,6 +17,10 @@ hex_code c =
 
 unfoldable pub is_hex : ℕ → Bool
 is_hex c = not (eqb (hex_code c) no_digit)
+
+-- The same as an option.
+unfoldable pub digit_value : ℕ → Option ℕ
+digit_value c = cond (is_hex c) (Some (hex_code c)) None
 
 -- "pairs of hexadecimal digits with nothing between them, read in either case"
 unfoldable pub all_pairs : List ℕ → Bool

@@ -15,6 +15,7 @@ pub const THIRD_PART: usize = 16;
 pub const TIME_PLACE: usize = 3;
 
 // The label of the label stack entry at a place; octets past the end are 0.
+#[tactic(auto, unfolding(subobject::specs::Rules::label_at))]
 pub fn label_at(s: &[u8], at: usize) -> usize
     requires { at < length s.now + 128 }
     ensures label { result ≡ label_at s.now at }
@@ -25,6 +26,7 @@ pub fn label_at(s: &[u8], at: usize) -> usize
 }
 
 // Its TTL.
+#[tactic(auto, unfolding(subobject::specs::Rules::time_at))]
 pub fn time_at(s: &[u8], at: usize) -> usize
     requires { at < length s.now + 128 }
     ensures time { result ≡ time_at s.now at }

@@ -27,7 +27,7 @@ pub fn label_good(s: &[u8], at: usize) -> bool
     if octets::read16(s, at) != 0 {
         return true;
     }
-    octets::wide(s[at + 2]) / label_entry::THIRD_PART == label_rules::GOOD_LABEL
+    usize::from(s[at + 2]) / label_entry::THIRD_PART == label_rules::GOOD_LABEL
 }
 
 // Whether a label that may stand in a route stands alone at a place.
@@ -49,12 +49,10 @@ pub fn labels(s: &[u8]) -> usize
     ensures labels { AloneTo s.now result }
 {
     let most = (s.len() - objects::HEADER) / LABEL_SIZE;
-    let mut count: usize = 0;
-    while count < most {
+    for count in 0..most {
         if !is_alone(s, objects::HEADER + LABEL_SIZE * count) {
             return count;
         }
-        count = count + 1;
     }
-    count
+    most
 }

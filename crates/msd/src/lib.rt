@@ -5,64 +5,70 @@
 // End D (45) don't (document 02, C-11; document 001, section 4).
 #![tactic(auto)]
 
-ghost use Rattle.std.specs.Prelude.{min, ◌≡◌, false};
-ghost use Rattle.msd.specs.Msd.{pairs_in, wrong_pairs, gathered_of};
-ghost use Rattle.msd.specs.Stands.{Stands};
+ghost use Rattle.std.specs.Prelude.{◌≡◌, is_none, IfSome};
+ghost use Rattle.msd.specs.Msd.{smaller, pairs_in, wrong_pairs, gathered_of};
+ghost use Rattle.msd.specs.Stands.{Stands, met};
 
-const MAX_SEGMENTS_LEFT: usize = 41;
+const MAX_SEGMENTS_LEFT: u8 = 41;
 
-const MAX_END_POP: usize = 42;
+const MAX_END_POP: u8 = 42;
 
-const MAX_H_ENCAPS: usize = 44;
+const MAX_H_ENCAPS: u8 = 44;
 
-const MAX_END_D: usize = 45;
+const MAX_END_D: u8 = 45;
 
-// Stands for the smallest value of a type that no pair has: no octet is 256.
-pub const ABSENT: usize = 256;
-
-// What the pairs come to: whether a type is none of the four; and else H.Encaps' v and Segments Left's m.
+// The smallest values of H.Encaps and of Segments Left, each where a pair has the type.
 #[derive(Clone, Copy)]
-pub struct Gathered {
-    pub wrong: bool,
-    pub encaps: usize,
-    pub left: usize,
+pub struct Depths {
+    pub encaps: Option<u8>,
+    pub left: Option<u8>,
 }
 
-// The smaller one of two numbers.
-fn smaller(got: usize, value: usize) -> usize
-    ensures smaller { result ≡ min value got }
+// In the pass, of a type that no pair has: above every octet.
+const NONE_YET: usize = 256;
+
+// A value, or the least so far where that is smaller.
+fn smaller(value: u8, least: usize) -> usize
+    ensures smaller { met result ≡ smaller value (met least) }
 {
-    if value < got { value } else { got }
+    usize::from(value).min(least)
 }
 
-// One pass over the pairs. It ends at the first type that is none of the four.
-pub fn gather(p: &[u8]) -> Gathered
+// What the pass met of a type.
+#[tactic(auto, unfolding(crate::specs::Stands::met))]
+fn met(least: usize) -> Option<u8>
+    ensures met { result ≡ met least }
+{
+    if least < NONE_YET {
+        Some(least as u8)
+    } else {
+        None
+    }
+}
+
+// What the pairs come to; nothing where the type of one is none of the four, and the pass ends at the first such.
+pub fn gather(p: &[u8]) -> Option<Depths>
     ensures gathered { result ≡ gathered_of (pairs_in p.now) }
-    ensures wrong { result.wrong ≡ wrong_pairs (pairs_in p.now) }
-    ensures stands { result.wrong ≡ false → Stands (pairs_in p.now) result.encaps result.left }
+    ensures wrong { is_none result ≡ wrong_pairs (pairs_in p.now) }
+    ensures stands { IfSome result (λ depths. Stands (pairs_in p.now) depths.encaps depths.left) }
 {
-    let mut v = ABSENT;
-    let mut m = ABSENT;
-    let mut i = 0;
-    while i + 1 < p.len() {
-        let kind = octets::wide(p[i]);
-        let value = octets::wide(p[i + 1]);
-        if kind == MAX_H_ENCAPS {
-            v = smaller(v, value);
-        } else if kind == MAX_SEGMENTS_LEFT {
-            m = smaller(m, value);
-        } else if !octets::either(kind == MAX_END_POP, kind == MAX_END_D) {
-            return Gathered {
-                wrong: true,
-                encaps: ABSENT,
-                left: ABSENT,
-            };
+    // Numbers, and no `Option` before the end: the compiler packs one into a flag and an octet that each turn takes apart, which misses a bar of speed.
+    let mut encaps = NONE_YET;
+    let mut left = NONE_YET;
+    let mut pairs = p;
+    // No `for`: the pattern takes a pair off by name, where `chunks_exact(2)` hands out slices whose octets are then looked up again.
+    while let [kind, value, rest @ ..] = pairs {
+        match *kind {
+            MAX_H_ENCAPS => encaps = smaller(*value, encaps),
+            MAX_SEGMENTS_LEFT => left = smaller(*value, left),
+            MAX_END_POP => {}
+            MAX_END_D => {}
+            _ => return None,
         }
-        i = i + 2;
+        pairs = rest;
     }
-    Gathered {
-        wrong: false,
-        encaps: v,
-        left: m,
-    }
+    Some(Depths {
+        encaps: met(encaps),
+        left: met(left),
+    })
 }

@@ -5,55 +5,48 @@
 // Where the first segment stays off the header, H.Encaps permits v + 1 instead (document 02, C-15).
 #![tactic(auto)]
 
-ghost use Rattle.std.specs.Prelude.{max, ◌≡◌};
-ghost use Rattle.msd.specs.Msd.{depth_in};
-ghost use Rattle.msd_limit.specs.Limits.{segments_left_permits, limit_by, one_more_by};
-
-use msd::ABSENT;
-use session::Limit;
+ghost use Rattle.std.specs.Prelude.{◌≡◌};
+ghost use Rattle.msd_limit.specs.Limits.{h_encaps_permits, segments_left_permits, lower, limit_by, one_more_by};
 
 // What H.Encaps with value v permits.
-fn h_encaps_permits(v: usize) -> usize
-    ensures permits { result ≡ max 1 v }
+fn h_encaps_permits(v: Option<u8>) -> Option<usize>
+    ensures permits { result ≡ h_encaps_permits v }
 {
-    if v < 1 { 1 } else { v }
+    Some(usize::from(v?).max(1))
 }
 
-// What Segments Left permits: at most 256.
-fn segments_left_permits(m: usize) -> Limit
-    ensures permits { result ≡ segments_left_permits (depth_in m) }
+// What Segments Left with value m permits: at most 256.
+fn segments_left_permits(m: Option<u8>) -> Option<usize>
+    ensures permits { result ≡ segments_left_permits m }
 {
-    if ABSENT <= m {
-        return Limit::Free;
-    }
-    Limit::Most(m + 1)
+    Some(usize::from(m?) + 1)
 }
 
-// The limit of H.Encaps' v and Segments Left's m, each a value or ABSENT. An m that is absent is above whatever v permits.
-pub fn limit(v: usize, m: usize) -> Limit
-    ensures limit { result ≡ limit_by (depth_in v) (depth_in m) }
+// The smaller of two limits that are there.
+fn lower(one: Option<usize>, other: Option<usize>) -> Option<usize>
+    ensures lower { result ≡ lower one other }
 {
-    if ABSENT <= v {
-        return segments_left_permits(m);
+    match (one, other) {
+        (Some(a), Some(b)) => Some(a.min(b)),
+        (None, there) => there,
+        (there, None) => there,
     }
-    let most = h_encaps_permits(v);
-    if m < most {
-        return Limit::Most(m + 1);
-    }
-    Limit::Most(most)
+}
+
+// The limit of H.Encaps' v and Segments Left's m.
+pub fn limit(v: Option<u8>, m: Option<u8>) -> Option<usize>
+    ensures limit { result ≡ limit_by v m }
+{
+    lower(h_encaps_permits(v), segments_left_permits(m))
 }
 
 // The limit where the first segment stays off the header: H.Encaps' v permits v + 1. A limit that H.Encaps has no part in
 // stays.
-pub fn one_more(limit: Limit, encaps: usize, left: usize) -> Limit
-    ensures more { result ≡ one_more_by limit (depth_in encaps) (depth_in left) }
+pub fn one_more(limit: Option<usize>, encaps: Option<u8>, left: Option<u8>) -> Option<usize>
+    ensures more { result ≡ one_more_by limit encaps left }
 {
-    if ABSENT <= encaps {
-        return limit;
+    match encaps {
+        None => limit,
+        Some(v) => lower(Some(usize::from(v) + 1), segments_left_permits(left)),
     }
-    let off = encaps + 1;
-    if left < off {
-        return Limit::Most(left + 1);
-    }
-    Limit::Most(off)
 }

@@ -9,7 +9,7 @@ pub fn sum_three(s: &[u8], at: usize) -> usize
     requires { at + 3 ≤ length s.now }
     ensures sum { result ≡ sum_three s.now at }
 {
-    octets::wide(s[at]) + octets::wide(s[at + 1]) + octets::wide(s[at + 2])
+    usize::from(s[at]) + usize::from(s[at + 1]) + usize::from(s[at + 2])
 }
 
 // The sum of four octets that are all there.
@@ -17,10 +17,7 @@ pub fn sum_four_in(s: &[u8], at: usize) -> usize
     requires { at + 4 ≤ length s.now }
     ensures sum { (result ≡ sum_at s.now at) × (result < 1024) }
 {
-    octets::wide(s[at])
-        + octets::wide(s[at + 1])
-        + octets::wide(s[at + 2])
-        + octets::wide(s[at + 3])
+    usize::from(s[at]) + usize::from(s[at + 1]) + usize::from(s[at + 2]) + usize::from(s[at + 3])
 }
 
 // The sum of four octets; past the end they are 0.
@@ -42,8 +39,8 @@ pub fn four(s: &[u8], at: usize) -> usize
     requires { at + 4 ≤ length s.now }
     ensures four { result ≡ four_at s.now at }
 {
-    octets::wide(s[at])
-        + octets::wide(s[at + 1]) * 256
-        + octets::wide(s[at + 2]) * 65536
-        + octets::wide(s[at + 3]) * 16777216
+    usize::from(s[at])
+        + usize::from(s[at + 1]) * 256
+        + usize::from(s[at + 2]) * 65536
+        + usize::from(s[at + 3]) * 16777216
 }

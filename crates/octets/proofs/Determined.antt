@@ -1,20 +1,9 @@
--- Any two answers that fit the contract of a function of this crate are equal; of `wide` by `determined` itself, of
--- `part4`, `part16` and `part40` by `part_determined`, of `copy` and `lay` what the buffer holds afterwards.
+-- Any two answers that fit the contract of a function of this crate are equal; of `copy` and `lay` what the buffer holds afterwards.
 use Prim.Native.Nat.{ℕ}
 use mathlib.Core.Path.{◌≡◌}
 use mathlib.Core.List.{List}
-use mathlib.Core.Bool.{Bool, cond, ◌&&◌, ◌||◌}
 use Rattle.answers.proofs.Determined.{determined}
 use Rattle.octets.specs.Octets.{octet_of, be16, pad4, over, placed, part_of}
-
-pub both_determined : (a b : Bool) {x y : Bool} → x ≡ (a && b) → y ≡ (a && b) → x ≡ y
-both_determined a b = determined
-
-pub either_determined : (a b : Bool) {x y : Bool} → x ≡ (a || b) → y ≡ (a || b) → x ≡ y
-either_determined a b = determined
-
-pub pick_determined : (a : Bool) (n m : ℕ) {x y : ℕ} → x ≡ (cond a n m) → y ≡ (cond a n m) → x ≡ y
-pick_determined a n m = determined
 
 pub octet_determined : (s : List ℕ) (at : ℕ) {x y : ℕ} → x ≡ (octet_of s at) → y ≡ (octet_of s at) → x ≡ y
 octet_determined s at = determined

@@ -2,10 +2,8 @@
 // All numbers are big-endian (document 01, "The OPEN object").
 #![tactic(auto)]
 
-mod logic;
 mod put;
 mod take;
 
-pub use logic::{both, either, pick};
 pub use put::{copy, lay};
-pub use take::{END16, octet, padded, part4, part16, part40, read16, wide};
+pub use take::{END16, octet, padded, part, read16};

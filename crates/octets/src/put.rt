@@ -3,15 +3,12 @@ ghost use Rattle.std.specs.Prelude.{◌≡◌, ◌+◌, ◌≤◌, length};
 ghost use Rattle.octets.specs.Octets.{over, placed};
 
 // `src` over the start of `out`.
+#[tactic(auto, unfolding(crate::specs::Octets::over))]
 pub fn copy(out: &mut [u8], src: &[u8])
     requires { length src.now ≤ length out.old }
     ensures copied { out.new ≡ over src.now out.old }
 {
-    let mut i: usize = 0;
-    while i < src.len() {
-        out[i] = src[i];
-        i = i + 1;
-    }
+    out[..src.len()].copy_from_slice(src);
 }
 
 // `src` from the place `at` on.

@@ -5,17 +5,11 @@ ghost use Rattle.octets.specs.Octets.{octet_of, be16, end16, pad4, part_of};
 // what two octets say is below this
 pub const END16: usize = 65536;
 
-pub fn wide(x: u8) -> usize
-    ensures same { (result ≡ x) × (result < 256) }
-{
-    x as usize
-}
-
 // The octet at a place, 0 past the end.
 pub fn octet(s: &[u8], at: usize) -> usize
     ensures octet { (result ≡ octet_of s.now at) × (result < 256) }
 {
-    if at < s.len() { wide(s[at]) } else { 0 }
+    if at < s.len() { usize::from(s[at]) } else { 0 }
 }
 
 // Two octets, the first worth 256.
@@ -23,7 +17,7 @@ pub fn read16(s: &[u8], at: usize) -> usize
     requires { at + 2 ≤ length s.now }
     ensures number { (result ≡ be16 s.now at) × (result < end16) }
 {
-    wide(s[at]) * 256 + wide(s[at + 1])
+    usize::from(s[at]) * 256 + usize::from(s[at + 1])
 }
 
 // A length with its padding to a multiple of 4.
@@ -35,29 +29,11 @@ pub fn padded(n: usize) -> usize
 }
 
 // `n` octets from `at`, and 0 behind them.
-pub fn part4(s: &[u8], at: usize, n: usize) -> [u8; 4]
-    requires { (at + n ≤ length s.now) × (n ≤ 4) }
-    ensures part { result ≡ part_of s.now at n 4 }
+pub fn part<const N: usize>(s: &[u8], at: usize, n: usize) -> [u8; N]
+    requires { (at + n ≤ length s.now) × (n ≤ N) }
+    ensures part { result ≡ part_of s.now at n N }
 {
-    let mut a = [0u8; 4];
-    super::put::copy(&mut a, &s[at..at + n]);
-    a
-}
-
-pub fn part16(s: &[u8], at: usize, n: usize) -> [u8; 16]
-    requires { (at + n ≤ length s.now) × (n ≤ 16) }
-    ensures part { result ≡ part_of s.now at n 16 }
-{
-    let mut a = [0u8; 16];
-    super::put::copy(&mut a, &s[at..at + n]);
-    a
-}
-
-pub fn part40(s: &[u8], at: usize, n: usize) -> [u8; 40]
-    requires { (at + n ≤ length s.now) × (n ≤ 40) }
-    ensures part { result ≡ part_of s.now at n 40 }
-{
-    let mut a = [0u8; 40];
+    let mut a = [0; N];
     super::put::copy(&mut a, &s[at..at + n]);
     a
 }

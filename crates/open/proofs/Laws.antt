@@ -1,10 +1,10 @@
 -- The answer to an OPEN object by the walk over its TLVs is the one that its rules give. Each form's half is the first broken one of its three rules (`srv6_half`,
 -- `mpls_half`); the halves joined are the first broken one of the six by number (`joined_halves`, by cases); a torn walk is the rule that all fits (`answered`).
+use Rattle.std.specs.Prelude.{Option, None, Some}
 use Prim.Native.Nat.{ℕ, ◌-◌}
 use mathlib.Core.Path.{◌≡◌, refl, ◌∙◌}
 use mathlib.Core.List.{List, [], ◌∷◌}
 use mathlib.Core.Bool.{Bool, true, false, cond, not, ◌&&◌}
-use mathlib.Core.Option.{Option, none, some}
 use lib.ListN.{length, drop}
 use Rattle.octets.specs.Octets.{part}
 use Rattle.octets.proofs.Laws.{rest_lent}
@@ -12,7 +12,7 @@ use Rattle.objects.specs.Objects.{mpls_setup, srv6_setup}
 use Rattle.answers.specs.Numbers.{open_malformed, capability_missing, wrong_msd, not_usable}
 use Rattle.flag_positions.specs.declared.Positions.{Positions}
 use Rattle.flag_positions.specs.Positions.{usable_positions}
-use Rattle.session.specs.declared.Opened.{Opened}
+use Rattle.session.specs.Opened.{Opened}
 use Rattle.session.specs.Sessions.{no_form, open_refused, without_srv6}
 use Rattle.tlvs.specs.Tlvs.{tlvs_whole, first_tlv, not_there}
 use Rattle.setup_types.specs.SetupTypes.{path_setup, holds_list, subs_of, lists_type, listed_in}
@@ -70,30 +70,30 @@ srv6_half : (p : Positions) (v sub : Option (List ℕ))
     → srv6_by p v sub
     ≡ (let l = listed_in v srv6_setup in first_rule (three (l && not (sized_in sub)) (l && not_there sub) (l && wrong_sub sub) srv6_setup) (cond l (said_by p sub) without_srv6))
 unfolding announced_of
-srv6_half p none sub = refl
-srv6_half p (some v) sub = go (lists_type v srv6_setup) sub
+srv6_half p None sub = refl
+srv6_half p (Some v) sub = go (lists_type v srv6_setup) sub
   where
     go : (l : Bool) (o : Option (List ℕ))
         → cond l (announced_by p o) without_srv6
         ≡ first_rule (three (l && not (sized_in o)) (l && not_there o) (l && wrong_sub o) srv6_setup) (cond l (said_by p o) without_srv6)
     go false o = refl
-    go true none = refl
-    go true (some w) = refl
+    go true None = refl
+    go true (Some w) = refl
 
 mpls_half : (v sub : Option (List ℕ))
     → mpls_by v sub
     ≡ (let l = listed_in v mpls_setup in
     first_rule (three (l && not (mpls_sized_in sub)) (l && not_there sub) (l && depthless_sub sub) mpls_setup) (beside_by without_srv6 sub l))
 unfolding mpls_announced_of
-mpls_half none sub = refl
-mpls_half (some v) sub = go (lists_type v mpls_setup) sub
+mpls_half None sub = refl
+mpls_half (Some v) sub = go (lists_type v mpls_setup) sub
   where
     go : (l : Bool) (o : Option (List ℕ))
         → cond l (mpls_announced_by o) without_srv6
         ≡ first_rule (three (l && not (mpls_sized_in o)) (l && not_there o) (l && depthless_sub o) mpls_setup) (beside_by without_srv6 o l)
     go false o = refl
-    go true none = refl
-    go true (some w) = refl
+    go true None = refl
+    go true (Some w) = refl
 
 -- both halves --------------------------------------------------------------------------------------------------
 
@@ -129,30 +129,30 @@ module _ (sub : Option (List ℕ)) (o : Opened) (accepted : o.number ≡ 0) wher
     where
       go : (l : Bool) (w : Option (List ℕ)) → joined_of (beside_by without_srv6 w l) (open_refused open_malformed srv6_setup) ≡ open_refused open_malformed srv6_setup
       go false w = refl
-      go true none = refl
-      go true (some w) = refl
+      go true None = refl
+      go true (Some w) = refl
   joined_halves false false false true false c' l = go l sub
     where
       go : (l : Bool) (w : Option (List ℕ)) → joined_of (beside_by without_srv6 w l) (open_refused capability_missing srv6_setup) ≡ open_refused capability_missing srv6_setup
       go false w = refl
-      go true none = refl
-      go true (some w) = refl
+      go true None = refl
+      go true (Some w) = refl
   joined_halves false false false false false true l = go l sub
     where
       go : (l : Bool) (w : Option (List ℕ)) → joined_of (beside_by without_srv6 w l) (open_refused wrong_msd srv6_setup) ≡ open_refused wrong_msd srv6_setup
       go false w = refl
-      go true none = refl
-      go true (some w) = refl
+      go true None = refl
+      go true (Some w) = refl
   joined_halves false false false false false false l = go l sub
     where
       go : (l : Bool) (w : Option (List ℕ)) → joined_of (beside_by without_srv6 w l) o ≡ beside_by o w l
       go false w = refl
-      go true none = refl
-      go true (some w) = rw accepted
+      go true None = refl
+      go true (Some w) = rw accepted
 
 pub said_zero : (p : Positions) (l : Bool) (sub : Option (List ℕ)) → (cond l (said_by p sub) without_srv6).number ≡ 0
-said_zero p true none = refl
-said_zero p true (some w) = refl
+said_zero p true None = refl
+said_zero p true (Some w) = refl
 said_zero p false sub = refl
 
 pub halves : (p : Positions) (v mpls srv6 : Option (List ℕ))
@@ -203,20 +203,20 @@ module _ (p : Positions) (s : List ℕ) (u : usable_positions p ≡ true) (e : f
       srv6_of setup_of carries_of srv6_carried
   answered = fit (tlvs_whole (open_tlvs s)) (first_tlv (open_tlvs s) path_setup) refl refl
     where
-      hold : (v : List ℕ) → tlvs_whole (open_tlvs s) ≡ true → first_tlv (open_tlvs s) path_setup ≡ some v
+      hold : (v : List ℕ) → tlvs_whole (open_tlvs s) ≡ true → first_tlv (open_tlvs s) path_setup ≡ Some v
           → (b : Bool) → (holds_list v && tlvs_whole (subs_of v)) ≡ b
           → answer_by p (open_walk (drop tlvs_at s) false srv6_capability) (open_walk (drop tlvs_at s) false mpls_capability) ≡ open_of p s
       hold v f g true h =
           let mpls = first_tlv (subs_of v) mpls_capability in
           let srv6 = first_tlv (subs_of v) srv6_capability in
-          rw (u, e, f, g, h) (joined_listed p (some v) mpls srv6 ∙ halves p (some v) mpls srv6)
+          rw (u, e, f, g, h) (joined_listed p (Some v) mpls srv6 ∙ halves p (Some v) mpls srv6)
       hold v f g false h = rw (u, e, f, g, h)
 
       fit : (b : Bool) (o : Option (List ℕ)) → tlvs_whole (open_tlvs s) ≡ b → first_tlv (open_tlvs s) path_setup ≡ o
           → answer_by p (open_walk (drop tlvs_at s) false srv6_capability) (open_walk (drop tlvs_at s) false mpls_capability) ≡ open_of p s
       fit false o f g = rw (u, e, f)
-      fit true none f g = rw (u, e, f, g)
-      fit true (some v) f g = hold v f g (holds_list v && tlvs_whole (subs_of v)) refl
+      fit true None f g = rw (u, e, f, g)
+      fit true (Some v) f g = hold v f g (holds_list v && tlvs_whole (subs_of v)) refl
 
   -- by what the walks found
   pub cut_first : torn ≡ open_walk (drop tlvs_at s) false srv6_capability → open_refused open_malformed no_form ≡ open_of p s

@@ -1,13 +1,12 @@
 -- What a reader can cite of the answer to an OPEN object: accepted exactly if no rule is broken, refused by a number in a form's name exactly if that rule is broken
 -- and none before it; SRv6's answers are those of document 01 alone; when there is a limit. The first part holds of any list of rules in an order, by induction, and of
 -- the table since no two rows have one number and form (computed); what is carried is found by cases of what is listed and there.
-use Prim.Native.Nat.{ℕ, zero, suc, ◌<◌}
+use Rattle.std.specs.Prelude.{Option, None, Some}
+use Prim.Native.Nat.{ℕ, zero, suc}
 use mathlib.Core.Path.{◌≡◌, refl, sym, ap, ◌∙◌}
 use mathlib.Core.Logic.{◌↔◌, ◌⊎◌}
 use mathlib.Core.List.{List, [], ◌∷◌}
 use mathlib.Core.Bool.{Bool, true, false, cond, not, ◌&&◌, ◌||◌, false≢true}
-use mathlib.Core.Option.{Option, none, some}
-use lib.ListN.{get_or, drop}
 use lib.Dec.{eqb}
 use borrow.Author.Tests.{eq-eqb, eqb-true, not-true}
 use Rattle.octets.proofs.Said.{both_true}
@@ -16,15 +15,13 @@ use Rattle.answers.specs.Numbers.{open_malformed, capability_missing, wrong_msd,
 use Rattle.answers.proofs.First.{EachOf, NoneOf, none_first_of, first_of_none, first_of_keeps}
 use Rattle.answers.proofs.Determined.{determined}
 use Rattle.flag_positions.specs.declared.Positions.{Positions}
-use Rattle.session.specs.declared.Limit.TheVariants.{Free}
-use Rattle.session.specs.declared.Opened.{Opened}
+use Rattle.session.specs.Opened.{Opened}
 use Rattle.session.specs.Sessions.{no_form, open_refused, without_srv6}
-use Rattle.msd.specs.Msd.{max_segments_left, max_h_encaps, smallest_of, depth_number, depth_in}
-use Rattle.msd_limit.specs.Limits.{limit_by, limit_of_pairs, present, only_ends}
+use Rattle.msd.specs.Msd.{max_segments_left, max_h_encaps}
+use Rattle.msd_limit.specs.Limits.{limit_by, present, only_ends}
 use Rattle.capability_mpls.specs.Mpls.{mpls_n_of, mpls_limit_of}
-use Rattle.capability.specs.Srv6.{pairs_at, x_of, pairs_of, h_encaps_of, segments_left_of, limit_of, carries_by}
+use Rattle.capability.specs.Srv6.{x_of, pairs_of, limit_of, carries_by}
 use Rattle.capability.proofs.Laws.{no_limit_exactly, ends_limit_nothing}
-use Rattle.open.proofs.Small.{Value, small_drop, srv6_small, depth_back, small_smallest}
 use Rattle.open.proofs.Laws.{said_zero}
 use Rattle.open.specs.Before.{srv6_half, open_before}
 use Rattle.open.specs.Open.{
@@ -145,14 +142,14 @@ accepted_unbroken rs o h e =
 
 beside_zero : (l : Bool) (sub : Option (List ℕ)) (o : Opened) → o.number ≡ 0 → (beside_by o sub l).number ≡ 0
 beside_zero false sub o e = e
-beside_zero true none o e = e
-beside_zero true (some w) o e = e
+beside_zero true None o e = e
+beside_zero true (Some w) o e = e
 
 -- What MPLS adds leaves SRv6's limit.
 beside_limit : (l : Bool) (sub : Option (List ℕ)) (o : Opened) → (beside_by o sub l).limit ≡ o.limit
 beside_limit false sub o = refl
-beside_limit true none o = refl
-beside_limit true (some w) o = refl
+beside_limit true None o = refl
+beside_limit true (Some w) o = refl
 
 module _ (p : Positions) (s : List ℕ) where
   is_first : open_of p s ≡ first_rule (open_rules p s) (carries_of p s)
@@ -266,14 +263,14 @@ module _ (p : Positions) (s : List ℕ) where
       said : (b : Bool) (o : Option (List ℕ)) (l : Bool) (sub : Option (List ℕ))
           → srv6_half (beside_by (cond b (said_by p o) without_srv6) sub l) ≡ cond b (said_by p o) without_srv6
       said false o false sub = refl
-      said false o true none = refl
-      said false o true (some w) = refl
-      said true none false sub = refl
-      said true none true none = refl
-      said true none true (some w) = refl
-      said true (some u) false sub = refl
-      said true (some u) true none = refl
-      said true (some u) true (some w) = refl
+      said false o true None = refl
+      said false o true (Some w) = refl
+      said true None false sub = refl
+      said true None true None = refl
+      said true None true (Some w) = refl
+      said true (Some u) false sub = refl
+      said true (Some u) true None = refl
+      said true (Some u) true (Some w) = refl
 
       go : (z a a' b c l : Bool) (sub : Option (List ℕ))
           → srv6_half (first_rule (
@@ -299,67 +296,56 @@ module _ (p : Positions) (s : List ℕ) where
     where
       go : (b : Bool) (o : Option (List ℕ)) → (cond b (said_by p o) without_srv6).mpls ≡ false
       go false o = refl
-      go true none = refl
-      go true (some w) = refl
+      go true None = refl
+      go true (Some w) = refl
 
   -- An accepted OPEN that lists type 1 carries MPLS with N and the limit of its sub-TLV 26.
-  pub accepted_mpls : (w : List ℕ) → (open_of p s).number ≡ 0 → mpls_listed s ≡ true → mpls_of s ≡ some w
+  pub accepted_mpls : (w : List ℕ) → (open_of p s).number ≡ 0 → mpls_listed s ≡ true → mpls_of s ≡ Some w
       → ((open_of p s).mpls ≡ true) × ((open_of p s).mplsn ≡ mpls_n_of w) × ((open_of p s).mplslimit ≡ mpls_limit_of w)
   unfolding carries_of
   accepted_mpls w e f g = rw (accepted_carries e, f, g) (refl, refl, refl)
 
   -- The limit of an accepted OPEN that lists type 3 is that of its sub-TLV 27,
-  pub accepted_limit : (w : List ℕ) → (open_of p s).number ≡ 0 → listed s ≡ true → srv6_of s ≡ some w → (open_of p s).limit ≡ limit_of w
+  pub accepted_limit : (w : List ℕ) → (open_of p s).number ≡ 0 → listed s ≡ true → srv6_of s ≡ Some w → (open_of p s).limit ≡ limit_of w
   unfolding carries_of srv6_carried
   accepted_limit w e f g = rw (accepted_carries e, f, g) (beside_limit (mpls_listed s) (mpls_of s) (carries_by p w))
 
   -- so there is none exactly if X is set or neither H.Encaps nor Segments Left is present;
-  pub unlimited_exactly : (w : List ℕ) → (open_of p s).number ≡ 0 → listed s ≡ true → srv6_of s ≡ some w
-      → ((open_of p s).limit ≡ Free) ↔ ((x_of w ≡ true) ⊎ ((present (pairs_of w) max_h_encaps ≡ false) × (present (pairs_of w) max_segments_left ≡ false)))
+  pub unlimited_exactly : (w : List ℕ) → (open_of p s).number ≡ 0 → listed s ≡ true → srv6_of s ≡ Some w
+      → ((open_of p s).limit ≡ None) ↔ ((x_of w ≡ true) ⊎ ((present (pairs_of w) max_h_encaps ≡ false) × (present (pairs_of w) max_segments_left ≡ false)))
   unlimited_exactly w e f g = rw (accepted_limit w e f g) (no_limit_exactly w)
 
   -- and an OPEN whose pairs are only End Pop and End D limits nothing.
-  pub ends_open_limits_nothing : (w : List ℕ) → srv6_of s ≡ some w → only_ends (pairs_of w) ≡ true → (open_of p s).limit ≡ Free
+  pub ends_open_limits_nothing : (w : List ℕ) → srv6_of s ≡ Some w → only_ends (pairs_of w) ≡ true → (open_of p s).limit ≡ None
   unfolding carries_of srv6_carried
   ends_open_limits_nothing w g h =
       rw is_first (
-      first_keeps (λ (o : Opened). o.limit ≡ Free) (λ k f. refl) (open_rules p s)
+      first_keeps (λ (o : Opened). o.limit ≡ None) (λ k f. refl) (open_rules p s)
       (beside_limit (mpls_listed s) (mpls_of s) (cond (listed s) (said_by p (srv6_of s)) without_srv6) ∙ rw g (said (listed s)))
       )
     where
-      said : (b : Bool) → (cond b (carries_by p w) without_srv6).limit ≡ Free
+      said : (b : Bool) → (cond b (carries_by p w) without_srv6).limit ≡ None
       said true = ends_limit_nothing w h
       said false = refl
 
-  -- The limit of an answer is the one that its v and m set, the octets being octets: what the flags are judged by.
-  pub limit_of_depths : ((i : ℕ) → get_or s i 0 < 256) → (open_of p s).limit ≡ limit_by (depth_in (open_of p s).v) (depth_in (open_of p s).m)
-  unfolding carries_of srv6_carried limit_of h_encaps_of segments_left_of depth_in
-  limit_of_depths small =
+  -- The limit of an answer is the one that its v and m set: what the flags are judged by.
+  pub limit_of_depths : (open_of p s).limit ≡ limit_by (open_of p s).v (open_of p s).m
+  unfolding carries_of srv6_carried limit_of
+  limit_of_depths =
       rw is_first (
-      first_keeps (λ (x : Opened). x.limit ≡ limit_by (depth_in x.v) (depth_in x.m)) (λ k f. refl) (open_rules p s)
-      (beside (mpls_listed s) (mpls_of s) (cond (listed s) (said_by p (srv6_of s)) without_srv6) (said (listed s) (srv6_of s) (srv6_small s small)))
+      first_keeps (λ (x : Opened). x.limit ≡ limit_by x.v x.m) (λ k f. refl) (open_rules p s)
+      (beside (mpls_listed s) (mpls_of s) (cond (listed s) (said_by p (srv6_of s)) without_srv6) (said (listed s) (srv6_of s)))
       )
     where
-      counting : (x : Bool) (w : List ℕ) → ((i : ℕ) → get_or w i 0 < 256)
-          → (let ps = cond x [] (pairs_of w) in limit_of_pairs ps ≡ limit_by (depth_in (depth_number (smallest_of ps max_h_encaps))) (depth_in (depth_number (smallest_of ps max_segments_left))))
-      counting true w h = refl
-      counting false w h =
-          rw (
-            depth_back (smallest_of (pairs_of w) max_h_encaps) (small_smallest max_h_encaps (drop pairs_at w) (small_drop pairs_at w h)),
-            depth_back (smallest_of (pairs_of w) max_segments_left) (small_smallest max_segments_left (drop pairs_at w) (small_drop pairs_at w h)),
-          )
+      said : (b : Bool) (o : Option (List ℕ)) → (let x = cond b (said_by p o) without_srv6 in x.limit ≡ limit_by x.v x.m)
+      said true None = refl
+      said true (Some w) = refl
+      said false o = refl
 
-      said : (b : Bool) (o : Option (List ℕ)) → Value o
-          → (let x = cond b (said_by p o) without_srv6 in x.limit ≡ limit_by (depth_in x.v) (depth_in x.m))
-      said true none h = refl
-      said true (some w) h = counting (x_of w) w h
-      said false o h = refl
-
-      beside : (l : Bool) (sub : Option (List ℕ)) (x : Opened) → x.limit ≡ limit_by (depth_in x.v) (depth_in x.m)
-          → (let y = beside_by x sub l in y.limit ≡ limit_by (depth_in y.v) (depth_in y.m))
+      beside : (l : Bool) (sub : Option (List ℕ)) (x : Opened) → x.limit ≡ limit_by x.v x.m → (let y = beside_by x sub l in y.limit ≡ limit_by y.v y.m)
       beside false sub x e = e
-      beside true none x e = e
-      beside true (some w) x e = e
+      beside true None x e = e
+      beside true (Some w) x e = e
 
   -- Any two answers that fit the contract of `read_open` are equal.
   pub read_open_determined : (x y : Opened) → x ≡ open_of p s → y ≡ open_of p s → x ≡ y

@@ -1,9 +1,8 @@
 -- What document 01 alone says of an OPEN object: no sub-TLV 26 (document 02, C-16). And the part of an answer that it says.
-use Rattle.std.specs.Prelude.{ℕ, List, Bool, false, cond, not, ◌&&◌, ◌||◌}
+use Rattle.std.specs.Prelude.{ℕ, List, Bool, false, cond, not, ◌&&◌, ◌||◌, None}
 use Rattle.answers.specs.Numbers.{open_malformed, capability_missing, wrong_msd, not_usable}
 use Rattle.flag_positions.specs.declared.Positions.{Positions}
-use Rattle.session.specs.declared.Limit.TheVariants.{Free}
-use Rattle.session.specs.declared.Opened.{Opened}
+use Rattle.session.specs.Opened.{Opened}
 use Rattle.session.specs.Sessions.{no_form, open_refused}
 use Rattle.open.specs.Open.{srv6_of, listed, framed, fitting, holding, sized_in, breaks28, breaks2_srv6, breaks3_srv6, srv6_carried}
 
@@ -22,7 +21,7 @@ srv6_half o =
       form = no_form;
       mpls = false;
       mplsn = false;
-      mplslimit = Free;
+      mplslimit = None;
     }
 
 -- "If type 3 is listed, sub-TLV 27 must have an even length of at least 4."

@@ -1,12 +1,11 @@
 -- Reading an OPEN object (document 01, "The OPEN object"; sub-TLV 26 by document 02, C-16): its rules by their numbers, and the answer.
-use Rattle.std.specs.Prelude.{ℕ, List, [], ◌∷◌, Bool, true, false, cond, not, ◌&&◌, drop}
-use Rattle.std.proofs.Math.Option.{Option, none, some}
+use Rattle.std.specs.Prelude.{ℕ, List, [], ◌∷◌, Bool, true, false, cond, not, ◌&&◌, drop, Option, None, Some}
 use Rattle.objects.specs.Objects.{mpls_setup, srv6_setup}
 use Rattle.answers.specs.Numbers.{open_malformed, capability_missing, wrong_msd, not_usable}
 use Rattle.answers.specs.First.{first_of}
 use Rattle.flag_positions.specs.declared.Positions.{Positions}
 use Rattle.flag_positions.specs.Positions.{usable_positions}
-use Rattle.session.specs.declared.Opened.{Opened}
+use Rattle.session.specs.Opened.{Opened}
 use Rattle.session.specs.Sessions.{no_form, open_refused, without_srv6}
 use Rattle.tlvs.specs.Tlvs.{Tlvs, tlvs_of, tlvs_whole, first_tlv, not_there}
 use Rattle.setup_types.specs.SetupTypes.{path_setup, holds_list, subs_of, listed_in}
@@ -25,8 +24,8 @@ unfoldable pub setup_of : List ℕ → Option (List ℕ)
 setup_of s = first_tlv (open_tlvs s) path_setup
 
 abbrev pub sub_in : Option (List ℕ) → ℕ → Option (List ℕ)
-sub_in none want = none
-sub_in (some v) want = first_tlv (subs_of v) want
+sub_in None want = None
+sub_in (Some v) want = first_tlv (subs_of v) want
 
 unfoldable pub mpls_of : List ℕ → Option (List ℕ)
 mpls_of s = sub_in (setup_of s) mpls_capability
@@ -57,8 +56,8 @@ fitting s = tlvs_whole (open_tlvs s)
 
 -- "The first TLV 34 must hold its padded list and whole sub-TLVs."
 abbrev pub holds_all : Option (List ℕ) → Bool
-holds_all none = true
-holds_all (some v) = holds_list v && tlvs_whole (subs_of v)
+holds_all None = true
+holds_all (Some v) = holds_list v && tlvs_whole (subs_of v)
 
 unfoldable pub holding : List ℕ → Bool
 holding s = holds_all (setup_of s)
@@ -69,16 +68,16 @@ breaks1 s = not (framed s && (fitting s && holding s))
 
 -- "With type 1 listed, sub-TLV 26 must have length 4 (1), .."
 abbrev pub mpls_sized_in : Option (List ℕ) → Bool
-mpls_sized_in none = true
-mpls_sized_in (some w) = mpls_sized_of w
+mpls_sized_in None = true
+mpls_sized_in (Some w) = mpls_sized_of w
 
 unfoldable pub breaks1_mpls : List ℕ → Bool
 breaks1_mpls s = mpls_listed s && not (mpls_sized_in (mpls_of s))
 
 -- "If type 3 is listed, sub-TLV 27 must have an even length of at least 4. Else 1."
 abbrev pub sized_in : Option (List ℕ) → Bool
-sized_in none = true
-sized_in (some w) = sized_of w
+sized_in None = true
+sized_in (Some w) = sized_of w
 
 unfoldable pub breaks1_srv6 : List ℕ → Bool
 breaks1_srv6 s = listed s && not (sized_in (srv6_of s))
@@ -97,15 +96,15 @@ breaks2_srv6 s = listed s && not_there (srv6_of s)
 
 -- ".. and X or a depth above 0 (3)"
 abbrev pub depthless_sub : Option (List ℕ) → Bool
-depthless_sub none = false
-depthless_sub (some w) = depthless w
+depthless_sub None = false
+depthless_sub (Some w) = depthless w
 
 unfoldable pub breaks3_mpls : List ℕ → Bool
 breaks3_mpls s = mpls_listed s && depthless_sub (mpls_of s)
 
 abbrev pub wrong_sub : Option (List ℕ) → Bool
-wrong_sub none = false
-wrong_sub (some w) = wrong_of w
+wrong_sub None = false
+wrong_sub (Some w) = wrong_of w
 
 -- "X is 0 and a pair's type isn't 41, 42, 44 or 45: 3."
 unfoldable pub breaks3_srv6 : List ℕ → Bool
@@ -114,8 +113,8 @@ breaks3_srv6 s = listed s && wrong_sub (srv6_of s)
 -- the answer ---------------------------------------------------------------------------------------------------
 
 abbrev pub said_by : Positions → Option (List ℕ) → Opened
-said_by p none = without_srv6
-said_by p (some w) = carries_by p w
+said_by p None = without_srv6
+said_by p (Some w) = carries_by p w
 
 -- SRv6 is carried where type 3 is listed, as sub-TLV 27 says.
 unfoldable pub srv6_carried : Positions → List ℕ → Opened
@@ -123,8 +122,8 @@ srv6_carried p s = cond (listed s) (said_by p (srv6_of s)) without_srv6
 
 abbrev pub beside_by : Opened → Option (List ℕ) → Bool → Opened
 beside_by o sub false = o
-beside_by o none true = o
-beside_by o (some w) true = mpls_beside o w
+beside_by o None true = o
+beside_by o (Some w) true = mpls_beside o w
 
 -- MPLS is carried beside it where type 1 is listed, as sub-TLV 26 says.
 unfoldable pub carries_of : Positions → List ℕ → Opened

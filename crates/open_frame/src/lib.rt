@@ -21,6 +21,7 @@ pub const TLVS_AT: usize = 8;
 const VERSION_WORTH: usize = 32;
 
 // Class, type, version and length are an OPEN's.
+#[tactic(auto, unfolding(crate::specs::Framed::framed))]
 pub fn is_framed(s: &[u8]) -> bool
     ensures framed { result ≡ framed s.now }
     ensures short { result ≡ true → length s.now < end16 }
@@ -32,6 +33,5 @@ pub fn is_framed(s: &[u8]) -> bool
     let kind = octets::octet(s, TYPE_PLACE) / TYPE_WORTH == OBJECT_TYPE;
     let version = octets::octet(s, VERSION_PLACE) / VERSION_WORTH == OPEN_VERSION;
     let same = octets::read16(s, LENGTH_PLACE) == s.len();
-    let headed = octets::both(octets::both(class, kind), version);
-    octets::both(headed, octets::both(same, s.len() % UNIT == 0))
+    class && kind && version && same && s.len() % UNIT == 0
 }

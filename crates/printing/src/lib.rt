@@ -1,12 +1,11 @@
 // Answers as text, laid into a lent buffer word by word: numbers in decimal, octets as pairs of hexadecimal
-// digits in upper case, `-` for no octets, lists of numbers joined by commas (console.md). Each call takes the text's end
-// and hands its new end back.
+// digits in upper case, `-` for no octets, lists of numbers joined by commas (console.md).
 #![tactic(auto)]
 
 ghost use Rattle.std.specs.Prelude.{◌+◌, ◌*◌, ◌≤◌, ◌≡◌, length};
 ghost use Rattle.printing.specs.Text.{Behind, number_size, field_size, decimal_of, glyph_of, hex_of, octets_text, further_text, list_text, spaced};
 
-use words::{COMMA, DIGIT_ZERO, NONE, SPACE, UPPER_ABOVE};
+use words::{COMMA, NONE, SPACE};
 
 // the octets that a number takes at most
 const NUMBER_SIZE: usize = 20;
@@ -16,24 +15,130 @@ const GAP: [u8; 1] = [SPACE];
 // `,`
 pub const JOINT: [u8; 1] = [COMMA];
 
-// `src` behind the text.
-pub fn push(out: &mut [u8], at: usize, src: &[u8]) -> usize
-    requires { at + length src.now ≤ length out.old }
-    ensures behind { Behind out.old out.new at result src.now }
-{
-    octets::lay(out, at, src);
-    at + src.len()
+// A text at the start of a lent buffer, and its end.
+#[derive(Drop)]
+pub struct Text<'a> {
+    pub out: &'a mut [u8],
+    pub at: usize,
 }
 
-// The digits of a number.
-pub fn number(out: &mut [u8], at: usize, n: u64) -> usize
-    requires { at + number_size ≤ length out.old }
-    ensures behind { Behind out.old out.new at result (decimal_of n) }
-    ensures short { result ≤ at + number_size }
-{
-    let mut text = [0u8; NUMBER_SIZE];
-    let k = io::decimal(n, &mut text);
-    push(out, at, &text[..k])
+impl<'a> Text<'a> {
+    // An empty text.
+    pub fn new(out: &'a mut [u8]) -> Self
+        ensures same_reference { result.out.ghost_name ≡ out.entry.ghost_name }
+        ensures empty { (result.at ≡ 0) × (result.out.now ≡ out.old) }
+    {
+        Text { out, at: 0 }
+    }
+
+    // `src` behind the text.
+    pub fn push(&mut self, src: &[u8])
+        requires { self.old.at + length src.now ≤ length self.old.out.now }
+        ensures same_reference { self.new.out.ghost_name ≡ self.old.out.ghost_name }
+        ensures behind { Behind self.old.out.now self.new.out.now self.old.at self.new.at (src.now) }
+    {
+        octets::lay(self.out, self.at, src);
+        self.at += src.len();
+    }
+
+    // The digits of a number.
+    pub fn number(&mut self, n: u64)
+        requires { self.old.at + number_size ≤ length self.old.out.now }
+        ensures same_reference { self.new.out.ghost_name ≡ self.old.out.ghost_name }
+        ensures behind { Behind self.old.out.now self.new.out.now self.old.at self.new.at (decimal_of n) }
+        ensures short { self.new.at ≤ self.old.at + number_size }
+    {
+        let mut text = [0u8; NUMBER_SIZE];
+        let k = io::decimal(n, &mut text);
+        self.push(&text[..k]);
+    }
+
+    // The pairs of digits of octets.
+    fn pairs(&mut self, s: &[u8])
+        requires { self.old.at + 2 * length s.now ≤ length self.old.out.now }
+        ensures same_reference { self.new.out.ghost_name ≡ self.old.out.ghost_name }
+        ensures behind { Behind self.old.out.now self.new.out.now self.old.at self.new.at (hex_of s.now) }
+    {
+        for x in s {
+            self.push(&[glyph(*x / 16), glyph(*x % 16)]);
+        }
+    }
+
+    // The digits of octets, `-` for none.
+    pub fn octets(&mut self, s: &[u8])
+        requires { self.old.at + 2 * length s.now + 1 ≤ length self.old.out.now }
+        ensures same_reference { self.new.out.ghost_name ≡ self.old.out.ghost_name }
+        ensures behind { Behind self.old.out.now self.new.out.now self.old.at self.new.at (octets_text s.now) }
+        ensures short { self.new.at ≤ self.old.at + 2 * length s.now + 1 }
+    {
+        if s.is_empty() {
+            self.push(&NONE);
+        } else {
+            self.pairs(s);
+        }
+    }
+
+    // A space and a number.
+    pub fn field(&mut self, n: u64)
+        requires { self.old.at + field_size ≤ length self.old.out.now }
+        ensures same_reference { self.new.out.ghost_name ≡ self.old.out.ghost_name }
+        ensures behind { Behind self.old.out.now self.new.out.now self.old.at self.new.at (spaced (decimal_of n)) }
+        ensures short { self.new.at ≤ self.old.at + field_size }
+    {
+        self.push(&GAP);
+        self.number(n);
+    }
+
+    // A space and octets.
+    pub fn octets_field(&mut self, s: &[u8])
+        requires { self.old.at + 2 * length s.now + 2 ≤ length self.old.out.now }
+        ensures same_reference { self.new.out.ghost_name ≡ self.old.out.ghost_name }
+        ensures behind { Behind self.old.out.now self.new.out.now self.old.at self.new.at (spaced (octets_text s.now)) }
+        ensures short { self.new.at ≤ self.old.at + 2 * length s.now + 2 }
+    {
+        self.push(&GAP);
+        self.octets(s);
+    }
+
+    // Numbers behind the first of a list, each behind a comma.
+    fn further(&mut self, s: &[u8])
+        requires { self.old.at + field_size * length s.now ≤ length self.old.out.now }
+        ensures same_reference { self.new.out.ghost_name ≡ self.old.out.ghost_name }
+        ensures behind { Behind self.old.out.now self.new.out.now self.old.at self.new.at (further_text s.now) }
+        ensures short { self.new.at ≤ self.old.at + field_size * length s.now }
+    {
+        for x in s {
+            self.push(&JOINT);
+            self.number(u64::from(*x));
+        }
+    }
+
+    // Numbers joined by commas, `-` for none.
+    pub fn list(&mut self, s: &[u8])
+        requires { self.old.at + field_size * length s.now + 1 ≤ length self.old.out.now }
+        ensures same_reference { self.new.out.ghost_name ≡ self.old.out.ghost_name }
+        ensures behind { Behind self.old.out.now self.new.out.now self.old.at self.new.at (list_text s.now) }
+        ensures short { self.new.at ≤ self.old.at + field_size * length s.now + 1 }
+    {
+        match s {
+            [] => self.push(&NONE),
+            [first, rest @ ..] => {
+                self.number(u64::from(*first));
+                self.further(rest);
+            }
+        }
+    }
+
+    // A space and a list.
+    pub fn list_field(&mut self, s: &[u8])
+        requires { self.old.at + field_size * length s.now + 2 ≤ length self.old.out.now }
+        ensures same_reference { self.new.out.ghost_name ≡ self.old.out.ghost_name }
+        ensures behind { Behind self.old.out.now self.new.out.now self.old.at self.new.at (spaced (list_text s.now)) }
+        ensures short { self.new.at ≤ self.old.at + field_size * length s.now + 2 }
+    {
+        self.push(&GAP);
+        self.list(s);
+    }
 }
 
 // The digit that is worth `d`.
@@ -41,96 +146,8 @@ fn glyph(d: u8) -> u8
     requires { d ≤ 15 }
     ensures glyph { result ≡ glyph_of d }
 {
-    if d < 10 {
-        DIGIT_ZERO + d
-    } else {
-        UPPER_ABOVE + d
+    match d {
+        0..=9 => b'0' + d,
+        _ => b'A' + (d - 10),
     }
-}
-
-// The pairs of digits of octets.
-fn pairs(out: &mut [u8], at: usize, s: &[u8]) -> usize
-    requires { at + 2 * length s.now ≤ length out.old }
-    ensures behind { Behind out.old out.new at result (hex_of s.now) }
-{
-    let mut end = at;
-    let mut i: usize = 0;
-    while i < s.len() {
-        let x = s[i];
-        end = push(out, end, &[glyph(x / 16), glyph(x % 16)]);
-        i = i + 1;
-    }
-    end
-}
-
-// The digits of octets, `-` for none.
-pub fn octets(out: &mut [u8], at: usize, s: &[u8]) -> usize
-    requires { at + 2 * length s.now + 1 ≤ length out.old }
-    ensures behind { Behind out.old out.new at result (octets_text s.now) }
-    ensures short { result ≤ at + 2 * length s.now + 1 }
-{
-    if s.len() == 0 {
-        return push(out, at, &NONE);
-    }
-    pairs(out, at, s)
-}
-
-// A space and a number.
-pub fn field(out: &mut [u8], at: usize, n: u64) -> usize
-    requires { at + field_size ≤ length out.old }
-    ensures behind { Behind out.old out.new at result (spaced (decimal_of n)) }
-    ensures short { result ≤ at + field_size }
-{
-    let end = push(out, at, &GAP);
-    number(out, end, n)
-}
-
-// A space and octets.
-pub fn octets_field(out: &mut [u8], at: usize, s: &[u8]) -> usize
-    requires { at + 2 * length s.now + 2 ≤ length out.old }
-    ensures behind { Behind out.old out.new at result (spaced (octets_text s.now)) }
-    ensures short { result ≤ at + 2 * length s.now + 2 }
-{
-    let end = push(out, at, &GAP);
-    octets(out, end, s)
-}
-
-// Numbers behind the first of a list, each behind a comma.
-fn further(out: &mut [u8], at: usize, s: &[u8]) -> usize
-    requires { at + field_size * length s.now ≤ length out.old }
-    ensures behind { Behind out.old out.new at result (further_text s.now) }
-    ensures short { result ≤ at + field_size * length s.now }
-{
-    let mut end = at;
-    let mut i: usize = 0;
-    while i < s.len() {
-        let x = octets::wide(s[i]) as u64;
-        end = push(out, end, &JOINT);
-        end = number(out, end, x);
-        i = i + 1;
-    }
-    end
-}
-
-// Numbers joined by commas, `-` for none.
-pub fn list(out: &mut [u8], at: usize, s: &[u8]) -> usize
-    requires { at + field_size * length s.now + 1 ≤ length out.old }
-    ensures behind { Behind out.old out.new at result (list_text s.now) }
-    ensures short { result ≤ at + field_size * length s.now + 1 }
-{
-    if s.len() == 0 {
-        return push(out, at, &NONE);
-    }
-    let end = number(out, at, octets::wide(s[0]) as u64);
-    further(out, end, &s[1..])
-}
-
-// A space and a list.
-pub fn list_field(out: &mut [u8], at: usize, s: &[u8]) -> usize
-    requires { at + field_size * length s.now + 2 ≤ length out.old }
-    ensures behind { Behind out.old out.new at result (spaced (list_text s.now)) }
-    ensures short { result ≤ at + field_size * length s.now + 2 }
-{
-    let end = push(out, at, &GAP);
-    list(out, end, s)
 }

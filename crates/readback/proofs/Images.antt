@@ -1,6 +1,6 @@
 -- What a run that was accepted leaves: every segment was fit, and the object is the one of the segments. By induction over the segments still to add, with what has been added so far as a
 -- body behind the header (`Under`, `adds`); an acceptance of each call gives the next step (`add_onward`). The second theorem follows: the object hangs on kind, form and segments alone.
-use Prim.Native.Nat.{ℕ, suc, ◌+◌, ◌-◌, ◌%◌, ◌≤◌}
+use Prim.Native.Nat.{ℕ, ◌+◌, ◌%◌, ◌≤◌}
 use mathlib.Core.Path.{◌≡◌, refl, sym, ◌∙◌, subst}
 use mathlib.Core.Bool.{Bool}
 use mathlib.Core.List.{List, [], ◌∷◌, ◌++◌, append_assoc, append-nil}

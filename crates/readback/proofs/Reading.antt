@@ -1,6 +1,7 @@
 -- The first theorem: what was written is read back. The body splits at the lengths that its second octets say (`body_chain`), each subobject stands at its place and reads as its segment
 -- (`reads`, from Segments), and so no check of the whole object finds anything (`checks_all`); which object that is, Images says.
-use Prim.Native.Nat.{ℕ, zero, suc, ◌+◌, ◌-◌, ◌%◌, ◌≤◌, ◌<◌}
+use Rattle.std.specs.Prelude.{None as unlimited}
+use Prim.Native.Nat.{ℕ, suc, ◌+◌, ◌-◌, ◌%◌, ◌≤◌, ◌<◌}
 use mathlib.Core.Path.{◌≡◌, refl, sym, ◌∙◌, ap}
 use mathlib.Core.Bool.{Bool, true, false, cond, not, ◌&&◌}
 use mathlib.Core.List.{List, [], ◌∷◌, ◌++◌, append_assoc, append-nil}
@@ -18,7 +19,6 @@ use Rattle.forms.specs.declared.Form.{Form}
 use Rattle.forms.specs.Forms.{srv6_form, mpls_form, form_of}
 use Rattle.forms.specs.Sized.{Sized}
 use Rattle.session.specs.declared.Session.{Session}
-use Rattle.session.specs.declared.Limit.TheVariants.{Free}
 use Rattle.subobject.specs.declared.head.Head.{Head}
 use Rattle.subobject.specs.declared.segment.Segment.{Segment}
 use Rattle.subobject.specs.Layout.{sid_length, structure_there, head_of, head_at}
@@ -283,7 +283,7 @@ module _ {form : Form} {ero : Bool} {s : List ℕ} where
   read_there (next r a) ℕ.zero h = r.segment
   read_there (next r a) (ℕ.suc i) h = read_there a i (omega arith)
 
-rule12_off : (ero : Bool) (count : ℕ) → rule12 ero Free count ≡ false
+rule12_off : (ero : Bool) (count : ℕ) → rule12 ero unlimited count ≡ false
 unfolding rule12
 rule12_off true count = refl
 rule12_off false count = refl
@@ -309,7 +309,7 @@ module _ (form : Form) (s : List ℕ) (ero : Bool) (ps : List ℕ) (gs : List Se
       let r14 = kinds_present s ero kinds (omega (arith, n)) in
       (r4, (r5, (r6, (r14, (r13, tt)))))
 
-  last_none : None (last_checks (places_of s) ero Free (length (places_of s)))
+  last_none : None (last_checks (places_of s) ero unlimited (length (places_of s)))
   last_none = (rule12_off ero (length (places_of s)), tt)
 
   inside_none : None (subobject_checks form s ero true (places_of s))
@@ -317,9 +317,9 @@ module _ (form : Form) (s : List ℕ) (ero : Bool) (ps : List ℕ) (gs : List Se
 
   checks_all : None (checks_of form s ero open_session form.setup)
   checks_all =
-      none_append (whole_checks form s ero open_session form.setup) (subobject_checks form s ero true (places_of s) ++ last_checks (places_of s) ero Free (length (places_of s)))
+      none_append (whole_checks form s ero open_session form.setup) (subobject_checks form s ero true (places_of s) ++ last_checks (places_of s) ero unlimited (length (places_of s)))
       whole_none
-      (none_append (subobject_checks form s ero true (places_of s)) (last_checks (places_of s) ero Free (length (places_of s))) inside_none last_none)
+      (none_append (subobject_checks form s ero true (places_of s)) (last_checks (places_of s) ero unlimited (length (places_of s))) inside_none last_none)
 
   count_read : count_of s ≡ length gs
   count_read = rw stand (read_length a)

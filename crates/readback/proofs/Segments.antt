@@ -1,6 +1,6 @@
 -- A segment is read back from its octets. A fit segment keeps to what `Plain` lists; where its subobject stands in a string, so does each part, at a place that the lengths before it give
 -- (`stands_fixed` to `stands_last`), and from each part one field of the segment comes back; then the strays, and the ignored bits, are 0.
-use Prim.Native.Nat.{ℕ, ◌+◌, ◌-◌, ◌*◌, ◌/◌, ◌%◌, ◌<◌}
+use Prim.Native.Nat.{ℕ, ◌+◌, ◌*◌, ◌/◌, ◌%◌, ◌<◌}
 use mathlib.Core.Path.{◌≡◌, refl, sym, ◌∙◌, ap}
 use mathlib.Core.Bool.{Bool, true, false, cond, not, ◌&&◌, ◌||◌}
 use mathlib.Core.List.{List, [], ◌∷◌, ◌++◌}

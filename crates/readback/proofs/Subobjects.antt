@@ -1,6 +1,6 @@
 -- One subobject that was read: the segment that it says is fit to be written, and its octets are the same exactly if the ignored bits are 0. The head that is written is the one read but
 -- for T without a SID (`again`), so what holds of one holds of the other; then both strings are split into the same parts, and each is the same exactly if its own ignored bits are 0.
-use Prim.Native.Nat.{ℕ, zero, suc, ◌+◌, ◌-◌, ◌*◌, ◌/◌, ◌%◌, ◌≤◌, ◌<◌}
+use Prim.Native.Nat.{ℕ, ◌+◌, ◌-◌, ◌*◌, ◌/◌, ◌%◌, ◌≤◌, ◌<◌}
 use mathlib.Core.Path.{◌≡◌, refl, sym, ◌∙◌, ap}
 use mathlib.Core.Bool.{Bool, true, false, cond, not, ◌&&◌, ◌||◌}
 use mathlib.Core.List.{List, [], ◌∷◌, ◌++◌}

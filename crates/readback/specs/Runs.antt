@@ -1,9 +1,7 @@
 -- An object written whole: begin, an add for each segment, finish, by the definitions that the writer's contracts cite
 -- (document 01, "Writing a route"; document 02, C-16).
-use Rattle.std.specs.Prelude.{ℕ, ◌+◌, ◌≡◌, Bool, true, false, List, [], ◌∷◌, ◌++◌, length, take}
+use Rattle.std.specs.Prelude.{ℕ, ◌+◌, ◌≡◌, Bool, true, false, List, [], ◌∷◌, ◌++◌, length, take, None}
 use Rattle.answers.specs.Verdicts.{kept}
-use Rattle.msd.specs.Msd.{absent}
-use Rattle.session.specs.declared.Limit.TheVariants.{Free}
 use Rattle.session.specs.declared.Session.{Session}
 use Rattle.forms.specs.declared.Form.{Form}
 use Rattle.subobject.specs.declared.segment.Segment.{Segment}
@@ -11,7 +9,7 @@ use Rattle.subobject.specs.Segments.{subobject_of}
 use Rattle.objects.specs.Objects.{header}
 use Rattle.writer_spare.specs.Typed.{Typed}
 use Rattle.writer_state.specs.declared.Writer.{Writer}
-use Rattle.writer_state.specs.declared.Written.{Written}
+use Rattle.writer_state.specs.Written.{Written}
 use Rattle.writer_begin_finish.specs.Ends.{header_of, begin_answer, begin_buffer, finish_answer, finish_buffer}
 use Rattle.writer.specs.Writing.{add_answer, add_buffer}
 
@@ -94,4 +92,4 @@ pub data AllTyped : List Segment → Type 0 where
 
 -- The session in which everything that can be written is read: the form agreed, N set, no limit; neither flag, nor v or m.
 abbrev pub open_session : Session
-open_session = record { agreed = true; n = true; limit = Free; a = false; r = false; v = absent; m = absent }
+open_session = record { agreed = true; n = true; limit = None; a = false; r = false; v = None; m = None }

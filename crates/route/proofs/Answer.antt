@@ -12,6 +12,9 @@ use borrow.Author.Tests.{ne_eqb, lt-ltb, le-ltb, eqb-false}
 use Rattle.forms.specs.declared.Form.{Form}
 use Rattle.forms.specs.Sized.{Shortest}
 use Rattle.forms.proofs.Laws.{flag_most}
+use Rattle.std.proofs.Common.{Result, Ok, Err}
+use Rattle.std.specs.Result.{IsErrAnd}
+use Rattle.answers.specs.declared.refusal.Refusal.{Refusal}
 use Rattle.answers.specs.declared.verdict.Verdict.{Verdict}
 use Rattle.answers.specs.Numbers.{no_such_segment}
 use Rattle.answers.specs.Verdicts.{refused_by, accepted_with}
@@ -24,8 +27,8 @@ use Rattle.subobject.specs.Rules.{rule7, rule8, rule9}
 use Rattle.subobject.specs.Segments.{segment_at}
 use Rattle.subobject_strays.specs.declared.Strays.{Strays}
 use Rattle.subobject_strays.specs.Strays.{strays_at}
-use Rattle.subobject_read.specs.declared.answer.Reading.{Reading}
-use Rattle.subobject_read.specs.declared.answer.Reading.TheVariants.{Whole, Refused}
+use Rattle.subobject_read.specs.Reader.{Reading}
+use Rattle.subobject_read.specs.Reader.Reading.{Whole, Refused}
 use Rattle.subobject_read.specs.Reader.{read_of}
 use Rattle.subobject.proofs.Laws.{sound_length, sound_least}
 use Rattle.frame.specs.Checks.{check, first_broken}
@@ -33,7 +36,7 @@ use Rattle.frame.specs.Frames.{headed, fits_in, ended, unfilled, from, apart, ap
 use Rattle.frame.specs.Gathered.{frame_of}
 use Rattle.frame.proofs.Checks.{first_append, None, none_first, none_split, first_none, first_some}
 use Rattle.frame.proofs.Laws.{headed_sized, fits_true}
-use Rattle.route.specs.declared.picking.Picked.{Picked}
+use Rattle.route.specs.Picked.{Picked}
 use Rattle.route_walk.specs.Walk.{checks_at, subobject_checks}
 use Rattle.route_walk.proofs.Laws.{head_size}
 use Rattle.route_pass.specs.Settled.{Settled}
@@ -152,6 +155,11 @@ accepted_body form s ero session pst l short z =
     let sized = headed_sized ero s (accepted_frame form s ero session pst z).0 in
     let low = lies.least l short in
     (rw (length-drop header s) (omega arith), rw (length-drop header s) (omega (arith, sized.four, sized.low)))
+
+-- The refusal that a call hands on.
+pub err_is : {A : Type 0} (r : Result A Refusal) (e : Refusal) → IsErrAnd r (λ x. x ≡ e) → r ≡ Err e
+err_is (Ok a) e h = absurd h
+err_is (Err x) e h = ap Err h
 
 -- a segment ----------------------------------------------------------------------------------------------------
 

@@ -1,30 +1,27 @@
 -- The judgement by setup type: the PST names the form, SRv6's if it names none. Accepted is only 1 with MPLS agreed, and 3 with SRv6 agreed: an acceptance leaves 13
 -- unbroken, and 13 is taken apart. The rest is the law of any form, taken to the form named (`by_named`). Assumes nothing.
+use Rattle.std.specs.Prelude.{Option}
 use Prim.Native.Nat.{ℕ, ◌%◌, ◌≤◌}
 use mathlib.Core.Path.{◌≡◌, refl, sym, ◌∙◌, ap, subst}
 use mathlib.Core.List.{List}
 use mathlib.Core.Logic.{◌⊎◌, inl, inr}
-use mathlib.Core.Bool.{Bool, true, false, cond, ◌&&◌}
+use mathlib.Core.Bool.{Bool, true, false, ◌&&◌}
 use lib.Dec.{eqb}
 use lib.ListN.{length, drop}
-use borrow.Author.Tests.{eqb-true, le-ltb, not-false}
-use Rattle.octets.proofs.Said.{both_true}
+use borrow.Author.Tests.{eqb-true, not-false}
+use Rattle.octets.proofs.Said.{both_true, and_false}
 use Rattle.objects.specs.Objects.{header, unit, mpls_setup, srv6_setup}
 use Rattle.forms.specs.declared.Form.{Form}
 use Rattle.forms.specs.Forms.{srv6_form, mpls_form, form_of}
 use Rattle.forms.proofs.Laws.{form_mpls, form_srv6, srv6_shortest, mpls_shortest}
 use Rattle.answers.specs.declared.verdict.Verdict.{Verdict}
 use Rattle.answers.specs.Verdicts.{carrying_both}
-use Rattle.msd.specs.Msd.{absent}
-use Rattle.session.specs.Sessions.{most_of}
-use Rattle.session.specs.declared.Limit.{Limit}
-use Rattle.session.specs.declared.Limit.TheVariants.{Free, Most}
 use Rattle.session.specs.declared.Session.{Session}
-use Rattle.route_rules.specs.SessionRules.{rule12}
+use Rattle.route_rules.specs.SessionRules.{past, rule12}
 use Rattle.route_rules.specs.Parts.{limited_of}
 use Rattle.route_pass.specs.Settled.{Settled}
-use Rattle.route.specs.declared.picking.Picked.{Picked}
-use Rattle.route.specs.Parts.{session_by, limit_there}
+use Rattle.route.specs.Picked.{Picked}
+use Rattle.route.specs.Parts.{session_by}
 use Rattle.route.specs.Routes.{rule13, judge_as, segment_as, judge_of, segment_of}
 use Rattle.route.proofs.Answer as answer
 use Rattle.route.proofs.Numbers as numbers
@@ -95,35 +92,20 @@ unfolding judge_of
 judge_low s ero session pst = numbers.judge_low (form_of pst) s ero session pst
 
 -- Of a session judging looks at three parts: agreed or not, N and the limit.
-pub judge_parts : (s : List ℕ) (ero : Bool) (session : Session) (pst : ℕ) (limit : Limit) → session.limit ≡ limit
-    → judge_of s ero (record { agreed = session.agreed; n = session.n; limit = limit; a = false; r = false; v = absent; m = absent }) pst ≡ judge_of s ero session pst
+pub judge_parts : (s : List ℕ) (ero : Bool) (session : Session) (pst : ℕ) → judge_of s ero (session_by session.agreed session.n session.limit) pst ≡ judge_of s ero session pst
 unfolding judge_of judge_as
-judge_parts s ero session pst limit e = rw (← e)
-
-limit_parts : (limit : Limit) → limit ≡ cond (limit_there limit) (Most (most_of limit)) Free
-limit_parts Free = refl
-limit_parts (Most most) = refl
-
-pub judge_session : (s : List ℕ) (ero : Bool) (session : Session) (pst : ℕ) (has : Bool) (most : ℕ) → has ≡ limit_there session.limit → most ≡ most_of session.limit
-    → judge_of s ero (session_by session.agreed session.n has most) pst ≡ judge_of s ero session pst
-judge_session s ero session pst has most h m = rw (h, m) (judge_parts s ero session pst _ (limit_parts session.limit))
+judge_parts s ero session pst = refl
 
 -- the pass -----------------------------------------------------------------------------------------------------
 
 -- Where it settled a route, and 13 and 12 are not broken, the route is accepted.
-module _ (s : List ℕ) (ero agreed n has : Bool) (most pst : ℕ) {count stray : ℕ} (x : Settled (form_of pst) s ero n count stray) where
-  unlimited : (has ≡ true → count ≤ most) → carrying_both count stray ≡ limited_of (carrying_both count stray) s ero (cond has (Most most) Free)
+module _ (s : List ℕ) (ero agreed n : Bool) (limit : Option ℕ) (pst : ℕ) {count stray : ℕ} (x : Settled (form_of pst) s ero n count stray) where
+  unlimited : past limit count ≡ false → carrying_both count stray ≡ limited_of (carrying_both count stray) s ero limit
   unfolding limited_of rule12
-  unlimited l = go has ero l
-    where
-      go : (has ero : Bool) → (has ≡ true → count ≤ most) → carrying_both count stray ≡ limited_of (carrying_both count stray) s ero (cond has (Most most) Free)
-      go false true l = refl
-      go false false l = refl
-      go true false l = refl
-      go true true l = rw (le-ltb most count (l refl))
+  unlimited l = rw (l, and_false ero)
 
-  pub pass_accepts : rule13 (form_of pst) agreed pst ≡ false → (has ≡ true → count ≤ most) → carrying_both count stray ≡ judge_of s ero (session_by agreed n has most) pst
+  pub pass_accepts : rule13 (form_of pst) agreed pst ≡ false → past limit count ≡ false → carrying_both count stray ≡ judge_of s ero (session_by agreed n limit) pst
   pass_accepts e l =
-      let session = session_by agreed n has most in
+      let session = session_by agreed n limit in
       by_named s ero session pst refl
       (answer.walk_then_limit (form_of pst) s ero session pst (answer.settled_none _ _ _ _ x) _ _ count e (sym x.walk) (answer.settled_count _ _ _ _ x) (unlimited l))

@@ -15,7 +15,7 @@ use Rattle.subobject_strays.specs.Strays.{strays_at, is_stray, stray_in}
 use Rattle.frame.specs.Checks.{Check, first_broken}
 use Rattle.frame.specs.Frames.{places_of}
 use Rattle.frame.proofs.Checks.{first_keeps}
-use Rattle.route.specs.declared.picking.Picked.{Picked}
+use Rattle.route.specs.Picked.{Picked}
 use Rattle.route.specs.Routes.{checks_of, count_of, stray_count, acceptance_of, judge_as, segment_as}
 use Rattle.route.specs.Asked.{stray_asked}
 use Rattle.route.proofs.Answer.{accepted_count, pick_there}

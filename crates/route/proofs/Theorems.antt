@@ -1,6 +1,8 @@
 -- What a verdict means. Accepted exactly if no rule is broken; refused by n at p exactly if n is broken at p and nothing before it in document 01's order is. The
 -- answer is the first broken check of a list (frame/proofs/Checks, by rank), and a place in the order is a rank in that list (`rank_check`, `standing`: proofs/Order).
 -- Assumes nothing.
+use Rattle.std.specs.Prelude.{Option}
+use Rattle.std.proofs.Common.{Result}
 use Prim.Native.Nat.{ℕ, ◌<◌}
 use mathlib.Core.Path.{◌≡◌, refl, sym, ◌∙◌, ap}
 use mathlib.Core.List.{List, [], ◌∷◌}
@@ -9,9 +11,10 @@ use lib.ListN.{length}
 use native.Mathlib.Omega.{arith}
 use Rattle.forms.specs.declared.Form.{Form}
 use Rattle.forms.specs.Forms.{form_of}
-use Rattle.answers.specs.declared.verdict.Verdict.{Verdict}
-use Rattle.answers.specs.Verdicts.{refused_by}
-use Rattle.session.specs.declared.Limit.{Limit}
+use Rattle.answers.specs.Verdicts.{refused_by, verdict_of}
+use Rattle.answers.specs.declared.refusal.Refusal.{Refusal}
+use Rattle.answers.specs.declared.refusal.Counts.{Counts}
+use Rattle.answers.proofs.Results.{view_back, verdict_back}
 use Rattle.session.specs.declared.Session.{Session}
 use Rattle.subobject.specs.declared.head.Head.{Head}
 use Rattle.subobject.specs.Layout.{sid_place, head_of, head_at}
@@ -19,9 +22,9 @@ use Rattle.subobject.specs.Rules.{rule7, rule8, rule9, rule10, rule11, rule29, r
 use Rattle.subobject.specs.Segments.{segment_at}
 use Rattle.frame.specs.Checks.{Check, check}
 use Rattle.frame.proofs.Checks.{check_of, none_all, all_none, none_first, first_answer, answer_first}
-use Rattle.route.specs.declared.picking.Picked.{Picked}
 use Rattle.route_walk.specs.Walk.{checks_at}
-use Rattle.route.specs.Parts.{session_by}
+use Rattle.route.specs.declared.picking.Picked as code
+use Rattle.route.specs.Parts.{session_by, picked_of}
 use Rattle.route.specs.Routes.{whole_checks, rule12, checks_of, count_of, acceptance_of, judge_as, segment_as, judge_of, segment_of}
 use Rattle.route.specs.Order.{Where, whole_count, Among, check_at, FirstBroken}
 use Rattle.route.proofs.Answer.{accepted_none}
@@ -133,7 +136,7 @@ pub rro_without_10 : (n : Bool) (h : Head) → rule10 h false n ≡ false
 unfolding rule10
 rro_without_10 n h = refl
 
-pub rro_without_12 : (limit : Limit) (count : ℕ) → rule12 false limit count ≡ false
+pub rro_without_12 : (limit : Option ℕ) (count : ℕ) → rule12 false limit count ≡ false
 unfolding rule12
 rro_without_12 limit count = refl
 
@@ -143,21 +146,27 @@ unfolding segment_at head_at head_of
 rro_flags form s at = (refl, refl)
 
 -- Of any two answers that fit, both are the same.
-pub judge_determined_as : (form : Form) (s : List ℕ) (ero : Bool) (session : Session) (pst : ℕ) (a b : Verdict) → a ≡ judge_as form s ero session pst
-    → b ≡ judge_as form s ero session pst → a ≡ b
-judge_determined_as form s ero session pst a b e f = e ∙ sym f
+pub judge_determined_as : (form : Form) (s : List ℕ) (ero : Bool) (session : Session) (pst : ℕ) (a b : Result Counts Refusal)
+    → verdict_of a ≡ judge_as form s ero session pst → verdict_of b ≡ judge_as form s ero session pst → a ≡ b
+judge_determined_as form s ero session pst a b e f = verdict_back a b (e ∙ sym f)
 
-pub segment_determined_as : (form : Form) (s : List ℕ) (ero : Bool) (session : Session) (pst i : ℕ) (a b : Picked) → a ≡ segment_as form s ero session pst i
-    → b ≡ segment_as form s ero session pst i → a ≡ b
-segment_determined_as form s ero session pst i a b e f = e ∙ sym f
+pub picked_back : (x y : Result code.Picked Refusal) → picked_of x ≡ picked_of y → x ≡ y
+picked_back =
+    view_back picked_of (λ p. p.verdict) (λ p. record { counts = record { count = p.verdict.count; stray = p.verdict.stray }; segment = p.segment; strays = p.strays })
+    (λ _. refl) (λ _. refl) (λ _. refl)
 
-pub judge_determined : (s : List ℕ) (ero : Bool) (session : Session) (pst : ℕ) (a b : Verdict) → a ≡ judge_of s ero session pst → b ≡ judge_of s ero session pst → a ≡ b
-judge_determined s ero session pst a b e f = e ∙ sym f
+pub segment_determined_as : (form : Form) (s : List ℕ) (ero : Bool) (session : Session) (pst i : ℕ) (a b : Result code.Picked Refusal)
+    → picked_of a ≡ segment_as form s ero session pst i → picked_of b ≡ segment_as form s ero session pst i → a ≡ b
+segment_determined_as form s ero session pst i a b e f = picked_back a b (e ∙ sym f)
 
-pub judge_parts_determined : (s : List ℕ) (ero agreed n has : Bool) (most pst : ℕ) (a b : Verdict) → a ≡ judge_of s ero (session_by agreed n has most) pst
-    → b ≡ judge_of s ero (session_by agreed n has most) pst → a ≡ b
-judge_parts_determined s ero agreed n has most pst a b e f = e ∙ sym f
+pub judge_determined : (s : List ℕ) (ero : Bool) (session : Session) (pst : ℕ) (a b : Result Counts Refusal) → verdict_of a ≡ judge_of s ero session pst
+    → verdict_of b ≡ judge_of s ero session pst → a ≡ b
+judge_determined s ero session pst a b e f = verdict_back a b (e ∙ sym f)
 
-pub segment_determined : (s : List ℕ) (ero : Bool) (session : Session) (pst i : ℕ) (a b : Picked) → a ≡ segment_of s ero session pst i
-    → b ≡ segment_of s ero session pst i → a ≡ b
-segment_determined s ero session pst i a b e f = e ∙ sym f
+pub judge_parts_determined : (s : List ℕ) (ero agreed n : Bool) (limit : Option ℕ) (pst : ℕ) (a b : Result Counts Refusal)
+    → verdict_of a ≡ judge_of s ero (session_by agreed n limit) pst → verdict_of b ≡ judge_of s ero (session_by agreed n limit) pst → a ≡ b
+judge_parts_determined s ero agreed n limit pst a b e f = verdict_back a b (e ∙ sym f)
+
+pub segment_determined : (s : List ℕ) (ero : Bool) (session : Session) (pst i : ℕ) (a b : Result code.Picked Refusal) → picked_of a ≡ segment_of s ero session pst i
+    → picked_of b ≡ segment_of s ero session pst i → a ≡ b
+segment_determined s ero session pst i a b e f = picked_back a b (e ∙ sym f)

@@ -13,10 +13,10 @@ use Rattle.subobject.specs.Segments.{no_segment}
 use Rattle.subobject_strays.specs.Strays.{any_set, no_strays, stray_one}
 use Rattle.frame.specs.Checks.{Check, check, first_broken}
 use Rattle.frame.specs.Frames.{places_of, frame_checks}
-use Rattle.route.specs.declared.picking.Picked.{Picked}
+use Rattle.route.specs.Picked.{Picked}
 use Rattle.route.specs.Routes.{last_checks}
 
--- "NAI: NT 0 none, 2 node 16, 4 adjacency 32, 6 local_link adjacency 40": `srv6_nai` (forms/specs/Forms).
+-- "NAI: NT 0 none, 2 node 16, 4 adjacency 32, 6 link-local adjacency 40": `srv6_nai` (forms/specs/Forms).
 
 abbrev pub structured : ℕ → ℕ → Bool
 structured s t = eqb s 0 && eqb t 1

@@ -1,4 +1,5 @@
 pub mod Order
+pub mod Picked
 pub mod Parts
 pub mod Routes
 pub mod Asked

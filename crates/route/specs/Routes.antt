@@ -15,7 +15,7 @@ unfoldable pub use Rattle.route_rules.specs.SessionRules.{rule13, rule12}
 pub use Rattle.route_rules.specs.SessionRules.{past, rule12_place, last_checks}
 unfoldable pub use Rattle.route_ordered.specs.Judged.{judge_as}
 pub use Rattle.route_ordered.specs.Judged.{whole_checks, checks_of, count_of, stray_count, acceptance_of}
-use Rattle.route.specs.declared.picking.Picked.{Picked}
+use Rattle.route.specs.Picked.{Picked}
 
 -- a segment ----------------------------------------------------------------------------------------------------
 

@@ -1,119 +1,95 @@
 // The judgement of a route: what one pass accepts; else all rules in their order.
-ghost use Rattle.std.specs.Prelude.{◌≡◌, true, false, ◌<◌, ◌≤◌, ◌%◌};
+ghost use Rattle.std.specs.Prelude.{◌≡◌, true, false};
+ghost use Rattle.answers.specs.Verdicts.{verdict_of};
 ghost use Rattle.forms.specs.Forms.{form_of};
-ghost use Rattle.session.specs.Sessions.{most_of};
-ghost use Rattle.route_rules.specs.SessionRules.{rule13};
-ghost use Rattle.route_pass.specs.Settled.{SettledBy, stray_worth};
-ghost use Rattle.route.specs.Parts.{session_by, limit_there};
+ghost use Rattle.route_rules.specs.SessionRules.{past, rule13};
+ghost use Rattle.route_pass.specs.Settled.{SettledBy};
+ghost use Rattle.route.specs.Parts.{session_by};
 ghost use Rattle.route.specs.Routes.{judge_of};
 
-use answers::Verdict;
-use msd::ABSENT;
+use answers::{Counts, Refusal};
+use forms::{Mpls, Srv6};
 use route_ordered::judge_as;
-use route_pass::STRAY_WORTH;
 use route_rules::not_agreed;
-use session::{Limit, Session};
+use session::Session;
 
 // What one pass settles of a route in which nothing is wrong.
-fn seen(s: &[u8], ero: bool, n: bool, pst: u64) -> usize
+fn seen(s: &[u8], ero: bool, n: bool, pst: u64) -> Option<Counts>
     ensures settled { SettledBy (form_of pst) s.now ero n result }
 {
     if !frame_rules::is_headed(s, ero) {
-        return 0;
+        return None;
     }
     if pst == objects::MPLS_SETUP {
-        return route_pass::see_mpls(s, ero, n);
+        return route_pass::see::<Mpls>(s, ero, n);
     }
-    route_pass::see_srv6(s, ero, n)
+    route_pass::see::<Srv6>(s, ero, n)
 }
 
-// Whether a route of which the pass settled x is accepted: the form is agreed, and where there is a limit, there are no more segments.
-fn accepts(x: usize, agreed: bool, has: bool, most: usize, pst: u64) -> bool
-    ensures accepts { result ≡ true → (0 < x) × (rule13 (form_of pst) agreed pst ≡ false) × (has ≡ true → x % stray_worth ≤ most) }
+// Whether a route of so many segments that the pass settled is accepted: the form is agreed, and where there is a limit, there are no more segments.
+fn accepts(agreed: bool, limit: Option<usize>, pst: u64, count: usize) -> bool
+    ensures accepts { result ≡ true → (rule13 (form_of pst) agreed pst ≡ false) × (past limit count ≡ false) }
 {
-    if x == 0 {
-        return false;
-    }
     if not_agreed(forms::named(pst), agreed, pst) {
         return false;
     }
-    if has {
-        return x % STRAY_WORTH <= most;
+    match limit {
+        None => true,
+        Some(most) => count <= most,
     }
-    true
 }
 
-// A session of what judging looks at; a limit of `most` segments where it has one.
-fn made(agreed: bool, n: bool, has: bool, most: usize) -> Session
-    ensures made { result ≡ session_by agreed n has most }
+// The answer by the rules in their order, on a route of the form that the setup type names, SRv6's if it names none.
+fn ordered(
+    s: &[u8],
+    ero: bool,
+    agreed: bool,
+    n: bool,
+    limit: Option<usize>,
+    pst: u64,
+) -> Result<Counts, Refusal>
+    ensures judged { verdict_of result ≡ judge_of s.now ero (session_by agreed n limit) pst }
 {
-    Session {
-        agreed: agreed,
-        n: n,
-        limit: if has { Limit::Most(most) } else { Limit::Free },
+    let session = Session {
+        agreed,
+        n,
+        limit,
         a: false,
         r: false,
-        v: ABSENT,
-        m: ABSENT,
-    }
+        v: None,
+        m: None,
+    };
+    judge_as(forms::named(pst), s, ero, session, pst)
 }
 
-// The verdict by the rules in their order, on a route of the form that the setup type names, SRv6's if it names none.
-fn ordered(s: &[u8], ero: bool, agreed: bool, n: bool, has: bool, most: usize, pst: u64) -> Verdict
-    ensures judged { result ≡ judge_of s.now ero (session_by agreed n has most) pst }
-{
-    judge_as(forms::named(pst), s, ero, made(agreed, n, has, most), pst)
-}
-
-// The verdict on a route under a session in its parts, which stay out of memory. The pass and the rules in their order are called from here and from `judge`; so they
-// are compiled once, and what stands here goes into its caller.
+// The answer on a route under a session in its parts: six parameters, as a session that is handed on as a record is stored and loaded again on its way.
 pub fn judge_parts(
     s: &[u8],
     ero: bool,
     agreed: bool,
     n: bool,
-    has: bool,
-    most: usize,
+    limit: Option<usize>,
     pst: u64,
-) -> Verdict
-    ensures judged { result ≡ judge_of s.now ero (session_by agreed n has most) pst }
+) -> Result<Counts, Refusal>
+    ensures judged { verdict_of result ≡ judge_of s.now ero (session_by agreed n limit) pst }
 {
-    let x = seen(s, ero, n, pst);
-    if accepts(x, agreed, has, most, pst) {
-        return answers::carrying(x % STRAY_WORTH, x / STRAY_WORTH);
+    if let Some(counts) = seen(s, ero, n, pst) {
+        if accepts(agreed, limit, pst, counts.count) {
+            return Ok(counts);
+        }
     }
-    ordered(s, ero, agreed, n, has, most, pst)
+    ordered(s, ero, agreed, n, limit, pst)
 }
 
-// Whether there is a limit, and how many segments it allows.
-fn has_limit(limit: Limit) -> bool
-    ensures there { result ≡ limit_there limit }
+// The answer on a route under a session. It asks the pass and the rules itself: with one caller each the compiler puts them into that, and a long route takes half as
+// long again.
+pub fn judge(s: &[u8], ero: bool, session: Session, pst: u64) -> Result<Counts, Refusal>
+    ensures judged { verdict_of result ≡ judge_of s.now ero session pst }
 {
-    match limit {
-        Limit::Free => false,
-        Limit::Most(_) => true,
+    if let Some(counts) = seen(s, ero, session.n, pst) {
+        if accepts(session.agreed, session.limit, pst, counts.count) {
+            return Ok(counts);
+        }
     }
-}
-
-fn most_of(limit: Limit) -> usize
-    ensures most { result ≡ most_of limit }
-{
-    match limit {
-        Limit::Free => 0,
-        Limit::Most(most) => most,
-    }
-}
-
-// The verdict on a route under a session.
-pub fn judge(s: &[u8], ero: bool, session: Session, pst: u64) -> Verdict
-    ensures judged { result ≡ judge_of s.now ero session pst }
-{
-    let agreed = session.agreed;
-    let n = session.n;
-    let limit = session.limit;
-    let x = seen(s, ero, n, pst);
-    if accepts(x, agreed, has_limit(limit), most_of(limit), pst) {
-        return answers::carrying(x % STRAY_WORTH, x / STRAY_WORTH);
-    }
-    ordered(s, ero, agreed, n, has_limit(limit), most_of(limit), pst)
+    ordered(s, ero, session.agreed, session.n, session.limit, pst)
 }

@@ -2,62 +2,53 @@
 ghost use Rattle.std.specs.Prelude.{◌≡◌};
 ghost use Rattle.forms.specs.Forms.{form_of};
 ghost use Rattle.forms.specs.Sized.{Sized};
-ghost use Rattle.route.specs.Parts.{nothing_with};
+ghost use Rattle.route.specs.Parts.{picked_of};
 ghost use Rattle.route.specs.Routes.{segment_as, segment_of};
 
 use super::judgement::judge;
-use answers::Verdict;
+use answers::{Counts, Reason, Refusal};
 use forms::Form;
 use session::Session;
 use subobject::Segment;
-use subobject_read::Reading;
 use subobject_strays::Strays;
 
-// The verdict, with the segment and its strays if it is an acceptance, else with the segment of zeros and no strays.
+// The counts of the route, with the segment and its strays.
 #[derive(Clone, Copy)]
 pub struct Picked {
-    pub verdict: Verdict,
+    pub counts: Counts,
     pub segment: Segment,
     pub strays: Strays,
 }
 
-// What comes with a refusal.
-fn nothing(v: Verdict) -> Picked
-    ensures nothing { result ≡ nothing_with v }
-{
-    Picked {
-        verdict: v,
-        segment: subobject_read::no_segment(),
-        strays: subobject_strays::no_strays(),
-    }
-}
-
 // Segment i, from 0, of a route of the form that the setup type names, under the form's session.
-fn segment_as(form: Form, s: &[u8], ero: bool, session: Session, pst: u64, i: u64) -> Picked
+fn segment_as(
+    form: Form,
+    s: &[u8],
+    ero: bool,
+    session: Session,
+    pst: u64,
+    i: u64,
+) -> Result<Picked, Refusal>
     requires { (Sized form) × (form ≡ form_of pst) }
-    ensures picked { result ≡ segment_as form s.now ero session pst i }
+    ensures picked { picked_of result ≡ segment_as form s.now ero session pst i }
 {
-    let v = judge(s, ero, session, pst);
-    if v.number != 0 {
-        return nothing(v);
-    }
-    if i >= v.count as u64 {
-        return nothing(answers::refused(answers::NO_SUCH_SEGMENT, 0));
+    let counts = judge(s, ero, session, pst)?;
+    if i >= counts.count as u64 {
+        return Err(Reason::NoSuchSegment.into());
     }
     let at = frame::nth(s, i as usize);
-    match subobject_read::read_at(form, s, ero, at) {
-        Reading::Refused(number, place) => nothing(answers::refused(number, place)),
-        Reading::Whole(x) => Picked {
-            verdict: v,
-            segment: subobject_read::segment_at(form, s, ero, at),
-            strays: x,
-        },
-    }
+    let strays = subobject_read::read_at(form, s, ero, at)?;
+    let segment = subobject_read::segment_at(form, s, ero, at);
+    Ok(Picked {
+        counts,
+        segment,
+        strays,
+    })
 }
 
 // The same, with the form found by the setup type, SRv6's if it names none.
-pub fn segment(s: &[u8], ero: bool, session: Session, pst: u64, i: u64) -> Picked
-    ensures picked { result ≡ segment_of s.now ero session pst i }
+pub fn segment(s: &[u8], ero: bool, session: Session, pst: u64, i: u64) -> Result<Picked, Refusal>
+    ensures picked { picked_of result ≡ segment_of s.now ero session pst i }
 {
     segment_as(forms::named(pst), s, ero, session, pst, i)
 }

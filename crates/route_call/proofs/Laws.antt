@@ -9,7 +9,7 @@ use Rattle.answers.specs.Verdicts.{refused_by}
 use Rattle.session.specs.declared.Session.{Session}
 use Rattle.subobject.specs.Segments.{no_segment}
 use Rattle.subobject_strays.specs.Strays.{no_strays}
-use Rattle.route.specs.declared.picking.Picked.{Picked}
+use Rattle.route.specs.Picked.{Picked}
 use Rattle.route.specs.Routes.{judge_of, segment_of}
 use Rattle.octets.proofs.Said.{either_false}
 use Rattle.head_end.specs.Addresses.{usable_list}

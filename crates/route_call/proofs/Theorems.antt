@@ -3,10 +3,12 @@
 -- before all others. A flag turned on never turns an accepted path into a refused one: what it changes is the limit, which it never lowers
 -- (`raised_keeps`), and an acceptance under a limit stays under any that permits as much (`limit_keeps`). Without flags, and without addresses, the
 -- answer is that of the inner judgement under the session's own limit.
+use Rattle.std.specs.Prelude.{Option, None, Some}
+use Rattle.std.proofs.Common.{Result}
 use Prim.Native.Nat.{ℕ, ◌<◌}
 use native.Mathlib.Omega.{arith}
 use mathlib.Core.Path.{◌≡◌, refl, sym, ap, subst, ◌∙◌}
-use mathlib.Core.Logic.{◌↔◌, ◌⊎◌, ⊎_elim}
+use mathlib.Core.Logic.{◌↔◌, ⊎_elim}
 use mathlib.Core.List.{List, []}
 use mathlib.Core.Bool.{Bool, true, false, cond, ◌&&◌, ◌||◌, false≢true}
 use lib.Dec.{eqb}
@@ -14,25 +16,24 @@ use borrow.Author.Tests.{le-ltb, ltb-false}
 use Rattle.forms.specs.Forms.{form_of}
 use Rattle.answers.specs.declared.verdict.Verdict.{Verdict}
 use Rattle.answers.specs.Numbers.{not_usable}
-use Rattle.answers.specs.Verdicts.{refused_by}
-use Rattle.answers.proofs.Determined.{determined}
+use Rattle.answers.specs.Verdicts.{refused_by, verdict_of}
+use Rattle.answers.specs.declared.refusal.Refusal.{Refusal}
+use Rattle.answers.specs.declared.refusal.Counts.{Counts}
+use Rattle.answers.proofs.Results.{verdict_back}
 use Rattle.octets.proofs.Said.{both_true}
 use Rattle.objects.specs.Objects.{mpls_setup}
-use Rattle.session.specs.declared.Limit.{Limit}
-use Rattle.session.specs.declared.Limit.TheVariants.{Free, Most}
-use Rattle.session.specs.declared.Opened.{Opened}
+use Rattle.session.specs.Opened.{Opened}
 use Rattle.session.specs.declared.Session.{Session}
 use Rattle.session.specs.declared.Sessions.{Sessions}
 use Rattle.session.specs.Sessions.{agreed_by, agreed_on, mpls_agreed_by, mpls_agreed_on, not_agreed_on, session_of, mpls_session_of, sessions_of, session_under}
-use Rattle.msd.specs.Msd.{depth_in}
 use Rattle.msd_limit.specs.Limits.{limit_by, one_more_by, within}
 use Rattle.msd_limit.proofs.Theorems.{one_more_keeps}
-use Rattle.route.specs.declared.picking.Picked.{Picked}
-use Rattle.route.specs.Parts.{session_by}
+use Rattle.route.specs.declared.picking.Picked as code
+use Rattle.route.specs.Parts.{session_by, picked_of}
 use Rattle.route.specs.Routes.{past, rule12, count_of, judge_as, judge_of, segment_of}
 use Rattle.route.specs.Order.{Where, whole, inside, last, Among, check_at, FirstBroken}
 use Rattle.route.proofs.Setups.{judge_low}
-use Rattle.route.proofs.Theorems.{accepted_unbroken, unbroken_accepted, refused_first, first_refused}
+use Rattle.route.proofs.Theorems.{accepted_unbroken, unbroken_accepted, refused_first, first_refused, picked_back}
 use Rattle.head_end.specs.Addresses.{usable_list}
 use Rattle.route_limit.specs.FirstOff.{own_adjacency, stays_off, with_one_more, limit_for, under_limit, session_for}
 use Rattle.route_limit.proofs.Laws.{by_none, no_address}
@@ -89,16 +90,16 @@ module _ (s : List ℕ) (ero : Bool) (session : Session) (pst : ℕ) (addresses 
 
 -- the limit ------------------------------------------------------------------------------------------------------
 
-past_within : (limit : Limit) (n : ℕ) → past limit n ≡ false → within limit n
-past_within Free n e = tt
-past_within (Most m) n e = ltb-false m n e
+past_within : (limit : Option ℕ) (n : ℕ) → past limit n ≡ false → within limit n
+past_within None n e = tt
+past_within (Some m) n e = ltb-false m n e
 
-within_past : (limit : Limit) (n : ℕ) → within limit n → past limit n ≡ false
-within_past Free n h = refl
-within_past (Most m) n h = le-ltb m n h
+within_past : (limit : Option ℕ) (n : ℕ) → within limit n → past limit n ≡ false
+within_past None n h = refl
+within_past (Some m) n h = le-ltb m n h
 
 -- A route that is accepted under a limit is accepted alike under one that permits as much.
-pub limit_keeps : (s : List ℕ) (ero : Bool) (session : Session) (pst : ℕ) (limit : Limit) → ((n : ℕ) → within session.limit n → within limit n)
+pub limit_keeps : (s : List ℕ) (ero : Bool) (session : Session) (pst : ℕ) (limit : Option ℕ) → ((n : ℕ) → within session.limit n → within limit n)
     → (judge_of s ero session pst).number ≡ 0 → judge_of s ero (under_limit session limit) pst ≡ judge_of s ero session pst
 unfolding rule12
 limit_keeps s ero session pst limit up z =
@@ -120,7 +121,7 @@ abbrev pub flagged : Session → Bool → Bool → Session
 flagged g a r = record { agreed = g.agreed; n = g.n; limit = g.limit; a = a; r = r; v = g.v; m = g.m }
 
 -- The checks look at no flag.
-looks_at_no_flag : (s : List ℕ) (ero : Bool) (g : Session) (pst : ℕ) (a r : Bool) (limit : Limit)
+looks_at_no_flag : (s : List ℕ) (ero : Bool) (g : Session) (pst : ℕ) (a r : Bool) (limit : Option ℕ)
     → judge_of s ero (under_limit (flagged g a r) limit) pst ≡ judge_of s ero (under_limit g limit) pst
 unfolding judge_of judge_as
 looks_at_no_flag s ero g pst a r limit = refl
@@ -137,7 +138,7 @@ off_still true true false x y own f g e = rw (f refl) (go y)
 off_still true false false x y own f g e = absurd (false≢true e)
 
 module _ (s : List ℕ) (ero : Bool) (g : Session) (addresses : List ℕ) (a r : Bool) (f : g.a ≡ true → a ≡ true) (h : g.r ≡ true → r ≡ true)
-    (sound : g.limit ≡ limit_by (depth_in g.v) (depth_in g.m)) where
+    (sound : g.limit ≡ limit_by g.v g.m) where
   -- More flags never lower the limit.
   raised_keeps : (n : ℕ) → within (limit_for s ero g addresses) n → within (limit_for s ero (flagged g a r) addresses) n
   unfolding limit_for stays_off
@@ -145,7 +146,7 @@ module _ (s : List ℕ) (ero : Bool) (g : Session) (addresses : List ℕ) (a r :
       (off_still ero g.a g.r a r (own_adjacency s addresses) f h)
     where
       more : within g.limit n → within (with_one_more g) n
-      more = subst (λ (l : Limit). within l n → within (one_more_by l (depth_in g.v) (depth_in g.m)) n) (sym sound) (one_more_keeps n (depth_in g.v) (depth_in g.m))
+      more = subst (λ (l : Option ℕ). within l n → within (one_more_by l g.v g.m) n) (sym sound) (one_more_keeps n g.v g.m)
 
       go : (b c : Bool) → (b ≡ true → c ≡ true) → within (cond b (with_one_more g) g.limit) n → within (cond c (with_one_more g) g.limit) n
       go true true i k = k
@@ -172,7 +173,7 @@ and_still p q x y f g e = let h = both_true p q e in rw (f h.0, g h.1)
 -- **A flag turned on never turns an accepted path into a refused one**: any flags, at both ends, with any addresses, of either form, in an RRO too. The PCC's
 -- limit is the one that its v and m set, as it is in every answer to an OPEN object (open/proofs/Rules, `limit_of_depths`); session_flags/proofs/Theorem says it of
 -- those. MPLS's session looks at no flag.
-module _ (s : List ℕ) (ero : Bool) (pcc pce : Opened) (pst : ℕ) (addresses : List ℕ) (sound : pcc.limit ≡ limit_by (depth_in pcc.v) (depth_in pcc.m))
+module _ (s : List ℕ) (ero : Bool) (pcc pce : Opened) (pst : ℕ) (addresses : List ℕ) (sound : pcc.limit ≡ limit_by pcc.v pcc.m)
     (accepted : (judged_for s ero (sessions_of pcc pce) pst addresses).number ≡ 0) where
   pub flags_never_refuse : (a r x y : Bool) → (pcc.a ≡ true → a ≡ true) → (pcc.r ≡ true → r ≡ true) → (pce.a ≡ true → x ≡ true) → (pce.r ≡ true → y ≡ true)
       → judged_for s ero (sessions_of (flagged_open pcc a r) (flagged_open pce x y)) pst addresses ≡ judged_for s ero (sessions_of pcc pce) pst addresses
@@ -227,22 +228,22 @@ mpls_own_limit s ero pcc pce addresses e = go (mpls_agreed_by pcc pce)
     go false = neither_agreed s ero not_agreed_on mpls_setup addresses e refl refl
 
 -- Of any two answers that fit, both are the same.
-pub judge_determined : (s : List ℕ) (ero : Bool) (sessions : Sessions) (pst : ℕ) (addresses : List ℕ) {x y : Verdict}
-    → x ≡ judged_for s ero sessions pst addresses → y ≡ judged_for s ero sessions pst addresses → x ≡ y
-judge_determined s ero sessions pst addresses = determined
+pub judge_determined : (s : List ℕ) (ero : Bool) (sessions : Sessions) (pst : ℕ) (addresses : List ℕ) (a b : Result Counts Refusal)
+    → verdict_of a ≡ judged_for s ero sessions pst addresses → verdict_of b ≡ judged_for s ero sessions pst addresses → a ≡ b
+judge_determined s ero sessions pst addresses a b e f = verdict_back a b (e ∙ sym f)
 
-pub judge_in_determined : (s : List ℕ) (ero : Bool) (own : Session) (pst : ℕ) (addresses : List ℕ) {x y : Verdict}
-    → x ≡ judged_in s ero own pst addresses → y ≡ judged_in s ero own pst addresses → x ≡ y
-judge_in_determined s ero own pst addresses = determined
+pub judge_in_determined : (s : List ℕ) (ero : Bool) (own : Session) (pst : ℕ) (addresses : List ℕ) (a b : Result Counts Refusal)
+    → verdict_of a ≡ judged_in s ero own pst addresses → verdict_of b ≡ judged_in s ero own pst addresses → a ≡ b
+judge_in_determined s ero own pst addresses a b e f = verdict_back a b (e ∙ sym f)
 
-pub judge_plain_determined : (s : List ℕ) (ero agreed n has : Bool) (most pst : ℕ) (addresses : List ℕ) {x y : Verdict}
-    → x ≡ judged_in s ero (session_by agreed n has most) pst addresses → y ≡ judged_in s ero (session_by agreed n has most) pst addresses → x ≡ y
-judge_plain_determined s ero agreed n has most pst addresses = determined
+pub judge_plain_determined : (s : List ℕ) (ero agreed n : Bool) (limit : Option ℕ) (pst : ℕ) (addresses : List ℕ) (a b : Result Counts Refusal)
+    → verdict_of a ≡ judged_in s ero (session_by agreed n limit) pst addresses → verdict_of b ≡ judged_in s ero (session_by agreed n limit) pst addresses → a ≡ b
+judge_plain_determined s ero agreed n limit pst addresses a b e f = verdict_back a b (e ∙ sym f)
 
-pub segment_determined : (s : List ℕ) (ero : Bool) (sessions : Sessions) (pst : ℕ) (addresses : List ℕ) (i : ℕ) {x y : Picked}
-    → x ≡ segment_for s ero sessions pst addresses i → y ≡ segment_for s ero sessions pst addresses i → x ≡ y
-segment_determined s ero sessions pst addresses i = determined
+pub segment_determined : (s : List ℕ) (ero : Bool) (sessions : Sessions) (pst : ℕ) (addresses : List ℕ) (i : ℕ) (a b : Result code.Picked Refusal)
+    → picked_of a ≡ segment_for s ero sessions pst addresses i → picked_of b ≡ segment_for s ero sessions pst addresses i → a ≡ b
+segment_determined s ero sessions pst addresses i a b e f = picked_back a b (e ∙ sym f)
 
-pub segment_in_determined : (s : List ℕ) (ero : Bool) (own : Session) (pst : ℕ) (addresses : List ℕ) (i : ℕ) {x y : Picked}
-    → x ≡ segment_in s ero own pst addresses i → y ≡ segment_in s ero own pst addresses i → x ≡ y
-segment_in_determined s ero own pst addresses i = determined
+pub segment_in_determined : (s : List ℕ) (ero : Bool) (own : Session) (pst : ℕ) (addresses : List ℕ) (i : ℕ) (a b : Result code.Picked Refusal)
+    → picked_of a ≡ segment_in s ero own pst addresses i → picked_of b ≡ segment_in s ero own pst addresses i → a ≡ b
+segment_in_determined s ero own pst addresses i a b e f = picked_back a b (e ∙ sym f)

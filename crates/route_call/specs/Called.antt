@@ -6,11 +6,11 @@ use Rattle.answers.specs.Numbers.{not_usable}
 use Rattle.answers.specs.Verdicts.{refused_by}
 use Rattle.session.specs.declared.Session.{Session}
 use Rattle.session.specs.declared.Sessions.{Sessions}
-use Rattle.session.specs.declared.Opened.{Opened}
+use Rattle.session.specs.Opened.{Opened}
 use Rattle.session.specs.Sessions.{session_under}
 use Rattle.subobject.specs.Segments.{no_segment}
 use Rattle.subobject_strays.specs.Strays.{no_strays}
-use Rattle.route.specs.declared.picking.Picked.{Picked}
+use Rattle.route.specs.Picked.{Picked}
 use Rattle.route.specs.Routes.{judge_of, segment_of}
 use Rattle.head_end.specs.Addresses.{usable_list}
 use Rattle.route_limit.specs.FirstOff.{session_for}

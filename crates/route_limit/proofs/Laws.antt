@@ -1,25 +1,24 @@
 -- Laws of the limit that an ERO is judged by: the first segment in the code's words, and what the limit is. Each way out of the code is one law: the tests that led
 -- there are rewritten into the definition, and it computes to what is returned.
+use Rattle.std.specs.Prelude.{is_some, Option, None, Some}
 use Prim.Native.Nat.{ℕ, ◌+◌, ◌/◌, ◌≤◌, ◌<◌}
 use native.Mathlib.Omega.{arith}
 use mathlib.Core.Path.{◌≡◌, refl, sym, ap, ◌∙◌}
 use mathlib.Core.List.{List, []}
-use mathlib.Core.Bool.{Bool, true, false, cond}
+use mathlib.Core.Bool.{Bool, true, false, cond, false≢true}
 use lib.ListN.{length, drop, length-take, length-drop}
 use lib.Dec.{eqb}
 use Rattle.octets.proofs.Said.{and_false, or_true}
 use Rattle.answers.proofs.Determined.{determined}
 use Rattle.octets.specs.Octets.{octet_of, part}
 use Rattle.objects.specs.Objects.{header}
-use Rattle.session.specs.declared.Limit.{Limit}
 use Rattle.session.specs.declared.Session.{Session}
-use Rattle.msd.specs.Msd.{absent}
-use Rattle.msd.proofs.Laws.{depth_none}
 use Rattle.forms.specs.declared.Form.{Form}
 use Rattle.forms.specs.Forms.{srv6_form, flag_in}
-use Rattle.subobject.specs.Layout.{nai_place, worth_nt, head_of, head_at}
+use Rattle.subobject.specs.Layout.{nai_place, sid_length, worth_nt, head_of, head_at}
 use Rattle.head_end.specs.Addresses.{address_size, has_address}
 use Rattle.head_end.proofs.Laws.{short_is_none, none_in_none}
+use Rattle.msd_limit.specs.Limits.{one_more_by}
 use Rattle.route_limit.specs.FirstOff.{is_adjacency, first_head, local_address, own_adjacency, stays_off, with_one_more, limit_for, session_for}
 
 -- the first segment ----------------------------------------------------------------------------------------------
@@ -29,14 +28,17 @@ unfolding part
 short_part s at h = omega (arith, length-take address_size (drop at s), length-drop at s)
 
 -- Where the local address stands: behind the fixed part, and behind the SID if S is 0.
-pub place_told : (flags : ℕ) {form : Form} {fixed sid without k : ℕ} → form ≡ srv6_form → fixed ≡ form.fixed → sid ≡ form.sid → without ≡ flag_in flags form.s
-    → k ≡ cond (eqb without 0) sid 0 → k ≤ sid + 0
+pub place_told : (flags : ℕ) {form : Form} {fixed flag k : ℕ} → form ≡ srv6_form → fixed ≡ form.fixed → flag ≡ flag_in flags form.s → k ≡ sid_length form flag
     → (header + fixed + k ≡ nai_place srv6_form (flag_in flags srv6_form.s) header) × (header + fixed + k ≤ 28)
-place_told flags {form} {fixed} {sid} {without} {k} e f g h p l =
+place_told flags {form} {fixed} {flag} {k} e f h p =
     let eight : fixed ≡ 8 = f ∙ ap (λ (x : Form). x.fixed) e in
-    let sixteen : sid ≡ 16 = g ∙ ap (λ (x : Form). x.sid) e in
-    let w : without ≡ flag_in flags 1 = h ∙ ap (λ (x : Form). flag_in flags x.s) e in
-    (rw (p, w, sixteen, eight), omega (arith, eight, sixteen, l))
+    let w : flag ≡ flag_in flags 1 = h ∙ ap (λ (x : Form). flag_in flags x.s) e in
+    let q : k ≡ sid_length srv6_form (flag_in flags 1) = p ∙ ap (λ (x : Form). sid_length x flag) e ∙ ap (sid_length srv6_form) w in
+    (rw (q, eight), least (eqb (flag_in flags 1) 0) k q eight)
+  where
+    least : (b : Bool) (k : ℕ) → k ≡ cond b 16 0 → fixed ≡ 8 → header + fixed + k ≤ 28
+    least true k q g = omega (arith, q, g)
+    least false k q g = omega (arith, q, g)
 
 -- In the words of the code: high the octet with NT, low the one with S.
 module _ (s addresses : List ℕ) (high : ℕ) (e : high ≡ octet_of s (header + 2)) where
@@ -71,7 +73,7 @@ module _ (s : List ℕ) (ero : Bool) (session : Session) (addresses : List ℕ) 
   unfolding limit_for stays_off
   in_rro e = rw e
 
-  pub by_r : {l : Limit} → ero ≡ true → session.r ≡ true → l ≡ with_one_more session → l ≡ limit_for s ero session addresses
+  pub by_r : {l : Option ℕ} → ero ≡ true → session.r ≡ true → l ≡ with_one_more session → l ≡ limit_for s ero session addresses
   unfolding limit_for stays_off
   by_r e f g = g ∙ rw (e, f)
 
@@ -80,15 +82,19 @@ module _ (s : List ℕ) (ero : Bool) (session : Session) (addresses : List ℕ) 
   by_none e f = rw (e, f, and_false ero)
 
   -- Without H.Encaps one segment more is none.
-  pub without_encaps : absent ≤ session.v → session.limit ≡ limit_for s ero session addresses
+  pub without_encaps : is_some session.v ≡ false → session.limit ≡ limit_for s ero session addresses
   unfolding limit_for
-  without_encaps h = go (stays_off s ero session addresses) (rw (depth_none session.v h))
+  without_encaps h = go (stays_off s ero session addresses) (none session.v h)
     where
+      none : (v : Option ℕ) → is_some v ≡ false → one_more_by session.limit v session.m ≡ session.limit
+      none None h = refl
+      none (Some v) h = absurd (false≢true (sym h))
+
       go : (b : Bool) → with_one_more session ≡ session.limit → session.limit ≡ cond b (with_one_more session) session.limit
       go true f = sym f
       go false f = refl
 
-  pub by_a : {own : Bool} {l : Limit} → ero ≡ true → session.a ≡ true → own ≡ own_adjacency s addresses → own ≡ true
+  pub by_a : {own : Bool} {l : Option ℕ} → ero ≡ true → session.a ≡ true → own ≡ own_adjacency s addresses → own ≡ true
       → l ≡ with_one_more session → l ≡ limit_for s ero session addresses
   unfolding limit_for stays_off
   by_a e f g h k = k ∙ rw (e, f, sym g ∙ h, or_true session.r)

@@ -2,12 +2,10 @@
 -- then H.Encaps v permits v + 1; Segments Left is untouched" (document 02, C-15).
 --
 -- All of it is defined for any octets: of an object that is refused before the limit is asked for, no answer shows which limit it was.
-use Rattle.std.specs.Prelude.{ℕ, List, Bool, true, cond, ◌&&◌, ◌||◌, eqb}
+use Rattle.std.specs.Prelude.{ℕ, List, Bool, true, cond, ◌&&◌, ◌||◌, eqb, Option}
 use Rattle.octets.specs.Octets.{part}
 use Rattle.objects.specs.Objects.{header}
-use Rattle.session.specs.declared.Limit.{Limit}
 use Rattle.session.specs.declared.Session.{Session}
-use Rattle.msd.specs.Msd.{depth_in}
 use Rattle.msd_limit.specs.Limits.{one_more_by}
 use Rattle.forms.specs.Forms.{adjacency, link_local, srv6_form}
 use Rattle.subobject.specs.declared.head.Head.{Head}
@@ -35,14 +33,14 @@ unfoldable pub stays_off : List ℕ → Bool → Session → List ℕ → Bool
 stays_off s ero session addresses = ero && (session.r || (session.a && own_adjacency s addresses))
 
 -- "then H.Encaps v permits v + 1; Segments Left is untouched"
-abbrev pub with_one_more : Session → Limit
-with_one_more session = one_more_by session.limit (depth_in session.v) (depth_in session.m)
+abbrev pub with_one_more : Session → Option ℕ
+with_one_more session = one_more_by session.limit session.v session.m
 
-unfoldable pub limit_for : List ℕ → Bool → Session → List ℕ → Limit
+unfoldable pub limit_for : List ℕ → Bool → Session → List ℕ → Option ℕ
 limit_for s ero session addresses = cond (stays_off s ero session addresses) (with_one_more session) session.limit
 
 -- The session with another limit.
-abbrev pub under_limit : Session → Limit → Session
+abbrev pub under_limit : Session → Option ℕ → Session
 under_limit session limit =
     record { agreed = session.agreed; n = session.n; limit = limit; a = session.a; r = session.r; v = session.v; m = session.m }
 

@@ -14,9 +14,8 @@ ghost use Rattle.route_limit.specs.FirstOff.{is_adjacency, own_adjacency, limit_
 
 use forms::{ADJACENCY, LINK_LOCAL};
 use head_end::ADDRESS_SIZE;
-use msd::ABSENT;
 use objects::HEADER;
-use session::{Limit, Session};
+use session::Session;
 use subobject::{FLAGS_PLACE, LOW_FLAGS_PLACE, WORTH_NT};
 
 // The places of NT and of the flags of the first segment.
@@ -25,10 +24,11 @@ const FIRST_NT: usize = HEADER + FLAGS_PLACE;
 const FIRST_FLAGS: usize = HEADER + LOW_FLAGS_PLACE;
 
 // Whether an NT is that of an adjacency.
+#[tactic(auto, unfolding(crate::specs::FirstOff::is_adjacency))]
 fn adjacency(nt: usize) -> bool
     ensures adjacency { result ≡ is_adjacency nt }
 {
-    octets::either(nt == ADJACENCY, nt == LINK_LOCAL)
+    nt == ADJACENCY || nt == LINK_LOCAL
 }
 
 // Where the local address of the first segment stands, by its flags: behind the SID if there is one.
@@ -36,9 +36,7 @@ fn local_place(flags: usize) -> usize
     ensures place { (result ≡ nai_place srv6_form (flag_in flags srv6_form.s) header) × (result ≤ header + srv6_form.fixed + srv6_form.sid) }
 {
     let form = forms::srv6();
-    let fixed = octets::wide(form.fixed);
-    let sid = octets::wide(form.sid);
-    HEADER + fixed + octets::pick(forms::flag(flags, form.s) == 0, sid, 0)
+    HEADER + usize::from(form.fixed) + subobject::sid_length(form, forms::flag(flags, form.s))
 }
 
 // Whether the first segment is an adjacency of the head end. Octets that are not there count for nothing.
@@ -56,41 +54,34 @@ fn own_adjacency(s: &[u8], addresses: &[u8]) -> bool
 }
 
 // The limit for a route. The addresses are looked at only where A decides: R is not agreed, and H.Encaps is there.
-fn limit_for(s: &[u8], ero: bool, session: Session, addresses: &[u8]) -> Limit
+fn limit_for(s: &[u8], ero: bool, session: Session, addresses: &[u8]) -> Option<usize>
     ensures limit { result ≡ limit_for s.now ero session addresses.now }
 {
-    let limit = session.limit;
-    let v = session.v;
-    let m = session.m;
     if !ero {
-        return limit;
+        return session.limit;
     }
     if session.r {
-        return msd_limit::one_more(limit, v, m);
+        return msd_limit::one_more(session.limit, session.v, session.m);
     }
     if !session.a {
-        return limit;
+        return session.limit;
     }
-    if ABSENT <= v {
-        return limit;
+    if session.v.is_none() {
+        return session.limit;
     }
     if own_adjacency(s, addresses) {
-        return msd_limit::one_more(limit, v, m);
+        return msd_limit::one_more(session.limit, session.v, session.m);
     }
-    limit
+    session.limit
 }
 
 // The session with the limit for a route.
+#[tactic(auto, unfolding(crate::specs::FirstOff::session_for))]
 pub fn session_for(s: &[u8], ero: bool, session: Session, addresses: &[u8]) -> Session
     ensures session { result ≡ session_for s.now ero session addresses.now }
 {
     Session {
-        agreed: session.agreed,
-        n: session.n,
         limit: limit_for(s, ero, session, addresses),
-        a: session.a,
-        r: session.r,
-        v: session.v,
-        m: session.m,
+        ..session
     }
 }

@@ -11,7 +11,10 @@ use borrow.Author.Tests.{eqb-true, eqb-false, not-false}
 use Rattle.forms.specs.declared.Form.{Form}
 use Rattle.answers.specs.declared.verdict.Verdict.{Verdict}
 use Rattle.answers.specs.Numbers.{not_agreed}
-use Rattle.answers.specs.Verdicts.{refused_by, accepted_with, carrying_both}
+use Rattle.answers.specs.Verdicts.{refused_by, accepted_with, carrying_both, refusal_of, counted_of}
+use Rattle.answers.specs.declared.refusal.Refusal.{Refusal}
+use Rattle.answers.proofs.Results.{refused_numbered}
+use Rattle.std.proofs.Common.{Result, Ok, Err}
 use Rattle.session.specs.declared.Session.{Session}
 use Rattle.octets.specs.Octets.{be16, end16}
 use Rattle.objects.specs.Objects.{header}
@@ -70,6 +73,16 @@ module _ (form : Form) (s : List ℕ) (ero : Bool) (session : Session) (pst : �
   pub frame_count : f.number ≡ 0 → f.count ≡ count_of s
   unfolding frame_of
   frame_count z = ap (λ (v : Verdict). v.count) (e ∙ none_first (frame_checks s ero form.kind) (accepted_with (count_of s)) (frame_none z))
+
+-- The same, of a result.
+module _ (form : Form) (s : List ℕ) (ero : Bool) (session : Session) (pst : ℕ) (r : Result ℕ Refusal) (e : counted_of r ≡ frame_of s ero form.kind) where
+  pub frame_refused : (x : Refusal) → r ≡ Err x → refusal_of x ≡ judge_as form s ero session pst
+  frame_refused x q = let f : refusal_of x ≡ frame_of s ero form.kind = rw q at e in frame_stops form s ero session pst (refusal_of x) f (refused_numbered x)
+
+  pub frame_passed : (count : ℕ) → r ≡ Ok count → None (frame_checks s ero form.kind) × (count ≡ count_of s)
+  frame_passed count q =
+      let f : accepted_with count ≡ frame_of s ero form.kind = rw q at e in
+      (frame_none form s ero session pst (accepted_with count) f refl, frame_count form s ero session pst (accepted_with count) f refl)
 
 -- the rest of the answer ---------------------------------------------------------------------------------------
 

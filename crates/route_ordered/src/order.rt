@@ -1,26 +1,29 @@
 // The rules in their order: the frame, 13, the walk, 12.
 ghost use Rattle.std.specs.Prelude.{◌≡◌};
+ghost use Rattle.answers.specs.Verdicts.{verdict_of};
 ghost use Rattle.forms.specs.Sized.{Sized};
 ghost use Rattle.route_ordered.specs.Judged.{judge_as};
 
-use answers::Verdict;
+use answers::{Counts, Reason, Refusal};
 use forms::Form;
 use route_rules::{limited, not_agreed};
 use session::Session;
 
-// The verdict on a route of a form, under the form's session and a setup type.
-pub fn judge_as(form: Form, s: &[u8], ero: bool, session: Session, pst: u64) -> Verdict
+// The answer on a route of a form, under the form's session and a setup type.
+pub fn judge_as(
+    form: Form,
+    s: &[u8],
+    ero: bool,
+    session: Session,
+    pst: u64,
+) -> Result<Counts, Refusal>
     requires { Sized form }
-    ensures judged { result ≡ judge_as form s.now ero session pst }
+    ensures judged { verdict_of result ≡ judge_as form s.now ero session pst }
 {
-    let f = frame_rules::framed(s, ero, octets::wide(form.kind));
-    if f.number != 0 {
-        return f;
-    }
+    let count = frame_rules::framed(s, ero, usize::from(form.kind))?;
     if not_agreed(form, session.agreed, pst) {
-        return answers::refused(answers::NOT_AGREED, 0);
+        return Err(Reason::NotAgreed.into());
     }
-    let w = route_walk::walk(form, s, ero, session.n, f.count);
-    let limit = session.limit;
-    limited(w, s, ero, limit)
+    let w = route_walk::walk(form, s, ero, session.n, count);
+    limited(w, s, ero, session.limit)
 }

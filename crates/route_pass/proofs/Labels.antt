@@ -3,20 +3,33 @@
 use Prim.Native.Nat.{ℕ, zero, suc, ◌+◌, ◌*◌, ◌-◌, ◌≤◌}
 use mathlib.Core.Path.{◌≡◌, refl}
 use mathlib.Core.List.{List}
-use mathlib.Core.Bool.{Bool, true, false}
+use mathlib.Core.Bool.{Bool, true, false, not, ◌&&◌}
+use lib.Dec.{eqb, ltb}
+use borrow.Author.Tests.{ne_eqb}
+use Rattle.octets.proofs.Said.{and_no}
 use lib.ListN.{length}
 use native.Mathlib.Omega.{arith}
 use Rattle.octets.specs.Octets.{octet_of, be16}
 use Rattle.objects.specs.Objects.{header}
+use Rattle.forms.specs.declared.Form.{Form}
 use Rattle.forms.specs.Forms.{mpls_form, flag_in, knows, nai_length}
 use Rattle.subobject.specs.declared.head.Head.{Head}
 use Rattle.subobject.specs.Layout.{head_of, head_at, kind_of, expected_length}
-use Rattle.subobject.specs.Rules.{rule7, rule8, rule9, rule10, rule11, has_structure, malformed}
+use Rattle.subobject.specs.Rules.{rule7, rule8, rule9, rule10, rule11, rule29, rule30, has_structure, has_label, malformed, first_free, good_label}
 use Rattle.subobject_strays.specs.Strays.{strays_by, stray_one, stray_flags, structure_flags, reserved_octets}
 use Rattle.label_run.specs.Alone.{LabelAlone, EachAlone, AloneTo}
-use Rattle.subobject_sound.proofs.Labels.{good_29, plain_30}
 use Rattle.frame.proofs.Laws.{fits_made}
+use Rattle.route_pass.specs.Settled.{Begun}
 use Rattle.route_pass.proofs.Pass.{Good, Gone, gone_starts, gone_on, good_made}
+
+-- 29 and 30 of a head: a label that is good, and C 0.
+good_29 : (h : Head) (label : ℕ) → (ltb label first_free && not (eqb label good_label)) ≡ false → rule29 h label ≡ false
+unfolding rule29
+good_29 h label e = and_no (has_label h) _ e
+
+plain_30 : (h : Head) (time : ℕ) → (h.c ≡ 1 → ⊥) → rule30 h time ≡ false
+unfolding rule30
+plain_30 h time n = and_no (has_label h) _ (rw (ne_eqb h.c 1 n))
 
 -- type 36, 8 octets, NT 0, F and M
 abbrev alone_head : Bool → Head
@@ -60,3 +73,8 @@ module _ (s : List ℕ) (ero n : Bool) where
 
   pub gone_labels : (count : ℕ) → AloneTo s count → Gone mpls_form s ero n (header + 8 * count) count 0
   gone_labels count a = gone_each count a.room a.each
+
+-- Where a pass begins.
+pub gone_begun : (form : Form) (s : List ℕ) (ero n : Bool) (count : ℕ) → Begun form s count → Gone form s ero n (header + 8 * count) count 0
+gone_begun form s ero n zero b = gone_starts form s ero n
+gone_begun form s ero n (suc i) b = let a = b.alone (omega arith) in rw a.0 (gone_labels s ero n (suc i) a.1)

@@ -3,10 +3,8 @@
 // and the rules are asked in their order (`frame_rules`, `route_walk`).
 #![tactic(auto)]
 
-mod over_mpls;
-mod over_srv6;
-mod seen;
+mod of_layout;
+mod seeing;
 
-pub use over_mpls::see_mpls;
-pub use over_srv6::see_srv6;
-pub use seen::STRAY_WORTH;
+pub use of_layout::Passed;
+pub use seeing::see;

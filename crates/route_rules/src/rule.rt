@@ -1,42 +1,48 @@
 // 13 and 12.
 ghost use Rattle.std.specs.Prelude.{◌≡◌, ◌&&◌, ltb};
+ghost use Rattle.answers.specs.Verdicts.{verdict_of};
 ghost use Rattle.frame.specs.Gathered.{Walkable};
 ghost use Rattle.route_rules.specs.Parts.{limited_of};
 ghost use Rattle.route_rules.specs.SessionRules.{rule13};
 
-use answers::Verdict;
+use answers::{Counts, Reason, Refusal};
 use forms::Form;
-use session::Limit;
 
 // 13: PST isn't the form's or the form isn't agreed.
 pub fn not_agreed(form: Form, agreed: bool, pst: u64) -> bool
     ensures broken { result ≡ rule13 form agreed pst }
 {
-    !octets::both(pst == form.setup as u64, agreed)
+    !(pst == u64::from(form.setup) && agreed)
 }
 
 // Whether there are more segments than `most`; not asked in RRO.
 fn past(ero: bool, most: usize, count: usize) -> bool
     ensures past { result ≡ (ero && ltb most count) }
 {
-    octets::both(ero, most < count)
+    ero && most < count
 }
 
 // Last 12: of an acceptance of more segments than the limit.
-pub fn limited(w: Verdict, s: &[u8], ero: bool, limit: Limit) -> Verdict
+pub fn limited(
+    w: Result<Counts, Refusal>,
+    s: &[u8],
+    ero: bool,
+    limit: Option<usize>,
+) -> Result<Counts, Refusal>
     requires { Walkable s.now }
-    ensures limited { result ≡ limited_of w s.now ero limit }
+    ensures limited { verdict_of result ≡ limited_of (verdict_of w) s.now ero limit }
 {
-    if w.number != 0 {
-        return w;
-    }
+    let counts = w?;
     match limit {
-        Limit::Free => w,
-        Limit::Most(most) => {
-            if past(ero, most, w.count) {
-                return answers::refused(answers::TOO_MANY_SEGMENTS, frame::nth(s, most));
+        None => Ok(counts),
+        Some(most) => {
+            if past(ero, most, counts.count) {
+                return Err(Refusal {
+                    reason: Reason::TooManySegments,
+                    place: frame::nth(s, most),
+                });
             }
-            w
+            Ok(counts)
         }
     }
 }

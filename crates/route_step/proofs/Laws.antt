@@ -26,7 +26,7 @@ use Rattle.frame.proofs.Laws.{fits_true}
 use Rattle.route_step_tests.specs.Places.{outside}
 use Rattle.route_step_tests.proofs.Laws.{inside}
 use Rattle.route_step_rules.specs.StepRules.{step_verdict}
-use Rattle.route_step.specs.declared.stepping.Stepped.{Stepped}
+use Rattle.route_step.specs.Stepped.{Stepped}
 use Rattle.route_step.specs.Steps.{step_as, step_of}
 
 -- ---- an acceptance: what was asked and found unbroken

@@ -10,6 +10,7 @@ use lib.ListN.{length, get_or}
 use borrow.Author.Tests.{le-leb}
 use Rattle.answers.specs.Numbers.{no_such_segment}
 use Rattle.answers.specs.Verdicts.{refused_by, accepted_with}
+use Rattle.answers.proofs.Results.{passed_back}
 use Rattle.octets.specs.Octets.{octet_of}
 use Rattle.objects.specs.Objects.{header, unit}
 use Rattle.forms.specs.Forms.{form_of}
@@ -23,14 +24,15 @@ use Rattle.frame.proofs.Laws.{fits_true}
 use Rattle.frame.proofs.Fills.{whole_fills}
 use Rattle.frame.proofs.Checks.{none_unbroken}
 use Rattle.frame.proofs.OneKind.{AllKind, kind_there, frame_kinds}
-use Rattle.route.specs.declared.picking.Picked.{Picked}
+use Rattle.route.specs.Picked.{Picked}
 use Rattle.route.specs.Routes.{judge_as, judge_of, segment_of, count_of}
 use Rattle.route.proofs.Answer.{accepted_none, accepted_count, accepted_frame, accepted_subobject, pick_there}
-use Rattle.route_step.specs.declared.stepping.Stepped.{Stepped}
+use Rattle.route_step.specs.Stepped.{Stepped}
 use Rattle.route_step_tests.specs.Places.{outside}
 use Rattle.route_step_rules.proofs.Laws.{stops_15}
-use Rattle.route_step.specs.Steps.{step_as, step_of, steps_from}
+use Rattle.route_step.specs.Steps.{step_as, step_of, steps_from, stepped_of}
 use Rattle.route_step.proofs.Laws.{Sound, sound_accepted}
+use Rattle.route_step.specs.declared.stepping.Stepped as code
 
 -- ---- a step on the chain
 module _ (s : List ℕ) (ero : Bool) (pst : ℕ) where
@@ -114,5 +116,11 @@ module _ (s : List ℕ) (ero : Bool) (pst : ℕ) where
     step_behind_the_last = rw (ends header (places_of s) chain (omega arith) refl own_at) (sym (stops_15 (form_of pst) s ero (length s) at_the_end refl))
 
 -- Of any two answers that fit, both are the same.
-pub step_determined : (s : List ℕ) (ero : Bool) (pst at : ℕ) (a b : Stepped) → a ≡ step_of s ero pst at → b ≡ step_of s ero pst at → a ≡ b
-step_determined s ero pst at a b e f = e ∙ sym f
+pub stepped_back : (x y : code.Stepped) → stepped_of x ≡ stepped_of y → x ≡ y
+stepped_back x y e =
+    let answer = passed_back x.answer y.answer (ap (λ (z : Stepped). z.verdict) e) in
+    let segment = ap (λ (z : Stepped). z.segment) e in
+    let next = ap (λ (z : Stepped). z.next) e in (λ k. record { answer = answer k; segment = segment k; next = next k })
+
+pub step_determined : (s : List ℕ) (ero : Bool) (pst at : ℕ) (a b : code.Stepped) → stepped_of a ≡ step_of s ero pst at → stepped_of b ≡ step_of s ero pst at → a ≡ b
+step_determined s ero pst at a b e f = stepped_back a b (e ∙ sym f)

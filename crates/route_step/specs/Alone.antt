@@ -9,7 +9,7 @@ use Rattle.frame.specs.Checks.{check, first_broken}
 use Rattle.frame.specs.Frames.{fits_in}
 use Rattle.route.specs.Alone.{head_alone, one_checks, one_segment}
 use Rattle.route_step_tests.specs.Places.{outside}
-use Rattle.route_step.specs.declared.stepping.Stepped.{Stepped}
+use Rattle.route_step.specs.Stepped.{Stepped}
 
 -- 15, 4 and 14, then 8, 9, 7 and 11 of the subobject there. 10 hangs on a session and is not asked, as in an RRO.
 unfoldable pub verdict_alone : List ℕ → Bool → ℕ → Verdict

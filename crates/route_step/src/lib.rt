@@ -5,8 +5,7 @@
 // at its place, and 29, 30. What hangs on a session is judging's to ask.
 #![tactic(auto)]
 
-mod over_mpls;
-mod over_srv6;
+mod of_layout;
 mod stepping;
 
 pub use stepping::{Stepped, step};

@@ -64,6 +64,10 @@ module _ (form : Form) (s : List ℕ) (at : ℕ) (h : Head) where
         unfolding head_verdict
         unbroken d l t e = e ∙ sym (rw (same_kind, a, b, c, d, l, t))
 
+-- The same of the form that it is known to be.
+pub told_of : {form known : Form} → form ≡ known → (h : Head) (s : List ℕ) (at : ℕ) {r : Verdict} → r ≡ head_verdict form h s at → r ≡ head_verdict known h s at
+told_of e h s at q = q ∙ ap (λ (x : Form). head_verdict x h s at) e
+
 -- A sound subobject's SID is there.
 pub sid_room : (form : Form) (s : List ℕ) (at : ℕ) (h : Head) → rule7 form h ≡ false → at + h.size ≤ length s → sid_place form at + sid_length form h.s ≤ length s
 unfolding expected_length

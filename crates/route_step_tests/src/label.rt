@@ -29,7 +29,7 @@ pub fn bad_label(form: Form, h: Head, s: &[u8], at: usize) -> bool
     ensures broken { result ≡ rule29 h (label_at s.now (sid_place form at)) }
 {
     if label_rules::labelled(h) {
-        let p = at + octets::wide(form.fixed);
+        let p = at + usize::from(form.fixed);
         return label_rules::twenty_nine(h, label(s, p));
     }
     false
@@ -41,7 +41,7 @@ pub fn bad_format(form: Form, h: Head, s: &[u8], at: usize) -> bool
     ensures broken { result ≡ rule30 h (time_at s.now (sid_place form at)) }
 {
     if label_rules::labelled(h) {
-        let p = at + octets::wide(form.fixed);
+        let p = at + usize::from(form.fixed);
         return label_rules::thirty(h, time(s, p));
     }
     false

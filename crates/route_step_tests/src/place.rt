@@ -26,7 +26,7 @@ pub fn is_unfit(s: &[u8], at: usize) -> bool
     if room < objects::UNIT {
         return true;
     }
-    let len = octets::wide(s[at + subobject::SIZE_PLACE]);
+    let len = usize::from(s[at + subobject::SIZE_PLACE]);
     if room < len {
         return true;
     }

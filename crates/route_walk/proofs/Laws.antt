@@ -4,6 +4,7 @@
 use Prim.Native.Nat.{ℕ, ◌+◌, ◌-◌, ◌%◌, ◌≤◌, ◌<◌}
 use mathlib.Core.Path.{◌≡◌, refl, sym, ◌∙◌, ap}
 use mathlib.Core.List.{List, [], ◌∷◌, ◌++◌}
+use Rattle.std.proofs.lemmas.List.{get_or-map}
 use mathlib.Core.Bool.{Bool, true, false}
 use lib.ListN.{length, get_or, drop}
 use lib.Seq.{drop-cons}
@@ -14,6 +15,9 @@ use native.Mathlib.Nat.{zero-add}
 use native.Mathlib.Numerals.{add-one}
 use Rattle.answers.specs.declared.verdict.Verdict.{Verdict}
 use Rattle.answers.specs.Verdicts.{refused_by, carrying_both}
+use Rattle.answers.specs.Reasons.{number_of}
+use Rattle.answers.specs.declared.reason.Reason.{Reason}
+use Rattle.answers.specs.declared.reason.Reason.TheVariants.{NaiUnknown, NothingThere, LengthWrong, SidNeeded, StructureTooLong, LabelValue, LabelFormat}
 use Rattle.octets.specs.Octets.{octet_of}
 use Rattle.objects.specs.Objects.{header}
 use Rattle.forms.specs.declared.Form.{Form}
@@ -148,10 +152,17 @@ pub head_size : (form : Form) (ero : Bool) (s : List ℕ) (at : ℕ) (h : Head) 
 unfolding head_at head_of octet_of
 head_size form ero s at h e = ap (λ (x : Head). x.size) e
 
-pub asked : (form : Form) (ero n : Bool) (s : List ℕ) (at number : ℕ) (h : Head) (b : Bool) → h ≡ head_at form s ero at
-    → b ≡ broken_by (subject_by form h s ero n at) number → broken_by (subject_at form s ero n at) number ≡ b
-asked form ero n s at number h b e q = rw (← e) (sym q)
+pub asked : (form : Form) (ero n : Bool) (s : List ℕ) (at number k : ℕ) (h : Head) (b : Bool) → h ≡ head_at form s ero at → number ≡ get_or order k 0
+    → b ≡ broken_by (subject_by form h s ero n at) number → broken_by (subject_at form s ero n at) (get_or order k 0) ≡ b
+asked form ero n s at number k h b e z q = rw (← e, ← z) (sym q)
+
+-- The reasons in the order of the code, and their numbers.
+abbrev pub reasons : List Reason
+reasons = NaiUnknown ∷ NothingThere ∷ LengthWrong ∷ SidNeeded ∷ StructureTooLong ∷ LabelValue ∷ LabelFormat ∷ []
+
+pub reason_of : (d : Reason) (k : ℕ) → k < rule_count → number_of (get_or reasons k d) ≡ get_or order k 0
+reason_of d k h = sym (get_or-map number_of reasons k d 0 h)
 
 -- A refusal with the place that its number names.
-pub refused_at : (v : Verdict) (number at place : ℕ) → v ≡ refused_by number place → place ≡ place_by at number → v ≡ refused_by number (place_by at number)
-refused_at v number at place e p = e ∙ ap (λ (x : ℕ). refused_by number x) p
+pub refused_at : (at m n number place : ℕ) → n ≡ m → number ≡ n → place ≡ place_by at number → refused_by n place ≡ refused_by m (place_by at m)
+refused_at at m n number place e f p = rw (p, f, e)

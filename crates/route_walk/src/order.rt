@@ -1,12 +1,12 @@
-// How many rules a subobject has, and their order.
-pub const RULE_COUNT: usize = 7;
+// The order in which the rules of a subobject are asked.
+use answers::Reason;
 
-pub const ORDER: [usize; 7] = [
-    answers::NAI_UNKNOWN,
-    answers::NOTHING_THERE,
-    answers::LENGTH_WRONG,
-    answers::SID_NEEDED,
-    answers::STRUCTURE_TOO_LONG,
-    answers::LABEL_VALUE,
-    answers::LABEL_FORMAT,
+pub const ORDER: [Reason; 7] = [
+    Reason::NaiUnknown,
+    Reason::NothingThere,
+    Reason::LengthWrong,
+    Reason::SidNeeded,
+    Reason::StructureTooLong,
+    Reason::LabelValue,
+    Reason::LabelFormat,
 ];

@@ -5,18 +5,9 @@ ghost use Rattle.std.specs.Prelude.{◌≡◌};
 ghost use Rattle.same_octets.specs.Same.{same_octets};
 
 // Whether the octets are the same, as many and one by one.
+#[tactic(auto, unfolding(crate::specs::Same::same_octets))]
 pub fn same(xs: &[u8], ys: &[u8]) -> bool
     ensures same { result ≡ same_octets xs.now ys.now }
 {
-    if xs.len() != ys.len() {
-        return false;
-    }
-    let mut i: usize = 0;
-    while i < xs.len() {
-        if xs[i] != ys[i] {
-            return false;
-        }
-        i = i + 1;
-    }
-    true
+    xs == ys
 }

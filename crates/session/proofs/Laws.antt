@@ -1,20 +1,28 @@
 -- Laws of the session of two answers, in the order of specs/Sessions.
+use Rattle.std.specs.Prelude.{Option, None, Some, is_some, Result, Ok, Err}
+use Rattle.std.specs.Option.{unwrap_or}
+use Rattle.std.specs.Result.{result_ok, IsErrAnd}
 use Prim.Native.Nat.{ℕ}
-use mathlib.Core.Path.{◌≡◌}
-use mathlib.Core.Bool.{Bool, true, false}
+use mathlib.Core.Path.{◌≡◌, refl, sym, ap, ◌∙◌}
+use mathlib.Core.Bool.{Bool, true, false, cond, ◌&&◌}
 use borrow.Author.Tests.{ne_eqb}
 use lib.Dec.{eqb}
 use Rattle.objects.specs.Objects.{mpls_setup}
+use Rattle.octets.proofs.Said.{and_false}
 use Rattle.answers.proofs.Determined.{determined}
-use Rattle.session.specs.declared.Limit.{Limit}
-use Rattle.session.specs.declared.Opened.{Opened}
+use Rattle.answers.proofs.Results.{numbered}
+use Rattle.answers.specs.Numbers.{open_malformed}
+use Rattle.answers.specs.Reasons.{number_of}
+use Rattle.session.specs.Opened.{Opened}
+use Rattle.session.specs.declared.opened.Srv6Half.{Srv6Half}
+use Rattle.session.specs.declared.opened.MplsHalf.{MplsHalf}
+use Rattle.session.specs.declared.opened.Carried.{Carried}
+use Rattle.session.specs.declared.opened.OpenRefusal.{OpenRefusal}
 use Rattle.session.specs.declared.Session.{Session}
 use Rattle.session.specs.declared.Sessions.{Sessions}
 use Rattle.session.specs.Sessions.{
+  no_form,
   open_refused,
-  open_carries,
-  without_srv6,
-  with_mpls,
   carries,
   carries_mpls,
   agreed_by,
@@ -27,6 +35,8 @@ use Rattle.session.specs.Sessions.{
   sessions_of,
   session_under,
 }
+use Rattle.session.specs.Answered.{no_srv6, no_mpls, carried_of, refusal_of, answered_by, opened_of, srv6_half, mpls_half, both_halves, carried_in}
+use Rattle.session.specs.Parts.{srv6_between, mpls_between, sessions_between}
 
 -- A refused OPEN carries no SRv6, whatever else the answer holds.
 pub refused_carries_nothing : (o : Opened) → (o.number ≡ 0 → ⊥) → carries o ≡ false
@@ -63,22 +73,88 @@ pub under_srv6 : (sessions : Sessions) (pst : ℕ) → eqb pst mpls_setup ≡ fa
 unfolding session_under
 under_srv6 sessions pst e = rw e
 
+-- The sessions of what two answers carry are those of the answers, whatever number refused one of them.
+srv6_agreed : (o p : Opened) (s t : Bool)
+    → srv6_between (cond s (Some (srv6_half o)) None) (cond t (Some (srv6_half p)) None) ≡ cond (s && t) (agreed_on o p) not_agreed_on
+srv6_agreed o p false t = refl
+srv6_agreed o p true false = refl
+srv6_agreed o p true true = refl
+
+mpls_halves_agreed : (o p : Opened) (s t : Bool)
+    → mpls_between (cond s (Some (mpls_half o)) None) (cond t (Some (mpls_half p)) None) ≡ cond (s && t) (mpls_agreed_on o) not_agreed_on
+mpls_halves_agreed o p false t = refl
+mpls_halves_agreed o p true false = refl
+mpls_halves_agreed o p true true = refl
+
+pub between : (o p : Opened) → sessions_between (carried_in o) (carried_in p) ≡ sessions_of o p
+unfolding session_of mpls_session_of
+between o p = go (eqb o.number 0) (eqb p.number 0)
+  where
+    go : (a b : Bool)
+        → sessions_between (cond a (Some (both_halves o)) None) (cond b (Some (both_halves p)) None)
+        ≡ record {
+          srv6 = cond ((a && o.srv6) && (b && p.srv6)) (agreed_on o p) not_agreed_on;
+          mpls = cond ((a && o.mpls) && (b && p.mpls)) (mpls_agreed_on o) not_agreed_on;
+        }
+    go false b = refl
+    go true false = rw (and_false o.srv6, and_false o.mpls)
+    go true true = λ i. record { srv6 = srv6_agreed o p o.srv6 p.srv6 i; mpls = mpls_halves_agreed o p o.mpls p.mpls i }
+
+pub agreed_between : {pcc pce : Option Carried} {x : Sessions} → x ≡ sessions_between pcc pce
+    → (o p : Opened) → pcc ≡ carried_in o → pce ≡ carried_in p → x ≡ sessions_of o p
+agreed_between e o p f g = e ∙ (λ i. sessions_between (f i) (g i)) ∙ between o p
+
+-- What a result carries is what its record carries.
+pub carried_back : (c : Carried) → Some c ≡ carried_in (carried_of c)
+carried_back c = λ i. Some (record { srv6 = one c.srv6 i; mpls = other c.mpls i })
+  where
+    one : (h : Option Srv6Half) → h ≡ cond (is_some h) (Some (unwrap_or h no_srv6)) None
+    one None = refl
+    one (Some h) = refl
+
+    other : (h : Option MplsHalf) → h ≡ cond (is_some h) (Some (unwrap_or h no_mpls)) None
+    other None = refl
+    other (Some h) = refl
+
+pub refusal_carries_nothing : (e : OpenRefusal) → None ≡ carried_in (refusal_of e)
+refusal_carries_nothing e = rw (ne_eqb (number_of e.reason) 0 (numbered e.reason))
+
+pub result_back : (r : Result Carried OpenRefusal) → result_ok r ≡ carried_in (opened_of r)
+result_back (Ok c) = carried_back c
+result_back (Err e) = refusal_carries_nothing e
+
+-- What `agree` ensures.
+abbrev pub Agreed : Option Carried → Option Carried → Sessions → Type 0
+Agreed pcc pce x = (o p : Opened) → pcc ≡ carried_in o → pce ≡ carried_in p → x ≡ sessions_of o p
+
+-- So the sessions of two results.
+pub agreed_results : (a b : Result Carried OpenRefusal) {pcc pce : Option Carried} {x : Sessions} → pcc ≡ result_ok a → pce ≡ result_ok b
+    → Agreed pcc pce x → x ≡ sessions_of (opened_of a) (opened_of b)
+agreed_results a b f g h = h (opened_of a) (opened_of b) (f ∙ result_back a) (g ∙ result_back b)
+
+-- A refusal that a call hands on is the same by the record of each.
+pub handed_on : {A : Type 0} (f : A → Opened) (r : Result A OpenRefusal) (e : OpenRefusal) → IsErrAnd r (λ x. x ≡ e) → answered_by f r ≡ refusal_of e
+handed_on f (Ok a) e h = absurd h
+handed_on f (Err x) e h = ap refusal_of h
+
+-- Whatever is carried, some answer carries it.
+answer_with : Option Carried → Opened
+answer_with None = open_refused open_malformed no_form
+answer_with (Some c) = carried_of c
+
+answer_back : (c : Option Carried) → c ≡ carried_in (answer_with c)
+unfolding answer_with
+answer_back None = refl
+answer_back (Some c) = carried_back c
+
 -- Any two answers that fit the contract of a call are equal.
-pub refused_open_determined : (number form : ℕ) (x y : Opened) → x ≡ open_refused number form → y ≡ open_refused number form → x ≡ y
-refused_open_determined number form x y = determined
-
-pub with_mpls_determined : (o : Opened) (n : Bool) (limit : Limit) (x y : Opened) → x ≡ with_mpls o n limit → y ≡ with_mpls o n limit → x ≡ y
-with_mpls_determined o n limit x y = determined
-
-pub carried_determined : (srv6 n : Bool) (limit : Limit) (a r : Bool) (v m : ℕ) (x y : Opened)
-    → x ≡ open_carries srv6 n limit a r v m → y ≡ open_carries srv6 n limit a r v m → x ≡ y
-carried_determined srv6 n limit a r v m x y = determined
-
-pub without_srv6_determined : (x y : Opened) → x ≡ without_srv6 → y ≡ without_srv6 → x ≡ y
-without_srv6_determined x y = determined
-
-pub agree_determined : (pcc pce : Opened) (x y : Sessions) → x ≡ sessions_of pcc pce → y ≡ sessions_of pcc pce → x ≡ y
-agree_determined pcc pce x y = determined
+pub agree_determined : (pcc pce : Option Carried) (x y : Sessions) → Agreed pcc pce x → Agreed pcc pce y → x ≡ y
+agree_determined pcc pce x y f g =
+    let o = answer_with pcc in
+    let p = answer_with pce in
+    let a = answer_back pcc in
+    let b = answer_back pce in
+    f o p a b ∙ sym (g o p a b)
 
 pub under_determined : (sessions : Sessions) (pst : ℕ) (x y : Session) → x ≡ session_under sessions pst → y ≡ session_under sessions pst → x ≡ y
 under_determined sessions pst x y = determined

@@ -1,1 +1,4 @@
+pub mod Opened
 pub mod Sessions
+pub mod Answered
+pub mod Parts

@@ -1,17 +1,14 @@
 -- The answer to an OPEN object, and the session of two answers (document 01, "The OPEN object").
-use Rattle.std.specs.Prelude.{ℕ, Bool, true, false, cond, ◌&&◌, eqb}
-use Rattle.msd.specs.Msd.{absent}
+use Rattle.std.specs.Prelude.{ℕ, Bool, true, false, cond, ◌&&◌, eqb, Option, None, Some}
 use Rattle.objects.specs.Objects.{mpls_setup}
-use Rattle.session.specs.declared.Limit.{Limit}
-use Rattle.session.specs.declared.Limit.TheVariants.{Free, Most}
-use Rattle.session.specs.declared.Opened.{Opened}
+use Rattle.session.specs.Opened.{Opened}
 use Rattle.session.specs.declared.Session.{Session}
 use Rattle.session.specs.declared.Sessions.{Sessions}
 
 -- How many segments a limit allows; 0 where there is none.
-abbrev pub most_of : Limit → ℕ
-most_of Free = 0
-most_of (Most most) = most
+abbrev pub most_of : Option ℕ → ℕ
+most_of None = 0
+most_of (Some most) = most
 
 -- The form at fault where none is.
 abbrev pub no_form : ℕ
@@ -24,24 +21,24 @@ open_refused number form =
       number = number;
       srv6 = false;
       n = false;
-      limit = Free;
+      limit = None;
       a = false;
       r = false;
-      v = absent;
-      m = absent;
+      v = None;
+      m = None;
       form = form;
       mpls = false;
       mplsn = false;
-      mplslimit = Free;
+      mplslimit = None;
     }
 
 -- An accepted OPEN, with what it carries of SRv6.
-abbrev pub open_carries : Bool → Bool → Limit → Bool → Bool → ℕ → ℕ → Opened
+abbrev pub open_carries : Bool → Bool → Option ℕ → Bool → Bool → Option ℕ → Option ℕ → Opened
 open_carries srv6 n limit a r v m =
-    record { number = 0; srv6 = srv6; n = n; limit = limit; a = a; r = r; v = v; m = m; form = 0; mpls = false; mplsn = false; mplslimit = Free }
+    record { number = 0; srv6 = srv6; n = n; limit = limit; a = a; r = r; v = v; m = m; form = 0; mpls = false; mplsn = false; mplslimit = None }
 
 -- The same, with what it carries of MPLS.
-abbrev pub with_mpls : Opened → Bool → Limit → Opened
+abbrev pub with_mpls : Opened → Bool → Option ℕ → Opened
 with_mpls o n limit =
     record {
       number = o.number;
@@ -60,7 +57,7 @@ with_mpls o n limit =
 
 -- "without SRv6, N is 0 and there is no limit"; neither flag, nor v or m.
 abbrev pub without_srv6 : Opened
-without_srv6 = open_carries false false Free false false absent absent
+without_srv6 = open_carries false false None false false None None
 
 -- "A refused OPEN carries no SRv6", nor MPLS.
 abbrev pub carries : Opened → Bool
@@ -83,11 +80,11 @@ agreed_on pcc pce =
 
 -- Of MPLS N and the limit are the PCC's too; it has no A, R, v and m.
 abbrev pub mpls_agreed_on : Opened → Session
-mpls_agreed_on pcc = record { agreed = true; n = pcc.mplsn; limit = pcc.mplslimit; a = false; r = false; v = absent; m = absent }
+mpls_agreed_on pcc = record { agreed = true; n = pcc.mplsn; limit = pcc.mplslimit; a = false; r = false; v = None; m = None }
 
 -- "without SRv6, N is 0 and there is no limit"; without MPLS likewise.
 abbrev pub not_agreed_on : Session
-not_agreed_on = record { agreed = false; n = false; limit = Free; a = false; r = false; v = absent; m = absent }
+not_agreed_on = record { agreed = false; n = false; limit = None; a = false; r = false; v = None; m = None }
 
 unfoldable pub session_of : Opened → Opened → Session
 session_of pcc pce = cond (agreed_by pcc pce) (agreed_on pcc pce) not_agreed_on

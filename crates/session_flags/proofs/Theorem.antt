@@ -1,12 +1,12 @@
 -- "Turning a flag on never turns an accepted path into a refused one" (document 02, C-15), for every session that is made of two OPENs that were read.
-use Prim.Native.Nat.{ℕ, ◌<◌}
+use Rattle.std.specs.Prelude.{Option, None, Some}
+use Prim.Native.Nat.{ℕ}
 use mathlib.Core.Path.{◌≡◌, refl, sym, ap, ◌∙◌}
 use mathlib.Core.List.{List, [], ◌∷◌}
 use mathlib.Core.Bool.{Bool, true, false, cond}
-use mathlib.Core.Option.{Option, none, some}
-use lib.ListN.{get_or, drop}
+use lib.ListN.{drop}
 use Rattle.flag_positions.specs.declared.Positions.{Positions}
-use Rattle.session.specs.declared.Opened.{Opened}
+use Rattle.session.specs.Opened.{Opened}
 use Rattle.session.specs.Sessions.{open_refused, without_srv6, sessions_of}
 use Rattle.capability_mpls.specs.Mpls.{mpls_beside}
 use Rattle.open.specs.Open.{mpls_of, srv6_of, mpls_listed, listed, breaks28, said_by, srv6_carried, beside_by, carries_of, Rule, open_rules, first_rule, open_of}
@@ -19,14 +19,14 @@ use Rattle.session_flags.specs.Flags.{unflagged, TurnedOn}
 turned_on : {o q : Opened} → TurnedOn o q → q ≡ flagged_open o q.a q.r
 turned_on {o} {q} h = ap (λ (u : Opened). flagged_open u q.a q.r) (sym h.alike)
 
--- The PCC's OPEN x and the PCE's y, made of octets, read with A and R at any positions; a route, ERO or RRO, that is accepted in their sessions, of either form.
-module _ (p : Positions) (x y : List ℕ) (octets : (i : ℕ) → get_or x i 0 < 256) (s : List ℕ) (ero : Bool) (pst : ℕ) (addresses : List ℕ)
+-- The PCC's OPEN x and the PCE's y, read with A and R at any positions; a route, ERO or RRO, that is accepted in their sessions, of either form.
+module _ (p : Positions) (x y s : List ℕ) (ero : Bool) (pst : ℕ) (addresses : List ℕ)
     (accepted : (judged_for s ero (sessions_of (open_of p x) (open_of p y)) pst addresses).number ≡ 0) where
   answers_never_refuse : (o q : Opened) → TurnedOn (open_of p x) o → TurnedOn (open_of p y) q
       → judged_for s ero (sessions_of o q) pst addresses ≡ judged_for s ero (sessions_of (open_of p x) (open_of p y)) pst addresses
   answers_never_refuse o q g h =
       (λ i. judged_for s ero (sessions_of (turned_on g i) (turned_on h i)) pst addresses)
-      ∙ flags_never_refuse s ero (open_of p x) (open_of p y) pst addresses (limit_of_depths p x octets) accepted o.a o.r q.a q.r g.a g.r h.a h.r
+      ∙ flags_never_refuse s ero (open_of p x) (open_of p y) pst addresses (limit_of_depths p x) accepted o.a o.r q.a q.r g.a g.r h.a h.r
 
   -- **With other OPENs at both ends, alike but for flags turned on, the route is accepted with the same counts.**
   pub opens_never_refuse : (x' y' : List ℕ) → TurnedOn (open_of p x) (open_of p x') → TurnedOn (open_of p y) (open_of p y')
@@ -61,14 +61,14 @@ positions_tell_flags p q s e f = rw (e, f) (
     )
   where
     said : (l : Bool) (o : Option (List ℕ)) → unflagged (cond l (said_by p o) without_srv6) ≡ unflagged (cond l (said_by q o) without_srv6)
-    said true none = refl
-    said true (some w) = refl
+    said true None = refl
+    said true (Some w) = refl
     said false o = refl
 
     beside : (l : Bool) (o : Option (List ℕ)) (u v : Opened) → unflagged u ≡ unflagged v → unflagged (beside_by u o l) ≡ unflagged (beside_by v o l)
     beside false o u v h = h
-    beside true none u v h = h
-    beside true (some w) u v h = ap (λ (x : Opened). unflagged (mpls_beside x w)) h
+    beside true None u v h = h
+    beside true (Some w) u v h = ap (λ (x : Opened). unflagged (mpls_beside x w)) h
 
     refused : (rs : List Rule) (u v : Opened) → unflagged u ≡ unflagged v → unflagged (first_rule rs u) ≡ unflagged (first_rule rs v)
     refused [] u v h = h

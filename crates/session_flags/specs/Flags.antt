@@ -1,6 +1,6 @@
 -- "turning a flag on" (document 02, C-15): two answers to OPEN objects that are alike but for A and R.
 use Rattle.std.specs.Prelude.{◌≡◌, true, false}
-use Rattle.session.specs.declared.Opened.{Opened}
+use Rattle.session.specs.Opened.{Opened}
 
 -- An answer without its A and R.
 abbrev pub unflagged : Opened → Opened

@@ -1,6 +1,5 @@
 -- "TLV 34 holds 3 reserved octets, a count n, n setup types padded to 4, then sub-TLVs" (document 01, "The OPEN object").
-use Rattle.std.specs.Prelude.{ℕ, ◌+◌, List, [], ◌∷◌, Bool, true, false, ◌||◌, length, drop, eqb, leb}
-use Rattle.std.proofs.Math.Option.{Option, none, some}
+use Rattle.std.specs.Prelude.{ℕ, ◌+◌, List, [], ◌∷◌, Bool, true, false, ◌||◌, length, drop, eqb, leb, Option, None, Some}
 use Rattle.octets.specs.Octets.{octet_of, pad4, part}
 use Rattle.tlvs.specs.Tlvs.{Tlvs, tlvs_of}
 
@@ -43,5 +42,5 @@ lists_type v kind = has_of (types_of v) kind
 
 -- The same of a TLV 34 that need not be there.
 abbrev pub listed_in : Option (List ℕ) → ℕ → Bool
-listed_in none kind = false
-listed_in (some v) kind = lists_type v kind
+listed_in None kind = false
+listed_in (Some v) kind = lists_type v kind

@@ -57,6 +57,7 @@ impl<R: Read, W: Write> Streams<R, W> {
         ensures kept { OnOk self.new.failed (IsOk self.old.failed) }
     {
         let mut done = 0;
+        // no `for`: each read says how many octets it took
         while done < buf.len() {
             let n = self.read(&mut buf[done..]);
             if n == 0 {

@@ -9,6 +9,7 @@ ghost use Rattle.border_session.specs.Agreed.{sessions_in};
 ghost use Rattle.border_answers.specs.AnswersOut.{change_out};
 ghost use Rattle.border_looks.specs.Looks.{part_out, fresh_out};
 
+use board_record::Lent;
 use border_answers::ChangeRecord;
 use border_looks::{MarkRecord, PartRecord};
 use border_records::VerdictRecord;
@@ -29,7 +30,17 @@ pub extern "C" fn strundevi_raw_empty(
     ensures empty { let after = board_of keys.new versions.new lengths.new version.new floor.new order.new tops.new forms.new in
         after ≡ empty_board }
 {
-    border_board::empty(keys, versions, lengths, version, floor, order, tops, forms);
+    let mut parts = board_entry::Parts {
+        keys,
+        versions,
+        lengths,
+        version,
+        floor,
+        order,
+        tops,
+        forms,
+    };
+    border_board::empty(&mut parts);
 }
 
 // Reports a path.
@@ -58,10 +69,17 @@ pub extern "C" fn strundevi_raw_report(
         × (after ≡ (report_for_on before store.old key octets.now (sessions_in session) pst addresses.now).board)
         × (store.new ≡ report_store_for_on before store.old key octets.now (sessions_in session) pst addresses.now) }
 {
-    border_board::report(
-        keys, versions, lengths, version, floor, order, tops, forms, store, key, octets, session,
-        pst, addresses,
-    )
+    let mut parts = board_entry::Parts {
+        keys,
+        versions,
+        lengths,
+        version,
+        floor,
+        order,
+        tops,
+        forms,
+    };
+    border_board::report(&mut parts, store, key, octets, session, pst, addresses)
 }
 
 // Removes a path; its mark stays.
@@ -85,9 +103,17 @@ pub extern "C" fn strundevi_raw_remove(
         (result ≡ verdict_out (remove_on before store.now key).verdict)
         × (after ≡ (remove_on before store.now key).board) }
 {
-    border_board::remove(
-        keys, versions, lengths, version, floor, order, tops, forms, store, key,
-    )
+    let mut parts = board_remove::Parts {
+        keys,
+        versions,
+        lengths,
+        version,
+        floor,
+        order,
+        tops,
+        forms,
+    };
+    border_board::remove(&mut parts, store, key)
 }
 
 // Drops the marks with version at most c.
@@ -111,9 +137,17 @@ pub extern "C" fn strundevi_raw_compact<'a>(
         (result ≡ verdict_out (compact_on before store.now c).verdict)
         × (after ≡ (compact_on before store.now c).board) }
 {
-    border_board::compact(
-        keys, versions, lengths, version, floor, order, tops, forms, store, c,
-    )
+    let mut parts = board_compact::Parts {
+        keys,
+        versions,
+        lengths,
+        version,
+        floor,
+        order,
+        tops,
+        forms,
+    };
+    border_board::compact(&mut parts, store, c)
 }
 
 // Where the octets of a key's path lie, and its form.
@@ -136,9 +170,17 @@ pub extern "C" fn strundevi_raw_body<'a>(
         × (part store.now result.start result.length ≡ body_on b store.now key)
         × (result.form ≡ body_form_on b store.now key) }
 {
-    border_looks::body(
-        keys, versions, lengths, version, floor, order, tops, forms, store, key,
-    )
+    let lent = Lent {
+        keys,
+        versions,
+        lengths,
+        version,
+        floor,
+        order,
+        tops,
+        forms,
+    };
+    border_looks::body(lent, store, key)
 }
 
 // What a follower with the mark (s, w) is handed.
@@ -159,9 +201,17 @@ pub extern "C" fn strundevi_raw_next<'a>(
     ensures next { let b = board_of keys.now versions.now lengths.now version floor order.now tops.now forms.now in
         result ≡ change_out (next_on b store.now s w) }
 {
-    border_looks::next(
-        keys, versions, lengths, version, floor, order, tops, forms, store, s, w,
-    )
+    let lent = Lent {
+        keys,
+        versions,
+        lengths,
+        version,
+        floor,
+        order,
+        tops,
+        forms,
+    };
+    border_looks::next(lent, store, s, w)
 }
 
 // Whether a key from `from` to `to` changed after version v: the count is 1 for yes and 0 for no.
@@ -183,9 +233,17 @@ pub extern "C" fn strundevi_raw_moved<'a>(
     ensures moved { let b = board_of keys.now versions.now lengths.now version floor order.now tops.now forms.now in
         result ≡ verdict_out (moved_on b store.now from to v) }
 {
-    border_looks::moved(
-        keys, versions, lengths, version, floor, order, tops, forms, store, from, to, v,
-    )
+    let lent = Lent {
+        keys,
+        versions,
+        lengths,
+        version,
+        floor,
+        order,
+        tops,
+        forms,
+    };
+    border_looks::moved(lent, store, from, to, v)
 }
 
 // The mark of a follower that begins, and holds nothing, on a board of this version.

@@ -4,6 +4,7 @@ use mathlib.Core.Path.{◌≡◌, refl, sym, ◌∙◌, ap}
 use mathlib.Core.Bool.{Bool, true, false, cond, not, ◌||◌}
 use mathlib.Core.List.{List}
 use lib.Dec.{eqb}
+use mir.Val.{bool_byte}
 use Rattle.octets.specs.Octets.{octet_of}
 use native.Mathlib.Omega.{arith}
 use borrow.Author.Tests.{eq-eqb, ne_eqb, eqb-true, eqb-false, not-true, not-false}
@@ -12,8 +13,10 @@ use Rattle.forms.specs.declared.Form.{Form}
 use Rattle.forms.specs.Sized.{Shortest}
 use Rattle.forms.specs.Forms.{no_nai, flag_in, nai_length, knows}
 use Rattle.subobject.specs.declared.head.Head.{Head}
+use Rattle.subobject.specs.declared.segment.Outline.{Outline}
 use Rattle.subobject.specs.Layout.{structure_there, expected_length, worth_l, worth_nt, kind_of, head_of, head_at}
 use Rattle.subobject.specs.Rules.{rule7, rule8, rule9, flag_f, has_label}
+use Rattle.subobject.specs.Segments.{bit, head_of_outline}
 
 -- lengths ------------------------------------------------------------------------------------------------------
 
@@ -101,3 +104,28 @@ head_made form list ero at o0 o1 o2 o3 kind s f t v v' l c m e0 e1 e2 e3 ek es e
       c = ec i;
       m = em i;
     })
+
+-- A truth value as a number is a bit.
+pub bit_of : (b : Bool) {x : ℕ} → x ≡ bool_byte b → x ≡ bit b
+bit_of true e = e
+bit_of false e = e
+
+pub bit_most : (b : Bool) {x : ℕ} → x ≡ bool_byte b → x ≤ 1
+bit_most true e = omega (arith, e)
+bit_most false e = omega (arith, e)
+
+-- The head of an outline, made part by part.
+pub outlined : (form : Form) (o : Outline) (kind size nt s f t v l c m : ℕ) → kind ≡ form.kind → nt ≡ o.nt → s ≡ bool_byte (not o.hassid)
+    → t ≡ bool_byte o.structured → size ≡ expected_length form nt s t → f ≡ bool_byte (eqb nt no_nai) → v ≡ bool_byte o.verify → l ≡ bool_byte o.loose
+    → c ≡ bool_byte o.complete → m ≡ bool_byte o.labelled
+    → ◌≡◌ {A = Head} (record { kind = kind; size = size; nt = nt; s = s; f = f; t = t; v = v; l = l; c = c; m = m }) (head_of_outline form o)
+outlined form o kind size nt s f t v l c m ek en es et ez ef ev el ec em =
+    let s' = bit_of (not o.hassid) es in
+    let t' = bit_of o.structured et in
+    let z : size ≡ expected_length form o.nt (bit (not o.hassid)) (bit o.structured) = ez ∙ rw (en, s', t') in
+    let f' : f ≡ flag_f o.nt = bit_of (eqb nt no_nai) ef ∙ rw en in
+    let v' = bit_of o.verify ev in
+    let l' = bit_of o.loose el in
+    let c' = bit_of o.complete ec in
+    let m' = bit_of o.labelled em in
+    (λ i. record { kind = ek i; size = z i; nt = en i; s = s' i; f = f' i; t = t' i; v = v' i; l = l' i; c = c' i; m = m' i })

@@ -1,4 +1,4 @@
-// The first four octets of a subobject as numbers; the flags are 0 or 1.
+// The first four octets of a subobject as numbers. The flags are 0 or 1 and no truth values, since octet 3 is the sum of each times its worth (`flags_octet`).
 ghost use Rattle.std.specs.Prelude.{◌≡◌, cond, ◌+◌, ◌≤◌, ◌<◌, length};
 ghost use Rattle.subobject.specs.Layout.{head_at, kind_of};
 ghost use Rattle.subobject.specs.Inner.{longest};
@@ -23,14 +23,8 @@ pub struct Head {
     pub m: usize,
 }
 
-// A bit as a number.
-fn bit(b: bool) -> usize
-    ensures bit { (result ≡ cond b 1 0) × (result ≤ 1) }
-{
-    if b { 1 } else { 0 }
-}
-
 // The type in a first octet: in an RRO all 8 bits.
+#[tactic(auto, unfolding(crate::specs::Layout::kind_of))]
 pub fn kind(x: usize, ero: bool) -> usize
     ensures kind { result ≡ kind_of x ero }
 {
@@ -50,13 +44,13 @@ pub fn head_at(form: Form, s: &[u8], ero: bool, at: usize) -> Head
     ensures read { result ≡ head_at form s.now ero at }
     ensures small { (result.size < 256) × (result.nt < 16) }
 {
-    let first = octets::wide(s[at]);
-    let size = octets::wide(s[at + parts::SIZE_PLACE]);
-    let high = octets::wide(s[at + parts::FLAGS_PLACE]);
-    let low = octets::wide(s[at + parts::LOW_FLAGS_PLACE]);
+    let first = usize::from(s[at]);
+    let size = usize::from(s[at + parts::SIZE_PLACE]);
+    let high = usize::from(s[at + parts::FLAGS_PLACE]);
+    let low = usize::from(s[at + parts::LOW_FLAGS_PLACE]);
     Head {
         kind: kind(first, ero),
-        size: size,
+        size,
         nt: high / parts::WORTH_NT,
         s: forms::flag(low, form.s),
         f: forms::flag(low, form.f),
@@ -73,24 +67,25 @@ pub fn head_of(form: Form, o: Outline) -> Head
     ensures head { result ≡ head_of_outline form o }
     ensures bits { (result.size ≤ longest) × (result.nt < 256) × (result.s ≤ 1) × (result.f ≤ 1) × (result.t ≤ 1) × (result.v ≤ 1) × (result.l ≤ 1) × (result.c ≤ 1) × (result.m ≤ 1) }
 {
-    let nt = octets::wide(o.nt);
-    let s = bit(!o.hassid);
-    let t = bit(o.structured);
+    let nt = usize::from(o.nt);
+    let s = usize::from(!o.hassid);
+    let t = usize::from(o.structured);
     Head {
-        kind: octets::wide(form.kind),
+        kind: usize::from(form.kind),
         size: parts::expected(form, nt, s, t),
-        nt: nt,
-        s: s,
-        f: bit(nt == forms::NO_NAI),
-        t: t,
-        v: bit(o.verify),
-        l: bit(o.loose),
-        c: bit(o.complete),
-        m: bit(o.labelled),
+        nt,
+        s,
+        f: usize::from(nt == forms::NO_NAI),
+        t,
+        v: usize::from(o.verify),
+        l: usize::from(o.loose),
+        c: usize::from(o.complete),
+        m: usize::from(o.labelled),
     }
 }
 
 // Whether a SID structure is there.
+#[tactic(auto, unfolding(crate::specs::Rules::has_structure))]
 pub fn structured(h: Head) -> bool
     ensures structured { result ≡ has_structure h }
 {

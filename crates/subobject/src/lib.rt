@@ -9,6 +9,6 @@ mod segment;
 pub use head::{Head, head_at, head_of, kind, structured};
 pub use parts::{
     BEHAVIOUR_PLACE, BIT_LENGTHS, FLAGS_PLACE, LOW_FLAGS_PLACE, MOST_BITS, NAI_SIZE, SID_SIZE,
-    SIZE_PLACE, STRUCTURE_SIZE, WORTH_L, WORTH_NT, expected,
+    SIZE_PLACE, STRUCTURE_SIZE, WORTH_L, WORTH_NT, expected, sid_length,
 };
 pub use segment::{Outline, Segment, outline_of};

@@ -1,6 +1,6 @@
 // The parts of a subobject, and the length that is expected of it.
 ghost use Rattle.std.specs.Prelude.{◌≡◌, ◌+◌, ◌≤◌};
-ghost use Rattle.subobject.specs.Layout.{structure_there, expected_length};
+ghost use Rattle.subobject.specs.Layout.{sid_length, structure_there, expected_length};
 ghost use Rattle.subobject.specs.Inner.{longest};
 
 use forms::Form;
@@ -36,7 +36,14 @@ pub const WORTH_NT: usize = 16;
 pub fn structure_there(s: usize, t: usize) -> bool
     ensures there { result ≡ structure_there s t }
 {
-    octets::both(s == 0, t == 1)
+    s == 0 && t == 1
+}
+
+// The octets of the SID: it is there if S is 0.
+pub fn sid_length(form: Form, s: usize) -> usize
+    ensures length { result ≡ sid_length form s }
+{
+    if s == 0 { usize::from(form.sid) } else { 0 }
 }
 
 // The sum: what is always there, and the octets of SID, NAI and structure, 0 for a part that is absent.
@@ -52,8 +59,8 @@ fn sum_of(fixed: usize, sid: usize, nai: usize, structure: usize) -> usize
 pub fn expected(form: Form, nt: usize, s: usize, t: usize) -> usize
     ensures length { (result ≡ expected_length form nt s t) × (result ≤ longest) }
 {
-    let fixed = octets::wide(form.fixed);
-    let sid = octets::wide(form.sid);
+    let fixed = usize::from(form.fixed);
+    let sid = usize::from(form.sid);
     if structure_there(s, t) {
         return sum_of(fixed, sid, forms::nai_length(form, nt), STRUCTURE_SIZE);
     }

@@ -5,6 +5,7 @@ ghost use Rattle.octets.specs.Octets.{end16};
 ghost use Rattle.subobject.specs.Segments.{outline_of};
 
 // A type takes no named length: 16 is SID_SIZE, 40 NAI_SIZE, 4 BIT_LENGTHS, here and wherever an array of them is made.
+// A SID and a structure are no Options: octets may be given for a part that is absent, and the writer refuses what is not 0 in them (`writer_spare`).
 #[derive(Clone, Copy)]
 pub struct Segment {
     pub loose: bool,

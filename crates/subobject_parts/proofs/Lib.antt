@@ -1,3 +1,1 @@
 pub mod Made
-pub mod Nais
-pub mod Pieces

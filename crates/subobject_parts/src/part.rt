@@ -23,7 +23,7 @@ pub fn structure_at(s: &[u8], there: bool, at: usize) -> [u8; 4]
     ensures part { result ≡ part_of s.now at (cond there bit_lengths 0) bit_lengths }
 {
     if there {
-        return octets::part4(s, at, subobject::BIT_LENGTHS);
+        return octets::part(s, at, subobject::BIT_LENGTHS);
     }
-    [0u8; 4]
+    octets::part(s, at, 0)
 }

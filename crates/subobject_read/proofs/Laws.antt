@@ -12,8 +12,7 @@ use Rattle.forms.specs.declared.Form.{Form}
 use Rattle.subobject.specs.Layout.{expected_length, head_at, expected_at}
 use Rattle.subobject_strays.specs.declared.Strays.{Strays}
 use Rattle.subobject_strays.specs.Strays.{strays_by, strays_at}
-use Rattle.subobject_read.specs.declared.answer.Reading.TheVariants.{Whole, Refused}
-use Rattle.subobject_read.specs.Reader.{read_of}
+use Rattle.subobject_read.specs.Reader.{Whole, Refused, read_of}
 
 -- The octets end before the fixed part does,
 pub read_short : (form : Form) (s : List ℕ) (ero : Bool) (at fixed : ℕ) → fixed ≡ form.fixed → length s - at < fixed → Refused length_wrong at ≡ read_of form s ero at

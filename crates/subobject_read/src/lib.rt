@@ -5,5 +5,5 @@
 mod answer;
 mod reading;
 
-pub use answer::{Reading, read_at};
+pub use answer::read_at;
 pub use reading::{no_segment, segment_at};

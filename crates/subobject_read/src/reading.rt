@@ -33,28 +33,23 @@ pub fn segment_at(form: Form, s: &[u8], ero: bool, at: usize) -> Segment
 {
     let h = subobject::head_at(form, s, ero, at);
     let there = subobject::structured(h);
-    let fixed = octets::wide(form.fixed);
-    let k = octets::pick(h.s == 0, octets::wide(form.sid), 0);
+    let fixed = usize::from(form.fixed);
+    let k = subobject::sid_length(form, h.s);
     let n = forms::nai_length(form, h.nt);
     let behaviour = subobject_parts::behaviour_at(form, s, at);
-    let nt = h.nt as u8;
-    let sid = octets::part16(s, at + fixed, k);
-    let nai = octets::part40(s, at + fixed + k, n);
-    let structure = octets::part4(
-        s,
-        at + fixed + k + n,
-        octets::pick(there, subobject::BIT_LENGTHS, 0),
-    );
+    let sid = octets::part(s, at + fixed, k);
+    let nai = octets::part(s, at + fixed + k, n);
+    let structure = subobject_parts::structure_at(s, there, at + fixed + k + n);
     Segment {
         loose: h.l == 1,
         verify: h.v == 1,
-        nt: nt,
-        behaviour: behaviour,
+        nt: h.nt as u8,
+        behaviour,
         hassid: h.s == 0,
-        sid: sid,
-        nai: nai,
+        sid,
+        nai,
         structured: there,
-        structure: structure,
+        structure,
         labelled: h.m == 1,
         complete: h.c == 1,
     }

@@ -6,6 +6,7 @@ use forms::Form;
 use subobject::Head;
 
 // An NT that the form does not know.
+#[tactic(auto, unfolding(subobject::specs::Rules::rule8))]
 pub fn eight(form: Form, h: Head) -> bool
     ensures broken { result ≡ rule8 form h }
 {
@@ -13,47 +14,45 @@ pub fn eight(form: Form, h: Head) -> bool
 }
 
 // S and F both 1.
+#[tactic(auto, unfolding(subobject::specs::Rules::rule9))]
 pub fn nine(h: Head) -> bool
     ensures broken { result ≡ rule9 h }
 {
-    octets::both(h.s == 1, h.f == 1)
+    h.s == 1 && h.f == 1
 }
 
 // M or C without a SID, or C without M.
+#[tactic(auto, unfolding(subobject::specs::Rules::malformed))]
 pub fn is_malformed(h: Head) -> bool
     ensures malformed { result ≡ malformed h }
 {
-    octets::either(
-        octets::both(h.s == 1, octets::either(h.m == 1, h.c == 1)),
-        octets::both(h.c == 1, h.m != 1),
-    )
+    (h.s == 1 && (h.m == 1 || h.c == 1)) || (h.c == 1 && h.m != 1)
 }
 
 // F isn't 1 exactly for NT 0, or Length isn't as expected, or the flags do not go together.
+#[tactic(auto, unfolding(subobject::specs::Rules::rule7))]
 pub fn seven(form: Form, h: Head) -> bool
     ensures broken { result ≡ rule7 form h }
 {
-    octets::either(
-        h.f != octets::pick(h.nt == forms::NO_NAI, 1, 0),
-        octets::either(
-            h.size != subobject::expected(form, h.nt, h.s, h.t),
-            is_malformed(h),
-        ),
-    )
+    h.f != usize::from(h.nt == forms::NO_NAI)
+        || h.size != subobject::expected(form, h.nt, h.s, h.t)
+        || is_malformed(h)
 }
 
 // No SID, and the PCC's N is 0; not applied in an RRO.
+#[tactic(auto, unfolding(subobject::specs::Rules::rule10))]
 pub fn ten(h: Head, ero: bool, n: bool) -> bool
     ensures broken { result ≡ rule10 h ero n }
 {
-    octets::both(ero, octets::both(h.s == 1, !n))
+    ero && h.s == 1 && !n
 }
 
 // Four bit lengths sum above 128.
+#[tactic(auto, unfolding(subobject::specs::Rules::rule11))]
 pub fn eleven(h: Head, sum: usize) -> bool
     ensures broken { result ≡ rule11 h sum }
 {
-    octets::both(subobject::structured(h), sum > subobject::MOST_BITS)
+    subobject::structured(h) && sum > subobject::MOST_BITS
 }
 
 // The sum of four octets; past the end they are 0.

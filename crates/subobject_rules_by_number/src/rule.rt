@@ -7,7 +7,7 @@ ghost use Rattle.subobject.specs.Rules.{rule11, rule29, rule30, bits_at, label_a
 use forms::Form;
 use subobject::Head;
 
-// The place that a refusal by this number names, for the subobject at `at`.
+// The place that a refusal by this number names, for the subobject at `at`. The number is any: the law `unplaced` is about those that name none.
 pub fn place(at: usize, number: usize) -> usize
     ensures place { result ≡ place_by at number }
 {
@@ -35,8 +35,8 @@ pub fn too_long(form: Form, h: Head, s: &[u8], at: usize) -> bool
     ensures broken { result ≡ rule11 h (bits_at form h s.now at) }
 {
     if subobject::structured(h) {
-        let fixed = octets::wide(form.fixed);
-        let sid = octets::wide(form.sid);
+        let fixed = usize::from(form.fixed);
+        let sid = usize::from(form.sid);
         let nai = forms::nai_length(form, h.nt);
         return subobject_rules::eleven(h, subobject_rules::sum_at(s, at + fixed + sid + nai));
     }
@@ -49,7 +49,7 @@ pub fn bad_label(form: Form, h: Head, s: &[u8], at: usize) -> bool
     ensures broken { result ≡ rule29 h (label_at s.now (sid_place form at)) }
 {
     if label_rules::labelled(h) {
-        let p = at + octets::wide(form.fixed);
+        let p = at + usize::from(form.fixed);
         return label_rules::twenty_nine(h, label_entry::label_at(s, p));
     }
     false
@@ -61,13 +61,14 @@ pub fn bad_format(form: Form, h: Head, s: &[u8], at: usize) -> bool
     ensures broken { result ≡ rule30 h (time_at s.now (sid_place form at)) }
 {
     if label_rules::labelled(h) {
-        let p = at + octets::wide(form.fixed);
+        let p = at + usize::from(form.fixed);
         return label_rules::thirty(h, label_entry::time_at(s, p));
     }
     false
 }
 
-// Whether the subobject at `at`, with the head h, breaks the rule of this number.
+// Whether the subobject at `at`, with the head h, breaks the rule of this number. Any number may be asked, as `broken_by` answers for any: a `Reason` would ask more of callers.
+// The parameters are those of `subject_by`, one by one, as each rule takes of them what it asks for; a struct of them would be made in each turn of the one walk that calls.
 pub fn breaks(form: Form, h: Head, s: &[u8], ero: bool, n: bool, at: usize, number: usize) -> bool
     requires { (at < length s.now) × Sized form }
     ensures broken { result ≡ broken_by (subject_by form h s.now ero n at) number }

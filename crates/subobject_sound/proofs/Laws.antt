@@ -12,7 +12,7 @@ use Rattle.octets.proofs.Said.{both_true, and_false}
 use Rattle.forms.specs.declared.Form.{Form}
 use Rattle.forms.specs.Forms.{no_nai, nai_length, knows}
 use Rattle.subobject.specs.declared.head.Head.{Head}
-use Rattle.subobject.specs.Layout.{structure_there, structure_length, expected_length, structure_place, sid_place}
+use Rattle.subobject.specs.Layout.{sid_length, structure_there, structure_length, expected_length, structure_place, sid_place}
 use Rattle.subobject.specs.Rules.{rule7, rule8, rule11, rule29, rule30, flag_f, malformed, most_bits, has_structure, has_label, sum_at, bits_at, label_at, time_at}
 
 -- 8: an NT other than 0 has an NAI.
@@ -33,10 +33,10 @@ unfolding rule7
 seven_kept form h f size r ef hf es hs em z = rw (eq-eqb h.f (flag_f h.nt) (hf ∙ ef), eq-eqb h.size (expected_length form h.nt h.s h.t) (hs ∙ es), sym em ∙ z)
 
 -- The expected length, part by part.
-pub length_made : (form : Form) (h : Head) (fixed sid sid' nai structure : ℕ) (r : Bool) → fixed ≡ form.fixed → sid ≡ form.sid → sid' ≡ cond (eqb h.s 0) sid 0
-    → r ≡ has_structure h → structure ≡ cond r 8 0 → nai ≡ nai_length form h.nt → fixed + sid' + nai + structure ≡ expected_length form h.nt h.s h.t
+pub length_made : (form : Form) (h : Head) (fixed sid nai structure : ℕ) (r : Bool) → fixed ≡ form.fixed → sid ≡ sid_length form h.s
+    → r ≡ has_structure h → structure ≡ cond r 8 0 → nai ≡ nai_length form h.nt → fixed + sid + nai + structure ≡ expected_length form h.nt h.s h.t
 unfolding expected_length has_structure
-length_made form h fixed sid sid' nai structure r ef es es' er et en = rw (et, er, es', es, ef, en)
+length_made form h fixed sid nai structure r ef es er et en = rw (et, er, es, ef, en)
 
 -- Where a structure is there, it ends the subobject,
 pub structure_last : (form : Form) (h : Head) (at : ℕ) (r : Bool) → r ≡ has_structure h → r ≡ true → h.size ≡ expected_length form h.nt h.s h.t

@@ -127,9 +127,13 @@ marked_two form s at = ap (λ (z : Bool). not (eqb (stray_flags form s at) 0) ||
     go true = refl
     go false = refl
 
-pub marked_of : (form : Form) (s : List ℕ) (at flags fixed : ℕ) (r : Bool) → flags ≡ stray_flags form s at → fixed ≡ fixed_two form s at
-    → r ≡ (not (eqb flags 0) || not (eqb fixed 0)) → r ≡ marked_at form s at
-marked_of form s at flags fixed r eg ef er = er ∙ rw (eg, ef) (sym (marked_two form s at))
+pub marked_flags : (form : Form) (s : List ℕ) (at flags : ℕ) → flags ≡ stray_flags form s at → (flags ≡ 0 → ⊥) → not (eqb flags 0) ≡ marked_at form s at
+unfolding marked_at
+marked_flags form s at flags e n = rw (← e, ne_eqb flags 0 n)
+
+pub marked_fixed : (form : Form) (s : List ℕ) (at flags fixed : ℕ) → flags ≡ stray_flags form s at → flags ≡ 0 → fixed ≡ fixed_two form s at
+    → not (eqb fixed 0) ≡ marked_at form s at
+marked_fixed form s at flags fixed e z f = rw (marked_two form s at, ← e, eq-eqb flags 0 z, ← f)
 
 -- The two reserved octets, where the form has them and where it has not.
 pub two_there : (form : Form) (s : List ℕ) (at x : ℕ) → form.behaves ≡ true → x ≡ be16 s (at + reserved_place) → x ≡ fixed_two form s at

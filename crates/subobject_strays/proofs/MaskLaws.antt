@@ -1,6 +1,6 @@
 -- Octets 2 to 5 of an SRv6 subobject as one number: its unassigned flags and its reserved octets are the bits of a mask. Masking leaves the number below 16 and the
 -- one above 4095 (`masked`, by blocks of bits), and these are 0 exactly if the flags and both octets are (`set_fixed`, by arithmetic). Assumes nothing.
-use Prim.Native.Nat.{ℕ, ◌+◌, ◌-◌, ◌*◌, ◌/◌, ◌%◌, ◌<◌}
+use Prim.Native.Nat.{ℕ, ◌+◌, ◌*◌, ◌/◌, ◌%◌, ◌<◌}
 use mathlib.Core.Path.{◌≡◌, refl, ◌∙◌, ap}
 use mathlib.Core.Bool.{Bool, true, false, not, ◌||◌}
 use mathlib.Core.List.{List, [], ◌∷◌}

@@ -18,7 +18,7 @@ use subobject::{FLAGS_PLACE, Head};
 pub const ALL_FLAGS: usize = 4096;
 
 // octets 2 to 5 of SRv6, the first the lowest, without NT, V, T, F and S: 15 of octet 2, 240 of octet 3, all of octets 4 and 5
-const SRV6_STRAY_BITS: usize = 4294963215;
+const SRV6_STRAY_BITS: usize = 0xffff_f00f;
 
 // the first of two reserved octets
 pub const RESERVED_PLACE: usize = 4;
@@ -51,7 +51,7 @@ fn stray_flags(form: Form, s: &[u8], at: usize) -> usize
     requires { (at + 4 ≤ length s.now) × Sized form }
     ensures flags { (result ≡ stray_flags form s.now at) × (result < all_flags) }
 {
-    let free = octets::wide(form.free);
+    let free = usize::from(form.free);
     octets::read16(s, at + FLAGS_PLACE) % ALL_FLAGS / free * free
 }
 
@@ -75,7 +75,7 @@ fn with_structure(s: &[u8], p: usize, flags: usize, fixed: usize) -> Strays
     Strays {
         flags: flags as u16,
         structure: s[p + STRUCTURE_RESERVED_SIZE],
-        reserved: octets::either(fixed != 0, more != 0),
+        reserved: fixed != 0 || more != 0,
     }
 }
 
@@ -88,11 +88,7 @@ pub fn strays_at(form: Form, h: Head, s: &[u8], at: usize) -> Strays
     let fixed = reserved_two(form, s, at);
     if subobject::structured(h) {
         let nai = forms::nai_length(form, h.nt);
-        let p = at
-            + octets::wide(form.fixed)
-            + octets::wide(form.sid)
-            + nai
-            + subobject::BIT_LENGTHS;
+        let p = at + usize::from(form.fixed) + usize::from(form.sid) + nai + subobject::BIT_LENGTHS;
         return with_structure(s, p, flags, fixed);
     }
     Strays {
@@ -107,10 +103,7 @@ fn marked(form: Form, s: &[u8], at: usize) -> bool
     requires { (at + form.fixed ≤ length s.now) × Sized form }
     ensures marked { result ≡ marked_at form s.now at }
 {
-    octets::either(
-        stray_flags(form, s, at) != 0,
-        reserved_two(form, s, at) != 0,
-    )
+    stray_flags(form, s, at) != 0 || reserved_two(form, s, at) != 0
 }
 
 // The same for SRv6: octets 2 to 5 are looked at as one number.
@@ -146,7 +139,7 @@ pub fn stray_of(form: Form, h: Head, s: &[u8], at: usize) -> usize
     0
 }
 
-// The same for SRv6.
+// The same for SRv6, in the pass over a route: with flags and reserved octets looked at one by one a long route takes half as long again.
 pub fn stray_srv6(h: Head, s: &[u8], at: usize) -> usize
     requires { (at + srv6_form.fixed ≤ length s.now) × OfLength srv6_form h s.now at }
     ensures one { (result ≡ stray_one (strays_by srv6_form h s.now at)) × (result ≤ 1) }

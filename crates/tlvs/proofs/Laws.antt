@@ -1,6 +1,7 @@
 -- The TLVs of a part of an octet string, found place by place: what a walk by `item_at` goes by. A part of a part is a part (`part_part`,
 -- `drop_part`), so that a TLV of the octets from a place on is read at that place; `item_turn` goes through the three ways that an item can
 -- be there, and `items_end` and `items_turn` say one turn of a walk.
+use Rattle.std.specs.Prelude.{Option, None, Some}
 use Prim.Native.Nat.{ℕ, zero, suc, pred, ◌+◌, ◌-◌, ◌≤◌, ◌<◌}
 use native.Mathlib.Nat.{add_assoc, add-zero, le_refl}
 use native.Mathlib.Omega.{arith}
@@ -17,7 +18,6 @@ use Rattle.octets.proofs.Laws.{length_part, get_d_part, rest_lent, part_none}
 use Rattle.tlvs.specs.Tlvs.{Tlvs, tlvs_end, tlvs_cut, tlv, tlv_head, tlv_fits, tlv_turn, tlvs_in}
 use Rattle.tlvs.specs.Places.{item_at}
 use Rattle.tlvs.specs.declared.Item.{Item}
-use Rattle.tlvs.specs.declared.Item.TheVariants.{One, Broken}
 
 -- a part of a part ---------------------------------------------------------------------------------------------
 
@@ -55,26 +55,26 @@ le_needed false n padded h = h
 
 -- an item, by what was read of it ------------------------------------------------------------------------------
 
-pub at_none : (s : List ℕ) (at stop : ℕ) (short : Bool) → stop - at < tlv_head → Broken ≡ item_at s short at stop
+pub at_none : (s : List ℕ) (at stop : ℕ) (short : Bool) → stop - at < tlv_head → None ≡ item_at s short at stop
 unfolding item_at
 at_none s at stop short l = rw (lt-ltb (stop - at) tlv_head l)
 
 module _ (s : List ℕ) (at stop : ℕ) (short : Bool) {kind n padded needed : ℕ}
     (e0 : kind ≡ be16 s at) (e2 : n ≡ be16 s (at + 2)) (p : padded ≡ pad4 n) (q : needed ≡ cond short n padded) (l : tlv_head ≤ stop - at) where
-  pub at_torn : stop - at < tlv_head + needed → Broken ≡ item_at s short at stop
+  pub at_torn : stop - at < tlv_head + needed → None ≡ item_at s short at stop
   unfolding item_at
   at_torn f = rw (← e2, ← p, ← q, le-ltb (stop - at) tlv_head l, lt-ltb (stop - at) (tlv_head + needed) f)
 
-  pub at_whole : tlv_head + needed ≤ stop - at → One kind (at + tlv_head) n (at + tlv_head + padded) ≡ item_at s short at stop
+  pub at_whole : tlv_head + needed ≤ stop - at → Some (record { kind = kind; value = record { from = at + tlv_head; len = n }; next = at + tlv_head + padded }) ≡ item_at s short at stop
   unfolding item_at
   at_whole f = rw (← e0, ← e2, ← p, ← q, le-ltb (stop - at) tlv_head l, le-ltb (stop - at) (tlv_head + needed) f)
 
 -- the TLVs, by places ------------------------------------------------------------------------------------------
 
 -- One item and what follows it, as TLVs of the octets up to `stop`.
-abbrev pub turned : List ℕ → ℕ → Item → (List ℕ → Tlvs) → Tlvs
-turned s stop (One kind from len next) on = tlv kind (part s from len) (on (part s next (stop - next)))
-turned s stop Broken on = tlvs_cut
+abbrev pub turned : List ℕ → ℕ → Option Item → (List ℕ → Tlvs) → Tlvs
+turned s stop (Some i) on = tlv i.kind (part s i.value.from i.value.len) (on (part s i.next (stop - i.next)))
+turned s stop None on = tlvs_cut
 
 module _ (s : List ℕ) (at stop : ℕ) (short : Bool) (on : List ℕ → Tlvs) (h : at ≤ stop) (k : stop ≤ length s) where
   -- What the octets from `at` on begin with, and what follows it.
@@ -148,5 +148,5 @@ items_turn (suc n) short s at stop h k l =
     rw (ne_eqb (length (part s at (stop - at))) 0 m) (sym (item_turn s at stop short (λ rest. tlvs_in rest short n) (omega arith) l))
 
 -- Any two answers that fit the contract of `item_at` are equal.
-pub item_at_determined : (short : Bool) (s : List ℕ) (at stop : ℕ) {x y : Item} → x ≡ item_at s short at stop → y ≡ item_at s short at stop → x ≡ y
+pub item_at_determined : (short : Bool) (s : List ℕ) (at stop : ℕ) {x y : Option Item} → x ≡ item_at s short at stop → y ≡ item_at s short at stop → x ≡ y
 item_at_determined short s at stop = determined

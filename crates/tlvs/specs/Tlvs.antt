@@ -1,6 +1,5 @@
 -- The TLVs of an octet string (document 01, "The OPEN object").
-use Rattle.std.specs.Prelude.{ℕ, zero, suc, ◌+◌, List, Bool, true, false, cond, ◌&&◌, length, drop, eqb, leb}
-use Rattle.std.proofs.Math.Option.{Option, none, some}
+use Rattle.std.specs.Prelude.{ℕ, zero, suc, ◌+◌, List, Bool, true, false, cond, ◌&&◌, length, drop, eqb, leb, Option, None, Some}
 use Rattle.octets.specs.Octets.{be16, pad4, part}
 
 -- The octets of type and length, and the place of the length.
@@ -55,11 +54,11 @@ tlvs_whole (tlv kind value rest) = tlvs_whole rest
 
 -- The value of the first one of a type: "the first is used and the others are only walked".
 abbrev pub first_tlv : Tlvs → ℕ → Option (List ℕ)
-first_tlv tlvs_end want = none
-first_tlv tlvs_cut want = none
-first_tlv (tlv kind value rest) want = cond (eqb kind want) (some value) (first_tlv rest want)
+first_tlv tlvs_end want = None
+first_tlv tlvs_cut want = None
+first_tlv (tlv kind value rest) want = cond (eqb kind want) (Some value) (first_tlv rest want)
 
 -- There is none.
 abbrev pub not_there : Option (List ℕ) → Bool
-not_there none = true
-not_there (some value) = false
+not_there None = true
+not_there (Some value) = false

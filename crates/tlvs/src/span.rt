@@ -1,9 +1,6 @@
 // Where a value lies in the octets, as a walk keeps it.
-ghost use Rattle.std.specs.Prelude.{◌≡◌};
-ghost use Rattle.tlvs.specs.Places.{keep_of};
-
-// The start of a value that was not found: none starts here.
-pub const NOWHERE: usize = 0;
+ghost use Rattle.std.specs.Prelude.{◌≡◌, ◌+◌, ◌≤◌, length};
+ghost use Rattle.octets.specs.Octets.{part};
 
 // The start and the length of a value.
 #[derive(Clone, Copy)]
@@ -12,12 +9,12 @@ pub struct Span {
     pub len: usize,
 }
 
-// The first hit is kept.
-pub fn keep(got: Span, hit: bool, from: usize, len: usize) -> Span
-    ensures kept { result ≡ keep_of got hit from len }
-{
-    if octets::both(got.from == NOWHERE, hit) {
-        return Span { from, len };
+impl Span {
+    // The value that lies here in the octets.
+    pub fn of(self, s: &[u8]) -> &[u8]
+        requires { self.from + self.len ≤ length s.now }
+        ensures value { result.now ≡ part s.now self.from self.len }
+    {
+        &s[self.from..self.from + self.len]
     }
-    got
 }

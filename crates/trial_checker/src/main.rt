@@ -2,8 +2,6 @@
 // lengths that are too small or too large, refused OPENs before and behind, octets behind the ERO.
 #![tactic(auto)]
 
-ghost use Rattle.std.specs.Prelude.{◌≤◌, ◌<◌, length};
-
 use std::io;
 use std::io::{Read, Write};
 use streams::Streams;
@@ -27,24 +25,10 @@ fn answer<R: Read, W: Write>(streams: &mut Streams<R, W>, line: &[u8]) {
     streams.write(&out[..end]);
 }
 
-// Answers the line at `at`, and hands back where the next one begins.
-fn onward<R: Read, W: Write>(streams: &mut Streams<R, W>, input: &[u8], at: usize) -> usize
-    requires { at < length input.now }
-    ensures { (at < result) × (result ≤ length input.now) }
-{
-    let line = word(&input[at..], NEWLINE, 0);
-    answer(streams, line);
-    let end = at + line.len();
-    if end < input.len() {
-        return end + 1;
-    }
-    input.len()
-}
-
+// Answers each line; behind a newline at the end there is none.
 fn answer_all<R: Read, W: Write>(streams: &mut Streams<R, W>, input: &[u8]) {
-    let mut at: usize = 0;
-    while at < input.len() {
-        at = onward(streams, input, at);
+    for line in input.split_inclusive(|c| *c == NEWLINE) {
+        answer(streams, word(line, NEWLINE, 0));
     }
 }
 

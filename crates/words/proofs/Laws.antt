@@ -4,27 +4,19 @@ use Prim.Native.Nat.{ℕ, zero, suc, ◌+◌, ◌-◌, ◌≤◌, ◌<◌}
 use mathlib.Core.Path.{◌≡◌, refl, sym, ◌∙◌, ap}
 use mathlib.Core.List.{List, [], ◌∷◌}
 use mathlib.Core.Bool.{Bool, true, false, cond}
-use lib.ListN.{length, get_or, take, drop, drop_of_length-le}
-use lib.Seq.{drop-cons, drop-drop}
+use lib.ListN.{length, get_or, take, drop, drop_of_length-le, length-drop}
+use lib.Seq.{take_all}
 use lib.Dec.{eqb}
 use native.Mathlib.Omega.{arith}
 use native.Mathlib.Numerals.{add-one}
-use borrow.Author.Tests.{eq-eqb, ne_eqb}
+use Rattle.std.specs.List.{count_by, position, position_or_len}
+use Rattle.std.specs.Prelude.{Some, None}
+use Rattle.std.proofs.lemmas.Grind.{common_steps}
+use Rattle.std.proofs.lemmas.List.Recursion.{is_position_or_len}
+use Rattle.std.proofs.lemmas.List.Sums.{sum_by-cons}
 use Rattle.words.specs.Words.{word_of, words_in, until_mark, behind_mark}
 
 -- ## Before the first mark
-
-pub until_hit : (m : ℕ) (l : List ℕ) (i : ℕ) → i < length l → get_or l i 0 ≡ m → until_mark (drop i l) m ≡ []
-unfolding until_mark
-until_hit m l i h e = rw (drop-cons l i 0 h, eq-eqb (get_or l i 0) m e)
-
-pub until_miss : (m : ℕ) (l : List ℕ) (i : ℕ) → i < length l → (get_or l i 0 ≡ m → ⊥) → until_mark (drop i l) m ≡ get_or l i 0 ∷ until_mark (drop (i + 1) l) m
-unfolding until_mark
-until_miss m l i h e = rw (add-one, drop-cons l i 0 h, ne_eqb (get_or l i 0) m e)
-
-pub until_end : (m : ℕ) (l : List ℕ) (i : ℕ) → length l ≤ i → until_mark (drop i l) m ≡ []
-unfolding until_mark
-until_end m l i h = rw (drop_of_length-le l h)
 
 pub take_until : (m : ℕ) (l : List ℕ) → take (length (until_mark l m)) l ≡ until_mark l m
 unfolding until_mark
@@ -33,6 +25,46 @@ take_until m (c ∷ cs) = go (eqb c m) (take_until m cs) where
   go : (b : Bool) → take (length (until_mark cs m)) cs ≡ until_mark cs m → take (length (cond b [] (c ∷ until_mark cs m))) (c ∷ cs) ≡ cond b [] (c ∷ until_mark cs m)
   go true e = refl
   go false e = ap (λ (t : List ℕ). c ∷ t) e
+
+until_step : (m x : ℕ) (xs : List ℕ) → length (until_mark (x ∷ xs) m) ≡ cond (eqb x m) 0 (1 + length (until_mark xs m))
+unfolding until_mark
+until_step m x xs = go (eqb x m) where
+  go : (b : Bool) → length (cond b [] (x ∷ until_mark xs m)) ≡ cond b 0 (1 + length (until_mark xs m))
+  go true = refl
+  go false = omega arith
+
+until_none : (m : ℕ) → length (until_mark [] m) ≡ 0
+unfolding until_mark
+until_none m = refl
+
+-- The place of the first mark, or the line's end.
+pub until_length : (m : ℕ) (l : List ℕ) → length (until_mark l m) ≡ position_or_len (λ c. eqb c m) l
+until_length m l = is_position_or_len (λ t. length (until_mark t m)) (λ c. eqb c m) (until_none m) (until_step m) l
+
+until_within : (m : ℕ) (l : List ℕ) → length (until_mark l m) ≤ length l
+unfolding until_mark
+until_within m [] = omega arith
+until_within m (c ∷ cs) = go (eqb c m) (until_within m cs) where
+  go : (b : Bool) → length (until_mark cs m) ≤ length cs → length (cond b [] (c ∷ until_mark cs m)) ≤ suc (length cs)
+  go true h = omega arith
+  go false h = omega arith
+
+module _ (m : ℕ) (l : List ℕ) where
+  some_length : (e : ℕ) → position (λ c. eqb c m) l ≡ Some e → length (until_mark l m) ≡ e
+  some_length e h =
+      let at : position_or_len (λ c. eqb c m) l ≡ e = grind (arith, common_steps) in
+      until_length m l ∙ at
+
+  none_length : position (λ c. eqb c m) l ≡ None → length (until_mark l m) ≡ length l
+  none_length h =
+      let at : length l ≤ position_or_len (λ c. eqb c m) l = grind (arith, common_steps) in
+      omega (arith, until_length m l, until_within m l)
+
+  pub before_some : (e : ℕ) → position (λ c. eqb c m) l ≡ Some e → take e l ≡ until_mark l m
+  before_some e h = rw (some_length e h) at (take_until m l)
+
+  pub before_none : position (λ c. eqb c m) l ≡ None → l ≡ until_mark l m
+  before_none h = sym (take_all (length l) l (omega arith)) ∙ rw (none_length h) at (take_until m l)
 
 -- ## Behind the first mark
 
@@ -44,6 +76,18 @@ behind_drop m (c ∷ cs) = go (eqb c m) (behind_drop m cs) where
   go true e = refl
   go false e = e
 
+pub take_rest : (l : List ℕ) (i : ℕ) → take (length l - i) (drop i l) ≡ drop i l
+take_rest l i = take_all (length l - i) (drop i l) (omega (arith, length-drop i l))
+
+module _ (m : ℕ) (l : List ℕ) where
+  pub behind_some : (e : ℕ) → position (λ c. eqb c m) l ≡ Some e → drop (e + 1) l ≡ behind_mark l m
+  behind_some e h = rw (add-one, ← some_length m l e h) (sym (behind_drop m l))
+
+  pub behind_none : position (λ c. eqb c m) l ≡ None → [] ≡ behind_mark l m
+  behind_none h =
+      let n : length l ≤ suc (length (until_mark l m)) = omega (arith, none_length m l h) in
+      sym (behind_drop m l ∙ drop_of_length-le l n)
+
 -- ## Words
 
 pub word_none : (m i : ℕ) → word_of [] m i ≡ []
@@ -51,43 +95,32 @@ unfolding word_of until_mark behind_mark
 word_none m zero = refl
 word_none m (suc i) = word_none m i
 
-behind_at : (m : ℕ) (l : List ℕ) (from e : ℕ) → e ≡ from + length (until_mark (drop from l) m) → behind_mark (drop from l) m ≡ drop (e + 1) l
-behind_at m l from e h =
-    let n : from + suc (length (until_mark (drop from l) m)) ≡ e + 1 = omega arith in
-    behind_drop m (drop from l) ∙ drop-drop (suc (length (until_mark (drop from l) m))) from l ∙ rw n
+-- where nothing is left, that is the word
+pub word_ended : (m : ℕ) (l : List ℕ) (i : ℕ) → length l ≡ 0 → l ≡ word_of l m i
+word_ended m [] i h = sym (word_none m i)
+word_ended m (c ∷ cs) i h = absurd (omega arith)
 
-pub word_next : (m : ℕ) (l : List ℕ) (from k e : ℕ) → e ≡ from + length (until_mark (drop from l) m) → 0 < k → word_of (drop from l) m k ≡ word_of (drop (e + 1) l) m (k - 1)
+pub word_next : (m : ℕ) (l : List ℕ) (i : ℕ) → 0 < i → word_of (behind_mark l m) m (i - 1) ≡ word_of l m i
 unfolding word_of
-word_next m l from zero e h p = absurd (omega arith)
-word_next m l from (suc k) e h p =
-    let n : suc k - 1 ≡ k = omega arith in
-    rw (n, behind_at m l from e h)
+word_next m l zero h = absurd (omega arith)
+word_next m l (suc i) h = let n : suc i - 1 ≡ i = omega arith in rw n
 
-pub word_past : (m : ℕ) (l : List ℕ) (from k e : ℕ) → e ≡ from + length (until_mark (drop from l) m) → 0 < k → length l ≤ e → word_of (drop from l) m k ≡ []
-word_past m l from k e h p q =
-    let n : length l ≤ e + 1 = omega arith in
-    word_next m l from k e h p ∙ rw (drop_of_length-le l n) (word_none m (k - 1))
-
-pub word_last : (m : ℕ) (l : List ℕ) (from k e : ℕ) → e ≡ from + length (until_mark (drop from l) m) → k ≤ 0 → take (e - from) (drop from l) ≡ word_of (drop from l) m k
+pub word_first : (m : ℕ) (l : List ℕ) → until_mark l m ≡ word_of l m 0
 unfolding word_of
-word_last m l from zero e h p =
-    let n : e - from ≡ length (until_mark (drop from l) m) = omega arith in
-    rw n (take_until m (drop from l))
-word_last m l from (suc k) e h p = absurd (omega arith)
+word_first m l = refl
 
 -- ## How many words
 
-pub words_hit : (m : ℕ) (l : List ℕ) (i : ℕ) → i < length l → get_or l i 0 ≡ m → words_in (drop i l) m ≡ suc (words_in (drop (i + 1) l) m)
+pub words_count : (m : ℕ) (l : List ℕ) → words_in l m ≡ 1 + count_by (λ c. eqb c m) l
 unfolding words_in
-words_hit m l i h e = rw (add-one, drop-cons l i 0 h, eq-eqb (get_or l i 0) m e)
-
-pub words_miss : (m : ℕ) (l : List ℕ) (i : ℕ) → i < length l → (get_or l i 0 ≡ m → ⊥) → words_in (drop i l) m ≡ words_in (drop (i + 1) l) m
-unfolding words_in
-words_miss m l i h e = rw (add-one, drop-cons l i 0 h, ne_eqb (get_or l i 0) m e)
-
-pub words_end : (m : ℕ) (l : List ℕ) (i : ℕ) → length l ≤ i → words_in (drop i l) m ≡ 1
-unfolding words_in
-words_end m l i h = rw (drop_of_length-le l h)
+words_count m [] = refl
+words_count m (c ∷ cs) =
+    let h = go (eqb c m) (words_in cs m) (count_by (λ x. eqb x m) cs) (words_count m cs) in
+    h ∙ ap (λ (n : ℕ). 1 + n) (sym (sum_by-cons (λ x. cond (eqb x m) 1 0) c cs))
+  where
+    go : (b : Bool) (w n : ℕ) → w ≡ 1 + n → cond b (suc w) w ≡ 1 + (cond b 1 0 + n)
+    go true w n e = omega arith
+    go false w n e = omega arith
 
 -- ## All words
 

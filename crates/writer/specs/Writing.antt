@@ -9,7 +9,7 @@ use Rattle.subobject.specs.declared.segment.Segment.{Segment}
 use Rattle.subobject.specs.Segments.{subobject_of}
 use Rattle.writer_rules.specs.Refusals.{add_number}
 use Rattle.writer_state.specs.declared.Writer.{Writer}
-use Rattle.writer_state.specs.declared.Written.{Written}
+use Rattle.writer_state.specs.Written.{Written}
 use Rattle.writer_state.specs.Answers.{answered}
 
 -- A segment of a form:

@@ -3,144 +3,58 @@
 #![tactic(auto)]
 
 ghost use Rattle.std.specs.Prelude.{◌≡◌};
-ghost use Rattle.forms.specs.Forms.{srv6_form, mpls_form};
-ghost use Rattle.subobject.specs.Segments.{segment_with};
-ghost use Rattle.writer_spare.specs.Typed.{Typed};
+ghost use Rattle.writer_spare.specs.Lending.{lent_of};
+ghost use Rattle.writer_layout.specs.Readable.{Readable};
+ghost use Rattle.writer_state.specs.Written.{written_of};
 ghost use Rattle.writer.specs.Writing.{add_answer_in, add_buffer_in, add_answer, add_buffer};
 
-use forms::Form;
-use subobject::{Outline, Segment};
+use forms::{Layout, Mpls, Srv6};
+use subobject::Segment;
+use writer_spare::Lent;
 use writer_state::{MPLS_SETUP, Writer, Written};
 
-// Writes a segment of SRv6 into the rest of the buffer from the present place on. The segment's octets are lent: to hand them on by
-// value takes longer than to write them. Each form has a function of its own, so that the compiler knows its numbers; what is barred
-// before its NAI leaves first, so that it also knows what a segment of the form has not.
-pub fn add_srv6(
-    buf: &mut [u8],
-    form: Form,
-    writer: Writer,
-    o: Outline,
-    sid: &[u8],
-    nai: &[u8],
-    bits: &[u8],
-) -> Written
-    requires { (Typed (segment_with o sid.now nai.now bits.now)) × (form ≡ srv6_form) }
-    ensures answer { result ≡ add_answer_in buf.old form writer (segment_with o sid.now nai.now bits.now) }
-    ensures buffer { buf.new ≡ add_buffer_in buf.old form writer (segment_with o sid.now nai.now bits.now) }
+// Writes a segment of a form into the rest of the buffer from the present place on.
+pub fn add_in<L: Layout>(buf: &mut [u8], writer: Writer, x: Lent<'_>) -> Written
+    requires { Readable L.layout }
+    ensures answer { written_of result ≡ add_answer_in buf.old L.layout writer (lent_of x.entry) }
+    ensures buffer { buf.new ≡ add_buffer_in buf.old L.layout writer (lent_of x.entry) }
 {
-    let h = subobject::head_of(form, o);
-    let n = writer_front::nai_octets(form, h.nt);
-    let front = writer_front::front(form, o, sid);
-    if front == 0 {
-        return writer_state::refuse(writer_rules::adding_barred(form, h, n), writer);
+    match writer_rules::adding::<L>(x, writer.ero, writer.at, buf.len()) {
+        Err(reason) => writer_state::refuse(reason, writer),
+        Ok(piece) => {
+            writer_layout::write::<L>(&mut buf[writer.at..], piece);
+            writer_state::accept(Writer {
+                at: writer.at + piece.size,
+                ..writer
+            })
+        }
     }
-    let size = front + n + octets::pick(o.structured, subobject::STRUCTURE_SIZE, 0);
-    let number = writer_rules::adding_unlabelled(
-        form,
-        h,
-        o,
-        sid,
-        nai,
-        bits,
-        writer.ero,
-        writer.at,
-        buf.len(),
-        front,
-        n,
-        size,
-    );
-    if number != 0 {
-        return writer_state::refuse(number, writer);
-    }
-    let at = writer.at;
-    writer_layout::write(&mut buf[at..], form, h, o, sid, nai, bits, front, n, size);
-    writer_state::accept(Writer {
-        ero: writer.ero,
-        at: at + size,
-        form: writer.form,
-    })
-}
-
-// The same of MPLS.
-pub fn add_mpls(
-    buf: &mut [u8],
-    form: Form,
-    writer: Writer,
-    o: Outline,
-    sid: &[u8],
-    nai: &[u8],
-    bits: &[u8],
-) -> Written
-    requires { (Typed (segment_with o sid.now nai.now bits.now)) × (form ≡ mpls_form) }
-    ensures answer { result ≡ add_answer_in buf.old form writer (segment_with o sid.now nai.now bits.now) }
-    ensures buffer { buf.new ≡ add_buffer_in buf.old form writer (segment_with o sid.now nai.now bits.now) }
-{
-    let h = subobject::head_of(form, o);
-    let n = writer_front::nai_octets(form, h.nt);
-    let front = writer_front::front(form, o, sid);
-    if front == 0 {
-        return writer_state::refuse(writer_rules::adding_barred(form, h, n), writer);
-    }
-    let size = front + n + octets::pick(o.structured, subobject::STRUCTURE_SIZE, 0);
-    let number = writer_rules::adding_unstructured(
-        form,
-        h,
-        o,
-        sid,
-        nai,
-        bits,
-        writer.ero,
-        writer.at,
-        buf.len(),
-        front,
-        n,
-        size,
-    );
-    if number != 0 {
-        return writer_state::refuse(number, writer);
-    }
-    let from = writer.at;
-    writer_layout::write(&mut buf[from..], form, h, o, sid, nai, bits, front, n, size);
-    writer_state::accept(Writer {
-        ero: writer.ero,
-        at: from + size,
-        form: writer.form,
-    })
 }
 
 // The same, of the form that the state names.
-fn add_parts(
-    buf: &mut [u8],
-    writer: Writer,
-    o: Outline,
-    sid: &[u8],
-    nai: &[u8],
-    bits: &[u8],
-) -> Written
-    requires { Typed (segment_with o sid.now nai.now bits.now) }
-    ensures answer { result ≡ add_answer buf.old writer (segment_with o sid.now nai.now bits.now) }
-    ensures buffer { buf.new ≡ add_buffer buf.old writer (segment_with o sid.now nai.now bits.now) }
+fn add_lent(buf: &mut [u8], writer: Writer, x: Lent<'_>) -> Written
+    ensures answer { written_of result ≡ add_answer buf.old writer (lent_of x.entry) }
+    ensures buffer { buf.new ≡ add_buffer buf.old writer (lent_of x.entry) }
 {
     if writer.form == MPLS_SETUP {
-        return add_mpls(buf, forms::mpls(), writer, o, sid, nai, bits);
+        return add_in::<Mpls>(buf, writer, x);
     }
-    add_srv6(buf, forms::srv6(), writer, o, sid, nai, bits)
+    add_in::<Srv6>(buf, writer, x)
 }
 
 // The same, of a segment by value.
 pub fn add(buf: &mut [u8], writer: Writer, segment: Segment) -> Written
-    ensures answer { result ≡ add_answer buf.old writer segment }
+    ensures answer { written_of result ≡ add_answer buf.old writer segment }
     ensures buffer { buf.new ≡ add_buffer buf.old writer segment }
 {
-    let sid = segment.sid;
-    let nai = segment.nai;
-    let bits = segment.structure;
-    add_parts(
+    add_lent(
         buf,
         writer,
-        subobject::outline_of(segment),
-        &sid,
-        &nai,
-        &bits,
+        Lent {
+            outline: subobject::outline_of(segment),
+            sid: &segment.sid,
+            nai: &segment.nai,
+            structure: &segment.structure,
+        },
     )
 }

@@ -7,7 +7,7 @@ use Rattle.objects.specs.Objects.{header, length_place, type_worth, object_type}
 use Rattle.forms.specs.Forms.{form_of}
 use Rattle.frame.specs.Frames.{class_of}
 use Rattle.writer_state.specs.declared.Writer.{Writer}
-use Rattle.writer_state.specs.declared.Written.{Written}
+use Rattle.writer_state.specs.Written.{Written}
 use Rattle.writer_state.specs.Answers.{answered}
 use Rattle.writer_rules.specs.Checks.{first_number, begin_checks}
 use Rattle.writer_rules.specs.Refusals.{finish_number}

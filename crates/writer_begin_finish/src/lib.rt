@@ -5,8 +5,11 @@
 
 ghost use Rattle.std.specs.Prelude.{◌≡◌};
 ghost use Rattle.forms.specs.Forms.{form_of};
+ghost use Rattle.frame.specs.Frames.{class_of};
+ghost use Rattle.writer_state.specs.Written.{written_of};
 ghost use Rattle.writer_begin_finish.specs.Ends.{begin_answer, begin_buffer, finish_answer, finish_buffer};
 
+use answers::Reason;
 use writer_state::{MPLS_SETUP, SRV6_SETUP, Writer, Written};
 
 // Type 1 in the high 4 bits; the low bits are 0.
@@ -27,20 +30,30 @@ fn kept_form(pst: u64) -> u8
     SRV6_SETUP
 }
 
+fn class(ero: bool) -> u8
+    ensures class { result ≡ class_of ero }
+{
+    if ero {
+        objects::ERO_CLASS as u8
+    } else {
+        objects::RRO_CLASS as u8
+    }
+}
+
 // Writes the header with length 4; the setup type names the form.
 pub fn begin(buf: &mut [u8], writer: Writer, ero: bool, pst: u64) -> Written
-    ensures answer { result ≡ begin_answer buf.old writer ero pst }
+    ensures answer { written_of result ≡ begin_answer buf.old writer ero pst }
     ensures buffer { buf.new ≡ begin_buffer buf.old writer ero }
 {
     if buf.len() < objects::HEADER {
-        return writer_state::refuse(answers::BUFFER_FULL, writer);
+        return writer_state::refuse(Reason::BufferFull, writer);
     }
-    buf[objects::CLASS_PLACE] = octets::pick(ero, objects::ERO_CLASS, objects::RRO_CLASS) as u8;
+    buf[objects::CLASS_PLACE] = class(ero);
     buf[objects::TYPE_PLACE] = TYPE_OCTET;
     buf[LENGTH_HIGH] = 0;
     buf[LENGTH_LOW] = objects::HEADER as u8;
     writer_state::accept(Writer {
-        ero: ero,
+        ero,
         at: objects::HEADER,
         form: kept_form(pst),
     })
@@ -48,15 +61,15 @@ pub fn begin(buf: &mut [u8], writer: Writer, ero: bool, pst: u64) -> Written
 
 // Writes the length; the object is the first octets of the buffer, up to the place.
 pub fn finish(buf: &mut [u8], writer: Writer) -> Written
-    ensures answer { result ≡ finish_answer buf.old writer }
+    ensures answer { written_of result ≡ finish_answer buf.old writer }
     ensures buffer { buf.new ≡ finish_buffer buf.old writer }
 {
-    let number = writer_rules::finishing(writer.at, buf.len());
-    if number != 0 {
-        return writer_state::refuse(number, writer);
+    match writer_rules::finishing(writer.at, buf.len()) {
+        Err(reason) => writer_state::refuse(reason, writer),
+        Ok(()) => {
+            buf[LENGTH_HIGH] = (writer.at / 256 % 256) as u8;
+            buf[LENGTH_LOW] = (writer.at % 256) as u8;
+            writer_state::accept(writer)
+        }
     }
-    let at = writer.at;
-    buf[LENGTH_HIGH] = (at / 256 % 256) as u8;
-    buf[LENGTH_LOW] = (at % 256) as u8;
-    writer_state::accept(writer)
 }

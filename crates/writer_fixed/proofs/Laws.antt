@@ -1,5 +1,5 @@
 -- The octets before the SID. Assumes nothing.
-use Prim.Native.Nat.{ℕ, ◌+◌, ◌*◌, ◌≤◌, ◌<◌}
+use Prim.Native.Nat.{ℕ, ◌+◌, ◌*◌, ◌≤◌}
 use mathlib.Core.Path.{◌≡◌, refl, ◌∙◌}
 use mathlib.Core.Bool.{true, false}
 use mathlib.Core.List.{List, [], ◌∷◌}
@@ -25,9 +25,8 @@ pub laid_four : (form : Form) (h : Head) (behaviour : ℕ) (b w : List ℕ) → 
 unfolding fixed_octets
 laid_four form h behaviour b w e ew = ew ∙ rw e
 
--- What a flag adds.
-pub worth_none : (n w : ℕ) → n ≡ 0 → (0 ≡ n * w) × (0 < 256)
-worth_none n w e = (rw e (omega arith), omega arith)
-
-pub worth_some : (n w r : ℕ) → n ≤ 1 → (n ≡ 0 → ⊥) → (r ≡ w) × (r < 256) → (r ≡ n * w) × (r < 256)
-worth_some n w r h z p = let e : n ≡ 1 = omega arith in (p.0 ∙ rw e (omega arith), p.1)
+-- A flag adds no more than it is worth.
+pub flag_most : (n w : ℕ) → n ≤ 1 → n * w ≤ w
+flag_most ℕ.zero w h = omega arith
+flag_most (ℕ.suc ℕ.zero) w h = omega arith
+flag_most (ℕ.suc (ℕ.suc n)) w h = absurd (omega arith)

@@ -1,14 +1,12 @@
 // The octets before the SID: type, length, NT and flags, and the endpoint behaviour where the form has one.
 ghost use Rattle.std.specs.Prelude.{◌≡◌, [], ◌∷◌, ◌+◌, ◌*◌, ◌≤◌, ◌<◌, length};
 ghost use Rattle.octets.specs.Octets.{hi, lo, over, placed};
-ghost use Rattle.forms.specs.Sized.{Sized};
 ghost use Rattle.subobject.specs.Layout.{worth_l, worth_nt};
 ghost use Rattle.subobject.specs.Segments.{flags_octet, fixed_octets};
 ghost use Rattle.subobject_strays.specs.Strays.{reserved_place};
-ghost use Rattle.writer_spare.specs.NaiSizes.{Known};
 ghost use Rattle.writer_fixed.specs.Small.{Small};
 
-use forms::Form;
+use forms::Layout;
 use subobject::{BEHAVIOUR_PLACE, FLAGS_PLACE, Head, LOW_FLAGS_PLACE, SIZE_PLACE};
 use subobject_strays::RESERVED_PLACE;
 
@@ -22,17 +20,15 @@ fn worth(flag: usize, w: u8) -> usize
     requires { flag ≤ 1 }
     ensures worth { (result ≡ flag * w) × (result < 256) }
 {
-    if flag == 0 {
-        return 0;
-    }
-    octets::wide(w)
+    flag * usize::from(w)
 }
 
 // Octet 3 of a form.
-fn flags_in(form: Form, h: Head) -> usize
-    requires { Small form h }
-    ensures flags { result ≡ flags_octet form h }
+fn flags<L: Layout>(h: Head) -> usize
+    requires { Small L.layout h }
+    ensures flags { result ≡ flags_octet L.layout h }
 {
+    let form = L::form();
     worth(h.v, form.v)
         + worth(h.t, form.t)
         + worth(h.f, form.f)
@@ -41,39 +37,16 @@ fn flags_in(form: Form, h: Head) -> usize
         + worth(h.m, form.m)
 }
 
-// The same. Each form stands in a branch of its own, so that the compiler knows what its flags are worth.
-fn flags(form: Form, h: Head) -> usize
-    requires { (Small form h) × Known form }
-    ensures flags { result ≡ flags_octet form h }
-{
-    if form.behaves {
-        return flags_in(forms::srv6(), h);
-    }
-    flags_in(forms::mpls(), h)
-}
-
-// The type of its subobjects.
-fn kind(form: Form, h: Head) -> usize
-    requires { (Known form) × (h.kind ≡ form.kind) }
-    ensures kind { result ≡ h.kind }
-{
-    if form.behaves {
-        let f = forms::srv6();
-        return octets::wide(f.kind);
-    }
-    let f = forms::mpls();
-    octets::wide(f.kind)
-}
-
 // The first four octets.
-fn four(out: &mut [u8], form: Form, h: Head, size: usize)
-    requires { (Small form h) × (Known form) × (h.kind ≡ form.kind) × (size ≡ h.size) × (4 ≤ length out.old) }
-    ensures four { out.new ≡ over ((h.l * worth_l + h.kind) ∷ h.size ∷ (h.nt * worth_nt) ∷ flags_octet form h ∷ []) out.old }
+fn four<L: Layout>(out: &mut [u8], h: Head, size: usize)
+    requires { (Small L.layout h) × (h.kind ≡ L.layout.kind) × (size ≡ h.size) × (4 ≤ length out.old) }
+    ensures four { out.new ≡ over ((h.l * worth_l + h.kind) ∷ h.size ∷ (h.nt * worth_nt) ∷ flags_octet L.layout h ∷ []) out.old }
 {
-    out[0] = (h.l * subobject::WORTH_L + kind(form, h)) as u8;
+    let form = L::form();
+    out[0] = (h.l * subobject::WORTH_L + usize::from(form.kind)) as u8;
     out[SIZE_PLACE] = size as u8;
     out[FLAGS_PLACE] = (h.nt * subobject::WORTH_NT) as u8;
-    out[LOW_FLAGS_PLACE] = flags(form, h) as u8;
+    out[LOW_FLAGS_PLACE] = flags::<L>(h) as u8;
 }
 
 // Two reserved octets and the endpoint behaviour.
@@ -88,11 +61,12 @@ fn four_more(out: &mut [u8], behaviour: usize)
 }
 
 // The octets before the SID.
-pub fn fixed(out: &mut [u8], form: Form, h: Head, size: usize, behaviour: usize)
-    requires { (Small form h) × (form.fixed ≤ length out.old) × (Sized form) × (Known form) × (h.kind ≡ form.kind) × (size ≡ h.size) }
-    ensures fixed { out.new ≡ over (fixed_octets form h behaviour) out.old }
+pub fn fixed<L: Layout>(out: &mut [u8], h: Head, size: usize, behaviour: usize)
+    requires { (Small L.layout h) × (L.layout.fixed ≤ length out.old) × (h.kind ≡ L.layout.kind) × (size ≡ h.size) }
+    ensures fixed { out.new ≡ over (fixed_octets L.layout h behaviour) out.old }
 {
-    four(out, form, h, size);
+    let form = L::form();
+    four::<L>(out, h, size);
     if form.behaves {
         four_more(out, behaviour);
     }

@@ -1,82 +1,62 @@
 // The octets before an NAI, with what has to be 0 or absent there, and those of the NAI.
-ghost use Rattle.std.specs.Prelude.{◌≡◌, cond, ◌≤◌, length};
-ghost use Rattle.forms.specs.Forms.{mpls_form, nai_length};
-ghost use Rattle.subobject.specs.Layout.{sid_size};
+ghost use Rattle.std.specs.Prelude.{◌≡◌, cond, ◌≤◌, Some, None};
+ghost use Rattle.forms.specs.Forms.{nai_length};
 ghost use Rattle.subobject.specs.Rules.{malformed};
 ghost use Rattle.subobject.specs.Segments.{head_of_outline};
-ghost use Rattle.writer_spare.specs.NaiSizes.{Known};
-ghost use Rattle.writer_front.specs.Front.{strayed, lead, front_of};
+ghost use Rattle.writer_front.specs.Foreign.{foreign};
+ghost use Rattle.writer_front.specs.Front.{strayed, barred, lead};
 
-use forms::Form;
+use forms::Layout;
 use subobject::Outline;
+use writer_spare::Lent;
 
-// The octets before an NAI; 0 for a structure without a SID, and for octets behind a SID that are not 0.
-fn before(form: Form, o: Outline, sid: &[u8]) -> usize
-    requires { (length sid.now ≡ sid_size) × Known form }
-    ensures before { result ≡ cond (strayed form o sid.now) 0 (lead form o) }
+// What the form has no flag and no place for: M, C, a structure, an endpoint behaviour.
+#[tactic(auto, unfolding(crate::specs::Foreign::foreign))]
+fn foreign<L: Layout>(o: Outline) -> bool
+    ensures foreign { result ≡ foreign L.layout o }
 {
-    if o.hassid {
-        if !writer_spare::sid_tidy(form, sid) {
-            return 0;
-        }
-        return octets::wide(form.fixed) + octets::wide(form.sid);
-    }
-    if o.structured {
-        return 0;
-    }
-    if !writer_spare::sid_blank(sid) {
-        return 0;
-    }
-    octets::wide(form.fixed)
+    let form = L::form();
+    (form.m == 0 && o.labelled)
+        || (form.c == 0 && o.complete)
+        || (form.t == 0 && o.structured)
+        || (!form.behaves && o.behaviour != 0)
 }
 
 // M or C without a SID, or C without M.
-fn ill(o: Outline) -> bool
-    ensures ill { result ≡ malformed (head_of_outline mpls_form o) }
+fn ill<L: Layout>(o: Outline) -> bool
+    ensures ill { result ≡ malformed (head_of_outline L.layout o) }
 {
-    if o.labelled {
-        return !o.hassid;
-    }
-    o.complete
+    if o.labelled { !o.hassid } else { o.complete }
 }
 
-// The octets before an NAI; 0 for the same, for what is foreign to the form (M, C, a structure, an endpoint behaviour) and for malformed flags. Each form stands
-// in a branch of its own, so that the compiler knows its numbers.
-pub fn front(form: Form, o: Outline, sid: &[u8]) -> usize
-    requires { (length sid.now ≡ sid_size) × Known form }
-    ensures front { result ≡ front_of form o sid.now }
+// A structure without a SID, or octets behind a SID that are not 0.
+#[tactic(auto, unfolding(crate::specs::Front::strayed))]
+fn strayed<L: Layout>(x: Lent<'_>) -> bool
+    ensures strayed { result ≡ strayed L.layout x.entry.outline x.entry.sid.now }
 {
-    if form.behaves {
-        if o.labelled {
-            return 0;
-        }
-        if o.complete {
-            return 0;
-        }
-        return before(forms::srv6(), o, sid);
+    if x.outline.hassid {
+        !writer_spare::sid_tidy::<L>(x.sid)
+    } else {
+        x.outline.structured || !writer_spare::sid_blank(x.sid)
     }
-    if o.structured {
-        return 0;
-    }
-    if o.behaviour != 0 {
-        return 0;
-    }
-    if ill(o) {
-        return 0;
-    }
-    before(forms::mpls(), o, sid)
 }
 
-// The octets of the NAI for an NT. Those that both forms have alike, for none and the longest, come before the look into the form.
-pub fn nai_octets(form: Form, nt: usize) -> usize
-    requires { Known form }
-    ensures octets { (result ≡ nai_length form nt) × (result ≤ 255) }
+// The octets before an NAI; none where the segment is barred.
+#[tactic(auto, unfolding(crate::specs::Front::barred))]
+pub fn front<L: Layout>(x: Lent<'_>) -> Option<usize>
+    ensures front { let o = x.entry.outline in result ≡ cond (barred L.layout o x.entry.sid.now) None (Some (lead L.layout o)) }
 {
-    if nt == forms::NO_NAI {
-        return 0;
+    if foreign::<L>(x.outline) || ill::<L>(x.outline) || strayed::<L>(x) {
+        return None;
     }
-    if nt == forms::LINK_LOCAL {
-        return forms::nai_length(forms::srv6(), forms::LINK_LOCAL);
-    }
-    forms::nai_length(form, nt)
+    let form = L::form();
+    let sid = if x.outline.hassid { form.sid } else { 0 };
+    Some(usize::from(form.fixed) + usize::from(sid))
+}
+
+// The octets of the NAI for an NT.
+pub fn nai_octets<L: Layout>(nt: usize) -> usize
+    ensures octets { (result ≡ nai_length L.layout nt) × (result ≤ 255) }
+{
+    forms::nai_length(L::form(), nt)
 }

@@ -20,10 +20,12 @@ use Rattle.subobject.specs.declared.segment.Segment.{Segment}
 use Rattle.subobject.specs.declared.head.Head.{Head}
 use Rattle.subobject.specs.Layout.{sid_length, structure_length, expected_length, structure_there}
 use Rattle.subobject.specs.Rules.{rule8, has_structure}
-use Rattle.subobject.specs.Segments.{head_of_segment, flags_octet, fixed_octets, structure_octets, subobject_of, bit}
+use Rattle.subobject.specs.Segments.{head_of_outline, head_of_segment, flags_octet, fixed_octets, structure_octets, subobject_of, bit}
 use Rattle.writer_spare.specs.Typed.{Typed}
 use Rattle.writer_layout.specs.Readable.{Readable}
 use Rattle.writer_fixed.specs.Small.{Small}
+use Rattle.writer_spare.specs.declared.lent.Lent.{Lent}
+use Rattle.writer_spare.specs.Lending.{lent_of}
 
 -- Four octets one by one.
 pub four : (l : List ℕ) → length l ≡ 4 → l ≡ get_or l 0 0 ∷ get_or l 1 0 ∷ get_or l 2 0 ∷ get_or l 3 0 ∷ []
@@ -185,6 +187,15 @@ pub room : {form : Form} → Sized form → (g : Segment) (h : Head) (most : ℕ
     → form.fixed + sid_length form h.s + nai_length form h.nt + cond (has_structure h) 8 0 ≤ most
 unfolding has_structure head_of_segment
 room z g h most hg e hl = rw e (omega (arith, length_subobject z g hg))
+
+-- The same of what is lent, by the head of its outline.
+pub lent_head : (form : Form) (x : Lent) (h : Head) → h ≡ head_of_outline form x.outline → h ≡ head_of_segment form (lent_of x)
+unfolding head_of_segment
+lent_head form x h e = e
+
+pub lent_room : {form : Form} → Sized form → (x : Lent) (h : Head) (most : ℕ) → h ≡ head_of_outline form x.outline → length (subobject_of form (lent_of x)) ≤ most
+    → form.fixed + sid_length form h.s + nai_length form h.nt + cond (has_structure h) 8 0 ≤ most
+lent_room {form} z x h most e l = room z (lent_of x) h most x.typed (lent_head form x h e) l
 
 -- The fixed octets, SID, NAI and structure laid one behind the other are the subobject.
 pub written_subobject : {form : Form} → Sized form → (g : Segment) (h : Head) (last b w x y z : List ℕ) (l k n : ℕ) (there : Bool) → Typed g → h ≡ head_of_segment form g

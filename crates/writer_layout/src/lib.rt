@@ -3,4 +3,4 @@
 
 mod image;
 
-pub use image::write;
+pub use image::{Piece, write};

@@ -8,13 +8,13 @@ use lib.Dec.{eqb, ltb}
 use lib.ListN.{length, drop}
 use borrow.Author.Tests.{eq-eqb, ne_eqb, eqb-true, eqb-false, ltb-false, not-false}
 use native.Mathlib.Omega.{arith}
-use Rattle.answers.specs.Numbers.{length_wrong, nai_unknown, nothing_there}
+use Rattle.answers.specs.Numbers.{nai_unknown, nothing_there}
 use Rattle.octets.proofs.Said.{either_false, both_true, and_false, cond_no, cond_most}
 use Rattle.objects.specs.Objects.{header, unit}
 use Rattle.forms.specs.declared.Form.{Form}
 use Rattle.forms.specs.Forms.{nai_length, knows}
 use Rattle.forms.specs.Sized.{Sized}
-use Rattle.forms.proofs.Laws.{fixed_least, fixed_most, nai_most, nai_none}
+use Rattle.forms.proofs.Laws.{fixed_most, nai_most, nai_none}
 use Rattle.subobject.specs.declared.head.Head.{Head}
 use Rattle.subobject.specs.declared.segment.Outline.{Outline}
 use Rattle.subobject.specs.declared.segment.Segment.{Segment}
@@ -27,11 +27,58 @@ use Rattle.writer_spare.specs.Typed.{Typed}
 use Rattle.writer_spare.specs.Spare.{zeros, tidy_of}
 use Rattle.writer_spare.proofs.Laws.{tidy_parts}
 use Rattle.writer_layout.specs.Parts.{Parts}
-use Rattle.writer_layout.proofs.Laws.{length_subobject}
-use Rattle.writer_rules.specs.Refusals.{most_octets, passes, bad_place, foreign, unfit, no_room, add_number, finish_number}
+use Rattle.writer_layout.proofs.Laws.{length_subobject, lent_head}
+use Rattle.writer_spare.specs.declared.lent.Lent.{Lent}
+use Rattle.writer_spare.specs.Lending.{lent_of}
+use Rattle.std.proofs.Common.{Option, Some, None, Result, Ok, Err}
+use Rattle.std.specs.Result.{IsErrAnd}
+use Rattle.std.specs.Option.{ok_or}
+use Rattle.writer_layout.specs.Readable.{Readable}
+use Rattle.answers.specs.declared.reason.Reason.{Reason}
+use Rattle.answers.specs.Reasons.{number_of}
+use Rattle.writer_rules.specs.Refusals.{most_octets, passes, bad_place, foreign, unfit, no_room, refused_number, add_number, finish_number}
 use Rattle.writer_rules.specs.Looked.{Looked}
 use Rattle.writer_rules.proofs.Checks.{seven_written}
 use Rattle.writer_front.specs.Front.{strayed, barred, lead, front_of}
+
+-- the head, and the octets before an NAI, of what is lent
+pub found_head : {f form : Form} (x : Lent) {h : Head} → h ≡ head_of_outline f x.outline → f ≡ form → h ≡ head_of_segment form (lent_of x)
+found_head {f} {form} x {h} e q = lent_head form x h (e ∙ ap (λ (f : Form). head_of_outline f x.outline) q)
+
+pub some_front : (b : Bool) (n m : ℕ) → ◌≡◌ {A = Option ℕ} (Some m) (cond b None (Some n)) → (b ≡ false) × (m ≡ n)
+some_front true n m e = absurd (let z : ◌≡◌ {A = ℕ} 0 1 = cc in omega arith)
+some_front false n m e = (refl, cc)
+
+pub no_front : (b : Bool) (n : ℕ) → ◌≡◌ {A = Option ℕ} None (cond b None (Some n)) → b ≡ true
+no_front true n e = refl
+no_front false n e = absurd (let z : ◌≡◌ {A = ℕ} 0 1 = cc in omega arith)
+
+pub front_by : (form : Form) (o : Outline) (sid : List ℕ) (front : ℕ) → barred form o sid ≡ false → front ≡ lead form o → front ≡ front_of form o sid
+unfolding front_of
+front_by form o sid front b e = e ∙ rw b
+
+-- A result handed on, and what is looked at of a segment that is not barred.
+pub err_number : {A : Type 0} (r : Result A Reason) (e : Reason) → IsErrAnd r (λ y. y ≡ e) → refused_number r ≡ number_of e
+err_number (Ok a) e h = absurd h
+err_number (Err x) e h = ap number_of h
+
+pub none_err : (r : Option ℕ) (x e : Reason) → ◌≡◌ {A = Result ℕ Reason} (Err x) (ok_or r e) → r ≡ None → number_of x ≡ number_of e
+none_err None x e q h = let w : x ≡ e = cc in ap number_of w
+none_err (Some n) x e q h = absurd (let z : ◌≡◌ {A = ℕ} 0 1 = cc in omega arith)
+
+pub looking : (form : Form) (x : Lent) (h : Head) (front n p : ℕ) → Sized form → Readable form → h ≡ head_of_outline form x.outline
+    → barred form x.outline x.sid.now ≡ false → front ≡ lead form x.outline → n ≡ nai_length form h.nt → p ≡ cond x.outline.structured structure_size 0
+    → Looked form (lent_of x) h front n (front + n + p)
+looking form x h front n p sized readable eh b ef en ep =
+    record {
+      sized = sized;
+      readable = readable;
+      typed = x.typed;
+      head = eh;
+      front = front_by form x.outline x.sid.now front b ef;
+      nai = en ∙ ap (λ (h : Head). nai_length form h.nt) eh;
+      whole = rw ep;
+    }
 
 -- tests --------------------------------------------------------------------------------------------------------
 
@@ -127,15 +174,6 @@ done room at e =
 
 -- the octets before an NAI --------------------------------------------------------------------------------------
 
--- A front of no octets is that of a segment that is barred.
-front_zero : {form : Form} → Sized form → (o : Outline) (sid : List ℕ) (front : ℕ) → front ≡ front_of form o sid → eqb front 0 ≡ barred form o sid
-unfolding front_of
-front_zero {form} z o sid front e = go (barred form o sid) e
-  where
-    go : (b : Bool) → front ≡ cond b 0 (lead form o) → eqb front 0 ≡ b
-    go true q = eq-eqb front 0 q
-    go false q = ne_eqb front 0 (λ (w : front ≡ 0). omega (arith, fixed_least z))
-
 front_lead : (form : Form) (o : Outline) (sid : List ℕ) (front : ℕ) → front ≡ front_of form o sid → barred form o sid ≡ false → front ≡ lead form o
 unfolding front_of
 front_lead form o sid front e b = e ∙ cond_no (barred form o sid) 0 (lead form o) b
@@ -191,16 +229,16 @@ nameless_none a b r e z =
     (p.0, (no_refusal b 8 0 p.1).0)
 
 -- 7, by what bars a segment before its NAI.
-pub misfit_unfit : {form : Form} {g : Segment} {h : Head} {front n size : ℕ} → Looked form g h front n size → (ero m : Bool)
-    → m ≡ (eqb front 0 || ((not ero && (g.loose || g.verify)) || not ((g.structured || zeros g.structure) && zeros (drop n g.nai)))) → m ≡ unfit form g ero
+unfit_by : (form : Form) (g : Segment) (ero : Bool) → Typed g
+    → (barred form (outline_of g) g.sid || ((not ero && (g.loose || g.verify)) || not ((g.structured || zeros g.structure) && zeros (drop (nai_length form g.nt) g.nai))))
+    ≡ unfit form g ero
 unfolding unfit barred strayed head_of_segment
-misfit_unfit {form} {g} {h} {front} {n} k ero m e =
+unfit_by form g ero typed =
     let zs = zeros (drop (cond g.hassid form.sid 0) g.sid) in
     let y = (g.structured || zeros g.structure) && zeros (drop (nai_length form g.nt) g.nai) in
     let lv = not ero && (g.loose || g.verify) in
     let fm = foreign form (outline_of g) || malformed (head_of_outline form (outline_of g)) in
-    let q : m ≡ (barred form (outline_of g) g.sid || (lv || not y)) = e ∙ rw (front_zero k.sized (outline_of g) g.sid front k.front, k.nai) in
-    q ∙ go fm (g.structured && not g.hassid) zs lv y ∙ rw (tidy_parts form g k.typed, seven_written form g)
+    go fm (g.structured && not g.hassid) zs lv y ∙ rw (tidy_parts form g typed, seven_written form g)
   where
     go : (fm sh zs lv y : Bool) → ((fm || (sh || not zs)) || (lv || not y)) ≡ (sh || (lv || (not (zs && y) || fm)))
     go true true zs lv y = refl
@@ -214,6 +252,13 @@ misfit_unfit {form} {g} {h} {front} {n} k ero m e =
     go false false true false true = refl
     go false false true false false = refl
     go false false false false y = refl
+
+pub barred_unfit : (form : Form) (g : Segment) (ero : Bool) → Typed g → barred form (outline_of g) g.sid ≡ true → unfit form g ero ≡ true
+barred_unfit form g ero typed b = sym (unfit_by form g ero typed) ∙ rw b
+
+pub misfit_unfit : (form : Form) (g : Segment) (ero m : Bool) (n : ℕ) → Typed g → barred form (outline_of g) g.sid ≡ false → n ≡ nai_length form g.nt
+    → m ≡ ((not ero && (g.loose || g.verify)) || not ((g.structured || zeros g.structure) && zeros (drop n g.nai))) → m ≡ unfit form g ero
+misfit_unfit form g ero m n typed b en e = e ∙ rw en (rw b at (unfit_by form g ero typed))
 
 -- A segment that is not unfit: what stands before its NAI, and how long it is.
 pub record Fits (form : Form) (g : Segment) (front n size : ℕ) : Type 0 where
@@ -309,14 +354,3 @@ no_label_29 form g label e = rw (no_label form g e)
 pub no_label_30 : (form : Form) (g : Segment) (time : ℕ) → g.labelled ≡ false → rule30 (head_of_segment form g) time ≡ false
 unfolding rule30
 no_label_30 form g time e = rw (no_label form g e)
-
--- A segment that is barred before its NAI.
-pub barred_number : {form : Form} {g : Segment} {h : Head} {front n size : ℕ} → Looked form g h front n size → (room : ℕ) (ero : Bool) (at r : ℕ) → front ≡ 0
-    → r ≡ cond (rule8 form h) nai_unknown (cond (rule9 h) nothing_there length_wrong)
-    → r ≡ add_number form g ero at room
-unfolding add_number head_of_segment
-barred_number {form} {g} {front = front} k room ero at r e0 e = e ∙ rw (k.head, go (unfit form g ero) refl)
-  where
-    go : (u : Bool) → unfit form g ero ≡ u → unfit form g ero ≡ true
-    go true q = q
-    go false q = absurd (omega (arith, (fit_lead k.sized ero g front k.front q).0, fixed_least k.sized, e0))

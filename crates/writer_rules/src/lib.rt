@@ -3,4 +3,4 @@
 
 mod refusal;
 
-pub use refusal::{adding_barred, adding_unlabelled, adding_unstructured, finishing};
+pub use refusal::{adding, finishing};

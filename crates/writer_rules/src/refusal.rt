@@ -1,124 +1,100 @@
-// What adding and finishing refuse, as a number; 0 where they do not.
-ghost use Rattle.std.specs.Prelude.{◌≡◌, false, cond};
-ghost use Rattle.answers.specs.Numbers.{length_wrong, nai_unknown, nothing_there};
+// What adding and finishing refuse.
+ghost use Rattle.std.specs.Prelude.{◌≡◌, cond, IfOk};
+ghost use Rattle.answers.specs.Numbers.{nai_unknown, nothing_there};
 ghost use Rattle.forms.specs.Forms.{nai_length};
+ghost use Rattle.subobject.specs.Layout.{structure_size};
 ghost use Rattle.subobject.specs.Rules.{rule8, rule9, flag_f};
-ghost use Rattle.subobject.specs.Segments.{segment_with};
-ghost use Rattle.writer_rules.specs.Refusals.{add_number, finish_number};
+ghost use Rattle.writer_spare.specs.Lending.{lent_of};
+ghost use Rattle.writer_layout.specs.Readable.{Readable};
+ghost use Rattle.writer_rules.specs.Refusals.{refused_number, add_number, finish_number};
 ghost use Rattle.writer_rules.specs.Looked.{Looked};
 
-use forms::Form;
-use subobject::{Head, Outline};
+use answers::Reason;
+use forms::Layout;
+use subobject::Head;
+use writer_layout::Piece;
+use writer_spare::Lent;
 
-// 8, 9, else 0, by the octets of the NAI: a segment with an NAI breaks neither.
-fn nameless(form: Form, h: Head, n: usize) -> usize
-    requires { (n ≡ nai_length form h.nt) × (h.f ≡ flag_f h.nt) }
-    ensures number { result ≡ cond (rule8 form h) nai_unknown (cond (rule9 h) nothing_there 0) }
+// 8 and 9, by the octets of the NAI: a segment with an NAI breaks neither.
+fn nameless<L: Layout>(h: Head, n: usize) -> Result<(), Reason>
+    requires { (n ≡ nai_length L.layout h.nt) × (h.f ≡ flag_f h.nt) }
+    ensures number { refused_number result ≡ cond (rule8 L.layout h) nai_unknown (cond (rule9 h) nothing_there 0) }
 {
     if n != 0 {
-        return 0;
+        return Ok(());
     }
     if subobject_rules::nine(h) {
-        return answers::NOTHING_THERE;
+        return Err(Reason::NothingThere);
     }
     if h.nt != forms::NO_NAI {
-        return answers::NAI_UNKNOWN;
+        return Err(Reason::NaiUnknown);
     }
-    0
+    Ok(())
 }
 
-// Adding what is barred before its NAI: 8, 9, else 7.
-pub fn adding_barred(form: Form, h: Head, n: usize) -> usize
-    requires { (n ≡ nai_length form h.nt) × (h.f ≡ flag_f h.nt) }
-    ensures number { result ≡ cond (rule8 form h) nai_unknown (cond (rule9 h) nothing_there length_wrong) }
+// The octets of a structure, if it is there.
+fn ending(there: bool) -> usize
+    ensures ending { result ≡ cond there structure_size 0 }
 {
-    let first = nameless(form, h, n);
-    if first != 0 {
-        return first;
-    }
-    answers::LENGTH_WRONG
+    if there { subobject::STRUCTURE_SIZE } else { 0 }
 }
 
-// Adding what has no label: 8, 9, 7, 11, then 16. The octets before the NAI, those of the NAI, and all are handed in.
-pub fn adding_unlabelled(
-    form: Form,
-    h: Head,
-    o: Outline,
-    sid: &[u8],
-    nai: &[u8],
-    bits: &[u8],
+// Adding: 8, 9, 7, 11, 29, 30, then 16; else the segment with its parts. What is barred before its NAI leaves by 7, so that the compiler knows what a segment of
+// the form has not.
+pub fn adding<L: Layout>(
+    x: Lent<'_>,
     ero: bool,
     at: usize,
     room: usize,
-    front: usize,
-    n: usize,
-    size: usize,
-) -> usize
-    requires { Looked form (segment_with o sid.now nai.now bits.now) h front n size × (o.labelled ≡ false) }
-    ensures number { result ≡ add_number form (segment_with o sid.now nai.now bits.now) ero at room }
+) -> Result<Piece<'_>, Reason>
+    requires { Readable L.layout }
+    ensures number { refused_number result ≡ add_number L.layout (lent_of x.entry) ero at room }
+    ensures piece { IfOk result (λ p. (lent_of p.lent ≡ lent_of x.entry) × Looked L.layout (lent_of p.lent) p.head p.front p.nai p.size) }
 {
-    let first = nameless(form, h, n);
-    if first != 0 {
-        return first;
+    let Lent {
+        outline,
+        sid,
+        structure,
+        ..
+    } = x;
+    let head = subobject::head_of(L::form(), outline);
+    let nai = writer_front::nai_octets::<L>(head.nt);
+    nameless::<L>(head, nai)?;
+    let front = writer_front::front::<L>(x).ok_or(Reason::LengthWrong)?;
+    if writer_tests::misfit::<L>(x, ero, nai) {
+        return Err(Reason::LengthWrong);
     }
-    if writer_tests::misfit(o, nai, bits, ero, front, n) {
-        return answers::LENGTH_WRONG;
+    if writer_tests::overlong(structure, outline.structured) {
+        return Err(Reason::StructureTooLong);
     }
-    if writer_tests::overlong(bits, o.structured) {
-        return answers::STRUCTURE_TOO_LONG;
+    if writer_tests::label_bad(head, outline.labelled, sid) {
+        return Err(Reason::LabelValue);
     }
+    if writer_tests::time_bad(head, outline.labelled, sid) {
+        return Err(Reason::LabelFormat);
+    }
+    let size = front + nai + ending(outline.structured);
     if writer_tests::crowded(at, room, size) {
-        return answers::BUFFER_FULL;
+        return Err(Reason::BufferFull);
     }
-    0
-}
-
-// Adding what has no structure: 8, 9, 7, 29, 30, then 16.
-pub fn adding_unstructured(
-    form: Form,
-    h: Head,
-    o: Outline,
-    sid: &[u8],
-    nai: &[u8],
-    bits: &[u8],
-    ero: bool,
-    at: usize,
-    room: usize,
-    front: usize,
-    n: usize,
-    size: usize,
-) -> usize
-    requires { Looked form (segment_with o sid.now nai.now bits.now) h front n size × (o.structured ≡ false) }
-    ensures number { result ≡ add_number form (segment_with o sid.now nai.now bits.now) ero at room }
-{
-    let first = nameless(form, h, n);
-    if first != 0 {
-        return first;
-    }
-    if writer_tests::misfit(o, nai, bits, ero, front, n) {
-        return answers::LENGTH_WRONG;
-    }
-    if writer_tests::label_bad(h, o.labelled, sid) {
-        return answers::LABEL_VALUE;
-    }
-    if writer_tests::time_bad(h, o.labelled, sid) {
-        return answers::LABEL_FORMAT;
-    }
-    if writer_tests::crowded(at, room, size) {
-        return answers::BUFFER_FULL;
-    }
-    0
+    Ok(Piece {
+        lent: x,
+        head,
+        front,
+        nai,
+        size,
+    })
 }
 
 // Finishing: 16, else 5.
-pub fn finishing(at: usize, room: usize) -> usize
-    ensures number { result ≡ finish_number at room }
+pub fn finishing(at: usize, room: usize) -> Result<(), Reason>
+    ensures number { refused_number result ≡ finish_number at room }
 {
     if writer_tests::misplaced(at, room) {
-        return answers::BUFFER_FULL;
+        return Err(Reason::BufferFull);
     }
     if at == objects::HEADER {
-        return answers::ROUTE_EMPTY;
+        return Err(Reason::RouteEmpty);
     }
-    0
+    Ok(())
 }

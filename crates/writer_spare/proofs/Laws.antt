@@ -1,12 +1,12 @@
--- Octets that are all 0, four at a time and run by run; which form it is. Four octets make a number that is 0 only if each is (`four_blank`); two runs one behind the other are 0 if both are
--- (`zeros_both`), and so the looks of the code join to what stands behind an NAI of each length. Assumes nothing.
-use Prim.Native.Nat.{ℕ, ◌+◌, ◌≤◌}
+-- Octets that are all 0: four of them, as one number, are 0 if each is (`four_blank`), and two runs one behind the other if both are
+-- (`zeros_both`); what is kept for absent parts (`tidy_parts`). Assumes nothing.
+use Prim.Native.Nat.{ℕ, ◌+◌, ◌-◌, ◌*◌, ◌≤◌}
 use mathlib.Core.Path.{◌≡◌, refl, sym, ◌∙◌, ap}
 use mathlib.Core.Bool.{Bool, true, false, cond, ◌&&◌, ◌||◌}
 use mathlib.Core.List.{List, [], ◌∷◌, ◌++◌}
 use lib.Dec.{eqb}
 use lib.ListN.{length, get_or, take, drop, drop_of_length-le, take-append-drop, length-drop}
-use lib.Seq.{take_all, take-add, drop-drop, get_or-drop}
+use lib.Seq.{take_all, take-add, get_or-drop}
 use native.Mathlib.Nat.{add-zero}
 use borrow.Author.Tests.{eq-eqb, ne_eqb, eqb-true, eqb-false}
 use native.Mathlib.Omega.{arith}
@@ -18,11 +18,9 @@ use Rattle.subobject.specs.declared.segment.Segment.{Segment}
 use Rattle.subobject.specs.Layout.{bit_lengths}
 use Rattle.writer_spare.specs.Typed.{Typed}
 use Rattle.writer_spare.specs.Spare.{zeros, tidy_of}
-use Rattle.writer_spare.specs.NaiSizes.{Known, NaiOctets}
+use Rattle.writer_spare.specs.NaiSizes.{Known}
 
--- four octets as one number ------------------------------------------------------------------------------------
-
--- It is 0 where each octet is.
+-- Four octets make a number that is 0 where each octet is.
 sum_zero : (a b c d : ℕ) → eqb (four_of a b c d) 0 ≡ (eqb a 0 && (eqb b 0 && (eqb c 0 && (eqb d 0 && true))))
 sum_zero a b c d = go (eqb a 0) refl (eqb b 0) refl (eqb c 0) refl (eqb d 0) refl
   where
@@ -63,32 +61,33 @@ zeros_both (x ∷ a) b = go (eqb x 0) (zeros_both a b)
     go true e = e
     go false e = refl
 
--- Two runs one behind the other.
-pub runs : (s : List ℕ) (at m n : ℕ) → zeros (part s at (m + n)) ≡ (zeros (part s at m) && zeros (part s (at + m) n))
-unfolding part
-runs s at m n =
-    let l = drop at s in
-    ap zeros (take-add m n l) ∙ zeros_both (take m l) (take n (drop m l)) ∙ rw (drop-drop m at s)
+-- Octets, and all that stand behind them.
+pub zeros_split : (s : List ℕ) (m : ℕ) → (zeros (take m s) && zeros (drop m s)) ≡ zeros s
+zeros_split s m = sym (zeros_both (take m s) (drop m s)) ∙ ap zeros (take-append-drop m s)
 
--- A run, and all that stands behind it.
-pub run_rest : (s : List ℕ) (at n m : ℕ) → at + n ≡ m → zeros (drop at s) ≡ (zeros (part s at n) && zeros (drop m s))
-unfolding part
-run_rest s at n m e =
-    let l = drop at s in
-    ap zeros (sym (take-append-drop n l)) ∙ zeros_both (take n l) (drop n l) ∙ rw (drop-drop n at s, e)
+-- What is left to look at where the first are 0, and where they are not.
+pub split_true : (s : List ℕ) (m : ℕ) (f e : Bool) → f ≡ zeros (take m s) → f ≡ true → e ≡ zeros (take (length s - m) (drop m s)) → e ≡ zeros s
+split_true s m f e p t q = let k : zeros (take m s) ≡ true = sym p ∙ t in let z = zeros_split s m in q ∙ ap zeros (take_all (length s - m) (drop m s) (omega (arith, length-drop m s))) ∙ rw k at z
 
--- All octets of an array, and none behind its end.
-pub run_all : (s : List ℕ) (n : ℕ) → length s ≡ n → zeros (part s 0 n) ≡ zeros s
-unfolding part
-run_all s n e = rw (take_all n s (omega arith))
+pub split_false : (s : List ℕ) (m : ℕ) (f : Bool) → f ≡ zeros (take m s) → f ≡ false → f ≡ zeros s
+split_false s m f p t = let k : zeros (take m s) ≡ false = sym p ∙ t in let z = zeros_split s m in t ∙ rw k at z
 
-pub run_none : (s : List ℕ) (n : ℕ) → length s ≤ n → true ≡ zeros (drop n s)
-run_none s n h = rw (drop_of_length-le s h)
+-- A loop over fours.
+pub fours_none : (s : List ℕ) → true ≡ zeros (take (4 * 0) s)
+fours_none s = refl
 
--- A run that ends an array.
-pub run_last : (s : List ℕ) (at n m : ℕ) → length s ≡ m → at + n ≡ m → zeros (part s at n) ≡ zeros (drop at s)
+fours_run : (s : List ℕ) (i : ℕ) → (zeros (take (4 * i) s) && zeros (part s (4 * i) 4)) ≡ zeros (take (4 * (i + 1)) s)
 unfolding part
-run_last s at n m e q = rw (take_all n (drop at s) (omega (arith, length-drop at s)))
+fours_run s i =
+    let k : 4 * i + 4 ≡ 4 * (i + 1) = omega arith in
+    sym (zeros_both (take (4 * i) s) (take 4 (drop (4 * i) s))) ∙ ap zeros (sym (take-add (4 * i) 4 s)) ∙ ap (λ (m : ℕ). zeros (take m s)) k
+
+pub fours_more : (s : List ℕ) (i : ℕ) (all : Bool) {n : ℕ} → all ≡ zeros (take (4 * i) s) → n ≡ four_at s (4 * i)
+    → (all && eqb n 0) ≡ zeros (take (4 * (i + 1)) s)
+fours_more s i all e q = rw (e, four_blank s (4 * i) q) (fours_run s i)
+
+pub fours_end : (s : List ℕ) (i n : ℕ) (all : Bool) → i ≤ n → n ≤ i → all ≡ zeros (take (4 * i) s) → all ≡ zeros (take (4 * n) s)
+fours_end s i n all h l e = let q : i ≡ n = omega arith in rw q at e
 
 -- The octets of a part that is there or not.
 pub zeros_there : (b : Bool) (l : List ℕ) (n : ℕ) → length l ≡ n → zeros (drop (cond b n 0) l) ≡ (b || zeros l)
@@ -126,34 +125,3 @@ known_mpls form k b = go (eqb form.setup 1) k
     go : (x : Bool) → cond x mpls_form srv6_form ≡ form → mpls_form ≡ form
     go false e = absurd (let y : ◌≡◌ {A = Bool} true false = ap (λ (f : Form). f.behaves) e ∙ b in let z : ◌≡◌ {A = ℕ} 0 1 = cc in omega arith)
     go true e = e
-
-pub nai_octets_most : {n : ℕ} → NaiOctets n → n ≤ 40
-nai_octets_most NaiOctets.none = omega arith
-nai_octets_most NaiOctets.four = omega arith
-nai_octets_most NaiOctets.eight = omega arith
-nai_octets_most NaiOctets.node = omega arith
-nai_octets_most NaiOctets.adjacency = omega arith
-nai_octets_most NaiOctets.local_link = omega arith
-
-pub nai_octets_four : {n : ℕ} → NaiOctets n → (n ≡ 40 → ⊥) → (n ≡ 0 → ⊥) → (n ≡ 32 → ⊥) → (n ≡ 16 → ⊥) → (n ≡ 8 → ⊥) → n ≡ 4
-nai_octets_four NaiOctets.none a b c d e = absurd (b refl)
-nai_octets_four NaiOctets.four a b c d e = refl
-nai_octets_four NaiOctets.eight a b c d e = absurd (e refl)
-nai_octets_four NaiOctets.node a b c d e = absurd (d refl)
-nai_octets_four NaiOctets.adjacency a b c d e = absurd (c refl)
-nai_octets_four NaiOctets.local_link a b c d e = absurd (a refl)
-
--- what the code finds, from what its looks say -----------------------------------------------------------------
-
-pub blank_eight : (s : List ℕ) (at : ℕ) (a b r : Bool) → a ≡ zeros (part s at 4) → b ≡ zeros (part s (at + 4) 4) → r ≡ (a && b) → r ≡ zeros (part s at 8)
-blank_eight s at a b r ea eb e = e ∙ rw (ea, eb) (sym (runs s at 4 4))
-
-pub blank_sixteen : (s : List ℕ) (at : ℕ) (a b r : Bool) → a ≡ zeros (part s at 8) → b ≡ zeros (part s (at + 8) 8) → r ≡ (a && b) → r ≡ zeros (part s at 16)
-blank_sixteen s at a b r ea eb e = e ∙ rw (ea, eb) (sym (runs s at 8 8))
-
--- A run that is looked at, and what stands behind it.
-pub behind : (s : List ℕ) (at n m : ℕ) (a b r : Bool) → at + n ≡ m → a ≡ zeros (part s at n) → b ≡ zeros (drop m s) → r ≡ (a && b) → r ≡ zeros (drop at s)
-behind s at n m a b r q ea eb e = e ∙ rw (ea, eb) (sym (run_rest s at n m q))
-
-pub last_eight : (s : List ℕ) (a : Bool) → length s ≡ 40 → a ≡ zeros (part s 32 8) → a ≡ zeros (drop 32 s)
-last_eight s a h e = e ∙ run_last s 32 8 40 h refl

@@ -1,3 +1,4 @@
 pub mod Typed
 pub mod Spare
 pub mod NaiSizes
+pub mod Lending

@@ -1,99 +1,84 @@
 // Octets kept for a part that is absent or shorter are 0.
-ghost use Rattle.std.specs.Prelude.{◌&&◌, ◌||◌, ◌≡◌, ◌+◌, ◌≤◌, length, drop};
-ghost use Rattle.octets.specs.Octets.{part};
-ghost use Rattle.subobject.specs.Layout.{nai_size, sid_size, bit_lengths};
+ghost use Rattle.std.specs.Prelude.{◌&&◌, ◌||◌, ◌≡◌, ◌*◌, ◌≤◌, length, take, drop};
+ghost use Rattle.subobject.specs.Layout.{nai_size};
 ghost use Rattle.writer_spare.specs.Spare.{zeros};
-ghost use Rattle.writer_spare.specs.NaiSizes.{NaiOctets, Known};
+ghost use Rattle.writer_spare.specs.Lending.{lent_of};
 
-use forms::Form;
+use super::lent::Lent;
+use forms::Layout;
 
-// Octets are looked at four at a time, as one number; the compiler joins the looks.
-
-// Whether four octets from a place on are 0.
-fn blank4(s: &[u8], at: usize) -> bool
-    requires { at + 4 ≤ length s.now }
-    ensures blank { result ≡ zeros (part s.now at 4) }
+// Whether the octets of the first n fours are 0. A four is one number and the loop has no way out: the compiler joins the numbers and makes one test.
+fn fours_blank(s: &[u8], n: usize) -> bool
+    requires { 4 * n ≤ length s.now }
+    ensures blank { result ≡ zeros (take (4 * n) s.now) }
 {
-    octet_sums::four(s, at) == 0
-}
-
-fn blank8(s: &[u8], at: usize) -> bool
-    requires { at + 8 ≤ length s.now }
-    ensures blank { result ≡ zeros (part s.now at 8) }
-{
-    octets::both(blank4(s, at), blank4(s, at + 4))
-}
-
-fn blank16(s: &[u8], at: usize) -> bool
-    requires { at + 16 ≤ length s.now }
-    ensures blank { result ≡ zeros (part s.now at 16) }
-{
-    octets::both(blank8(s, at), blank8(s, at + 8))
-}
-
-// Whether the octets of four bit lengths are 0 where these are not there.
-fn unused(bits: &[u8], there: bool) -> bool
-    requires { length bits.now ≡ bit_lengths }
-    ensures unused { result ≡ (there || zeros bits.now) }
-{
-    if there {
-        return true;
+    let mut all = true;
+    for i in 0..n {
+        all &= octet_sums::four(s, 4 * i) == 0;
     }
-    blank4(bits, 0)
+    all
+}
+
+// Whether all octets are 0, one by one.
+fn each_blank(s: &[u8]) -> bool
+    ensures blank { result ≡ zeros s.now }
+{
+    s.iter().fold(0, |most: u8, x| most.max(*x)) == 0
+}
+
+// Whether all octets are 0. Where the compiler knows how many there are, none is left behind the fours.
+fn blank(s: &[u8]) -> bool
+    ensures blank { result ≡ zeros s.now }
+{
+    let fours = s.len() / 4;
+    fours_blank(s, fours) && each_blank(&s[4 * fours..])
 }
 
 // Whether all octets kept for a SID are 0.
-pub fn sid_blank(sid: &[u8]) -> bool
-    requires { length sid.now ≡ sid_size }
+pub fn sid_blank(sid: &[u8; 16]) -> bool
     ensures blank { result ≡ zeros sid.now }
 {
-    blank16(sid, 0)
+    blank(sid)
 }
 
 // Whether the octets behind a SID are 0. One of SRv6 fills what is kept for it.
-pub fn sid_tidy(form: Form, sid: &[u8]) -> bool
-    requires { (length sid.now ≡ sid_size) × Known form }
-    ensures tidy { result ≡ zeros (drop form.sid sid.now) }
+pub fn sid_tidy<L: Layout>(sid: &[u8; 16]) -> bool
+    ensures tidy { result ≡ zeros (drop L.layout.sid sid.now) }
 {
-    if form.behaves {
-        return true;
-    }
-    octets::both(blank4(sid, 4), blank8(sid, 8))
+    blank(&sid[usize::from(L::form().sid)..])
 }
 
 // Whether the octets behind an NAI of n octets are 0.
-fn nai_tidy(nai: &[u8], n: usize) -> bool
-    requires { (length nai.now ≡ nai_size) × NaiOctets n }
+fn behind(nai: &[u8; 40], n: usize) -> bool
+    requires { n ≤ nai_size }
+    ensures blank { result ≡ zeros (drop n nai.now) }
+{
+    blank(&nai[n..])
+}
+
+// The same. Each length stands in an arm of its own, so that the compiler knows how many octets there are to look at. It is built for each form by itself, and so into
+// its one caller.
+fn nai_tidy<L: Layout>(nai: &[u8; 40], n: usize) -> bool
+    requires { n ≤ nai_size }
     ensures tidy { result ≡ zeros (drop n nai.now) }
 {
-    if n == forms::LINK_LOCAL_SIZE {
-        return true;
+    match n {
+        0 => behind(nai, 0),
+        forms::IPV4_NODE_SIZE => behind(nai, forms::IPV4_NODE_SIZE),
+        forms::IPV4_ADJACENCY_SIZE => behind(nai, forms::IPV4_ADJACENCY_SIZE),
+        forms::NODE_SIZE => behind(nai, forms::NODE_SIZE),
+        forms::ADJACENCY_SIZE => behind(nai, forms::ADJACENCY_SIZE),
+        forms::LINK_LOCAL_SIZE => behind(nai, forms::LINK_LOCAL_SIZE),
+        _ => behind(nai, n),
     }
-    let last = blank8(nai, 32);
-    if n == 0 {
-        return octets::both(blank16(nai, 0), octets::both(blank16(nai, 16), last));
-    }
-    if n == forms::ADJACENCY_SIZE {
-        return last;
-    }
-    let node = octets::both(blank16(nai, 16), last);
-    if n == forms::NODE_SIZE {
-        return node;
-    }
-    let eight = octets::both(blank8(nai, 8), node);
-    if n == forms::IPV4_ADJACENCY_SIZE {
-        return eight;
-    }
-    octets::both(blank4(nai, 4), eight)
 }
 
 // Whether the octets kept for an NAI of n octets and for four bit lengths are 0 where these do not stand.
-pub fn rest_tidy(nai: &[u8], bits: &[u8], n: usize, structured: bool) -> bool
-    requires { (length nai.now ≡ nai_size) × (length bits.now ≡ bit_lengths) × NaiOctets n }
-    ensures tidy { result ≡ ((structured || zeros bits.now) && zeros (drop n nai.now)) }
+pub fn rest_tidy<L: Layout>(x: Lent<'_>, n: usize) -> bool
+    requires { n ≤ nai_size }
+    ensures tidy { let g = lent_of x.entry in result ≡ ((g.structured || zeros g.structure) && zeros (drop n g.nai)) }
 {
-    if !nai_tidy(nai, n) {
-        return false;
-    }
-    unused(bits, structured)
+    // A variable, since the borrow checker does not follow a lent array that a field shows as a slice.
+    let bits = x.structure;
+    nai_tidy::<L>(x.nai, n) && (x.outline.structured || blank(bits))
 }

@@ -2,7 +2,7 @@
 use Rattle.std.specs.Prelude.{ℕ}
 use Rattle.answers.specs.Verdicts.{refused_by, accepted_with, kept}
 use Rattle.writer_state.specs.declared.Writer.{Writer}
-use Rattle.writer_state.specs.declared.Written.{Written}
+use Rattle.writer_state.specs.Written.{Written}
 
 -- A refusal has its number and place 0, and hands the state back as it was.
 abbrev pub refused_as : ℕ → Writer → Written

@@ -2,7 +2,11 @@
 #![tactic(auto)]
 
 ghost use Rattle.std.specs.Prelude.{◌≡◌};
+ghost use Rattle.answers.specs.Reasons.{number_of};
+ghost use Rattle.writer_state.specs.Written.{written_of};
 ghost use Rattle.writer_state.specs.Answers.{refused_as, accepted_as};
+
+use answers::{Reason, Refusal};
 
 // The setup types of the two forms, as the state keeps them.
 pub const MPLS_SETUP: u8 = objects::MPLS_SETUP as u8;
@@ -17,29 +21,29 @@ pub struct Writer {
     pub form: u8,
 }
 
-// The verdict, and the state for the next call.
+// What a call answers, and the state for the next one. The state stands beside the result and not in its Ok, since a refusal too hands it back.
 #[derive(Clone, Copy)]
 pub struct Written {
-    pub verdict: answers::Verdict,
+    pub answer: Result<(), Refusal>,
     pub writer: Writer,
 }
 
-// A refusal hands the state back as it was.
-pub fn refuse(number: usize, old: Writer) -> Written
-    ensures refused { result ≡ refused_as number old }
+// A refusal, which names no place, hands the state back as it was.
+pub fn refuse(reason: Reason, old: Writer) -> Written
+    ensures refused { written_of result ≡ refused_as (number_of reason) old }
 {
     Written {
-        verdict: answers::refused(number, 0),
+        answer: Err(Refusal { reason, place: 0 }),
         writer: old,
     }
 }
 
 // An acceptance hands on the state that follows.
 pub fn accept(new: Writer) -> Written
-    ensures accepted { result ≡ accepted_as new }
+    ensures accepted { written_of result ≡ accepted_as new }
 {
     Written {
-        verdict: answers::accepted(0),
+        answer: Ok(()),
         writer: new,
     }
 }

@@ -7,18 +7,17 @@ ghost use Rattle.writer_tests.specs.Places.{passes, bad_place};
 pub const MOST_OCTETS: usize = 65532;
 
 // Whether an object of `end` octets passes the end.
+#[tactic(auto, unfolding(crate::specs::Places::passes))]
 pub fn past(end: usize, room: usize) -> bool
     ensures past { result ≡ passes end room }
 {
-    octets::either(room < end, MOST_OCTETS < end)
+    room < end || MOST_OCTETS < end
 }
 
 // Whether a place is bad.
+#[tactic(auto, unfolding(crate::specs::Places::bad_place))]
 pub fn misplaced(at: usize, room: usize) -> bool
     ensures misplaced { result ≡ bad_place at room }
 {
-    octets::either(
-        at < objects::HEADER,
-        octets::either(at % objects::UNIT != 0, past(at, room)),
-    )
+    at < objects::HEADER || at % objects::UNIT != 0 || past(at, room)
 }

@@ -1,44 +1,17 @@
-use Prim.Native.Nat.{ℕ, ◌-◌}
-use native.Mathlib.Omega.{arith}
-use mathlib.Core.Path.{◌∙◌}
-use mathlib.Core.Bool.{Bool}
-use lib.ListN.{get_or}
-use Rattle.board_fits.specs.Fits.{body_b}
-use Rattle.board_extent.proofs.Loops.{count_none, count_more, count_small, count_end, none_fails, all_rest}
-use Rattle.board_places.proofs.Reached.{body_none}
+use mathlib.Core.Path.{refl, ◌∙◌}
+use Rattle.board_extent.proofs.Loops.{all_rest}
+use Rattle.board_places.proofs.Reached.{body_none, key_none, tests_none, tests_more, tests_end}
 use Rattle.board_places.proofs.bodies.Goals as goal
 
 pub loop-i-init : goal.loop-i-init
-loop-i-init c = (omega arith, c.requires.0, count_none _)
-
-pub offset_bounds-lengths-i : goal.offset_bounds-lengths-i
-offset_bounds-lengths-i c = omega arith
-
-pub bounds-lengths-i : goal.bounds-lengths-i
-bounds-lengths-i c = omega arith
-
-pub bounds-forms-i : goal.bounds-forms-i
-bounds-forms-i c = omega arith
-
-pub overflow_add-n : goal.overflow_add-n
-overflow_add-n c =
-    let inv = c.loop-i.invariant in
-    omega (arith, count_small _ _ _ _ (omega (arith, c.loop-i-test.true, inv.1)) inv.2 c.wrong-n.ensures.wrong)
-
-pub overflow_add-i : goal.overflow_add-i
-overflow_add-i c = omega arith
-
-pub loop-i-smaller : goal.loop-i-smaller
-loop-i-smaller c = omega arith
+loop-i-init c = tests_none _
 
 pub loop-i-preserved : goal.loop-i-preserved
-loop-i-preserved c =
-    let inv = c.loop-i.invariant in
-    (omega (arith, c.loop-i-test.true), inv.1, count_more _ _ _ _ inv.2 c.wrong-n.ensures.wrong)
+loop-i-preserved c = tests_more _ _ _ _ c.loop-i.invariant c.fits-all.ensures.fits
 
 pub returns : goal.returns
 returns c =
-    let t : ℕ → Bool = λ j. body_b (get_or c.args.lengths.now j 0) (get_or c.args.forms.now j 0) in record {
-      bodies = none_fails t _ _ (count_end _ _ _ _ c.loop-i.invariant.0 c.loop-i-test.false c.loop-i.invariant.2)
-          ∙ all_rest t _ _ c.requires.0 (body_none c.args.lengths.now c.args.forms.now _ c.requires.1 c.requires.2);
+    record {
+      bodies = tests_end _ _ _ _ c.loop-i.auto.i-end c.loop-i-test.false c.loop-i.invariant
+          ∙ all_rest _ _ _ c.requires.0 (body_none c.args.b.lengths.now c.args.b.forms.now _ c.requires.1 c.requires.2);
     }

@@ -1,19 +1,21 @@
+-- 28, or the report under the limit for this route.
+use mathlib.Core.Path.{refl, ap}
+use mathlib.Core.Bool.{true, false}
+use Rattle.answers.specs.declared.refusal.Refusal.{Refusal}
+use Rattle.answers.specs.Verdicts.{refusal_of}
+use Rattle.board_entry.specs.Parts.{board_in}
 use Rattle.board_report_call.proofs.Laws.{reported_28, reported_under}
-use Rattle.board_record.specs.Table.{table_of}
-use Rattle.board_record.specs.Record.{with_rows}
 use Rattle.board_report_call.proofs.report.Goals as goal
 
-pub returns-then-not-usable : goal.returns-then-not-usable
-returns-then-not-usable c =
-    let args = c.args in let b = with_rows (table_of args.keys.now args.versions.now args.lengths.now args.version.now args.floor.now args.forms.now) args.order.now args.tops.now in record {
-      answer = reported_28 b args.store.now args.key args.octets.now args.sessions args.pst args.addresses.now c.usable.ensures.usable
-          (c.if-not-usable.true) c.refused.ensures.refused;
-    }
+pub returns-then-not-usable-clause-answer : goal.returns-then-not-usable-clause-answer
+returns-then-not-usable-clause-answer c =
+    let args = c.args in
+    reported_28 (board_in args.b.now) args.store.now args.key args.octets.now args.sessions args.pst args.addresses.now {x = false} {v = refusal_of c.into.result}
+    c.if-not-usable.ensures.usable refl (ap (λ (e : Refusal). refusal_of e) c.into.ensures)
 
-pub returns : goal.returns
-returns c =
-    let e = c.report.ensures.answer in let args = c.args in
-    let b = with_rows (table_of args.keys.now args.versions.now args.lengths.now args.version.now args.floor.now args.forms.now) args.order.now args.tops.now in record {
-      answer = reported_under b args.store.now args.key args.octets.now args.sessions args.pst args.addresses.now c.usable.ensures.usable
-          (c.if-not-usable.false) c.under-own.ensures.session c.session_for-here.ensures.session e.0 e.1;
-    }
+pub returns-clause-answer : goal.returns-clause-answer
+returns-clause-answer c =
+    let args = c.args in
+    let e = c.report.ensures.answer in
+    reported_under (board_in args.b.now) args.store.now args.key args.octets.now args.sessions args.pst args.addresses.now {x = true}
+    c.if-not-usable.ensures.usable refl c.under-own.ensures.session c.session_for-here.ensures.session e.0 e.1

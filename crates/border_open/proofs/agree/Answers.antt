@@ -1,7 +1,11 @@
-use Rattle.border_open.proofs.Laws.{agree_told}
-use borrow.Author.Rules.{rules}
+use mathlib.Core.Path.{ap, ◌∙◌}
+use Rattle.border_opened.specs.Opens.{opened_in}
+use Rattle.border_session.specs.Agreed.{sessions_out}
 use Rattle.border_open.proofs.agree.Goals as goal
 
 pub returns : goal.returns
 returns c = let args = c.args in
-    record { sessions = agree_told args.pcc args.pce _ _ _ _ c.opened_in-first.ensures.opened c.opened_in-second.ensures.opened c.agree.ensures.sessions c.sessions_out.ensures.sessions }
+    record {
+      sessions = c.sessions_out.ensures.sessions
+          ∙ ap sessions_out (c.agree.ensures.sessions (opened_in args.pcc) (opened_in args.pce) c.carried_in-first.ensures.carried c.carried_in-second.ensures.carried);
+    }

@@ -2,7 +2,6 @@ use mathlib.Core.Path.{ap, ◌∙◌}
 use Rattle.flag_positions.specs.declared.Positions.{Positions}
 use Rattle.open.specs.Open.{open_of}
 use Rattle.border_opened.specs.Opens.{opened_out}
-use borrow.Author.Rules.{rules}
 use Rattle.border_open.proofs.read_open.Goals as goal
 
 pub returns : goal.returns

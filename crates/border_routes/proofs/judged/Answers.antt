@@ -1,15 +1,14 @@
-use mathlib.Core.Path.{sym, ◌∙◌, ap}
+use mathlib.Core.Path.{refl, sym, ◌∙◌, ap}
 use Rattle.session.specs.declared.Session.{Session}
 use Rattle.route_call.specs.Called.{judged_in}
 use Rattle.border_routes.proofs.Laws.{mpls_judged, srv6_judged}
-use borrow.Author.Rules.{rules}
 use Rattle.border_routes.proofs.judged.Goals as goal
 
 pub returns-then-pst-eq-MPLS_SETUP : goal.returns-then-pst-eq-MPLS_SETUP
 returns-then-pst-eq-MPLS_SETUP c =
     let args = c.args in record {
       judged = mpls_judged args.octets.now args.addresses.now args.kind args.session args.pst c.if-pst-eq-MPLS_SETUP.true
-          c.yes.ensures.yes c.yes-then-pst-eq-MPLS_SETUP.ensures.yes c.yes-then-pst-eq-MPLS_SETUP-2.ensures.yes c.judge_plain.ensures.judged;
+          refl refl c.short_in.ensures.limit c.judge_plain.ensures.judged;
     }
 
 pub returns-then-flagged : goal.returns-then-flagged
@@ -20,5 +19,5 @@ pub returns : goal.returns
 returns c =
     let args = c.args in let none = sym c.flagged.ensures.flagged ∙ c.if-flagged.false in record {
       judged = srv6_judged args.octets.now args.addresses.now args.kind args.session args.pst c.if-pst-eq-MPLS_SETUP.false none
-          c.yes-2.ensures.yes c.yes-3.ensures.yes c.yes-4.ensures.yes c.judge_plain-2.ensures.judged;
+          refl refl c.short_in-2.ensures.limit c.judge_plain-2.ensures.judged;
     }

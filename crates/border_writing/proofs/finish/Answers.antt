@@ -1,6 +1,5 @@
 use Rattle.writer_begin_finish.specs.Ends.{finish_answer, finish_buffer}
 use Rattle.border_writing.proofs.Laws.{by_writer}
-use borrow.Author.Rules.{rules}
 use Rattle.border_writing.proofs.finish.Goals as goal
 
 pub returns : goal.returns

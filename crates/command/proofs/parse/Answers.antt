@@ -1,11 +1,9 @@
--- One law of `Laws` for each of the four ways in which a reading ends. The row's place gives the verb and the form (`verb_named_lem`).
+-- One law of `Laws` for each of the four ways in which a reading ends.
 use Rattle.command.proofs.Laws.{made}
 use Prim.Native.Nat.{ℕ}
 use mathlib.Core.List.{List}
 use Rattle.same_octets.specs.Same.{same_octets}
-use Rattle.command_forms.specs.Forms.{rows, the_ero}
-use Rattle.command_forms.specs.Rows.{place_named, verb_at}
-use Rattle.command_forms.proofs.Laws.{verb_named_lem}
+use Rattle.command_forms.specs.Forms.{the_ero, verb_of}
 use Rattle.command.proofs.Laws.{read_skipped, read_long, read_out_of_form, read_in_form}
 use mathlib.Core.Path.{sym, ◌∙◌, ap}
 use Rattle.command.proofs.parse.Goals as goal
@@ -19,7 +17,7 @@ returns-then-line-gt-LONGEST_LINE c = record
 
 pub returns-then-not-is_formed : goal.returns-then-not-is_formed
 returns-then-not-is_formed c =
-    let e = ap verb_at (c.place_named-place.ensures.place ∙ ap (place_named rows) c.word.ensures.word.0) ∙ verb_named_lem _ in record {
+    let e = c.named-verb.ensures.verb ∙ ap verb_of c.word.ensures.word.0 in record {
       read = c.alone-then-not-is_formed.ensures.bare
           ∙ read_out_of_form _
           (sym c.is_skipped.ensures.skipped ∙ c.if-is_skipped.false)
@@ -28,11 +26,11 @@ returns-then-not-is_formed c =
     }
 
 pub returns : goal.returns
+unfolding same_octets
 returns c =
-    let e = ap verb_at (c.place_named-place.ensures.place ∙ ap (place_named rows) c.word.ensures.word.0)
-    ∙ verb_named_lem _ in record {
-      read = made _ (c.verb_at-verb.ensures.verb ∙ e)
-          (c.same-ero.ensures.same
+    let e = c.named-verb.ensures.verb ∙ ap verb_of c.word.ensures.word.0 in record {
+      read = made _ e
+          (c.eq-ero.ensures
           ∙ ap (λ (w : List ℕ). same_octets w the_ero) c.word-2.ensures.word.0)
           c.number_at-one.ensures.number c.number_at-two.ensures.number
           c.number_at-three.ensures.number c.number_at-four.ensures.number

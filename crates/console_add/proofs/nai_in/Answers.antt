@@ -5,14 +5,13 @@ use lib.ListN.{replicate}
 use Prim.Native.Nat.{ℕ}
 use mathlib.Core.List.{List}
 use mathlib.Core.Path.{◌∙◌, ap}
-use borrow.Author.Rules.{rules}
 use Rattle.console_add.proofs.nai_in.Goals as goal
 
 pub returns : goal.returns
 unfolding part_of part nai_in
 returns c =
     record {
-      nai = c.part40.ensures.part
+      nai = c.part.ensures.part
           ∙ ap (λ (x : List ℕ). over x (replicate 40 0))
           (spelled _ _ c.octets_at-n.ensures.octets);
       room = c.octets_at-n.ensures.room;

@@ -2,7 +2,6 @@ use Rattle.console_add.proofs.Laws.{segment_made}
 use Rattle.decimal.specs.Decimal.{is_none, structure_of}
 use mathlib.Core.Path.{◌∙◌, ap}
 use native.Mathlib.Omega.{arith}
-use borrow.Author.Rules.{rules}
 use Rattle.console_add.proofs.segment_in.Goals as goal
 
 pub overflow_cast-result : goal.overflow_cast-result
@@ -17,8 +16,8 @@ shape_of-room c = c.nai_in-nai.ensures.room ∙ c.sid_in-sid.ensures.room
 pub returns : goal.returns
 returns c =
     record {
-      segment = segment_made c.args.c
-          c.args.line.now c.sid_in-sid.ensures.sid
+      segment = segment_made c.args.line.command
+          c.args.line.octets.now c.sid_in-sid.ensures.sid
           c.nai_in-nai.ensures.nai
           (c.is_none.ensures.none ∙ ap is_none c.word-2.ensures.word.0)
           (c.is_none-2.ensures.none ∙ ap is_none c.word-3.ensures.word.0)

@@ -9,8 +9,9 @@ use Rattle.console_board_rows.proofs.changed.Goals as goal
 pub returns-in-Report : goal.returns-in-Report
 returns-in-Report c =
     let a = c.args in
+    let e = c.listed-addresses.ensures.listed in
     let turn = by_change (λ (y : Changing). changed_turn y a.b a.store.now a.c a.line.now a.sessions (list_in a.memory.now a.given))
-    c.in-Report.is c.reported.ensures.board c.reported.ensures.store c.reported.ensures.told in
+    c.in-Report.is (rw e at c.reported.ensures.board) (rw e at c.reported.ensures.store) (rw e at c.reported.ensures.told) in
     record { board = turn.0; store = turn.1.0; told = turn.1.1 }
 
 pub returns-in-Remove : goal.returns-in-Remove

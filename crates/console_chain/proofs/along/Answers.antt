@@ -1,6 +1,6 @@
 use Prim.Native.Nat.{◌-◌}
 use native.Mathlib.Omega.{arith}
-use mathlib.Core.Path.{refl, sym, ◌∙◌}
+use mathlib.Core.Path.{◌≡◌, refl, sym, ◌∙◌}
 use Rattle.console_chain.proofs.Laws.{along_none, along_more, along_stop, along_end}
 use Rattle.console_chain.proofs.along.Goals as goal
 
@@ -13,9 +13,6 @@ shape_of-laid-then-n-eq0 c = c.loop-i.invariant.2.long ∙ sym c.requires.1
 pub returns-then-n-eq0 : goal.returns-then-n-eq0
 returns-then-n-eq0 c = let inv = c.loop-i.invariant in record { named = along_stop _ _ _ _ inv.2 inv.0 c.loop-i-test.true refl c.if-n-eq0.true; within = inv.1 }
 
-pub bounds-laid-i : goal.bounds-laid-i
-bounds-laid-i c = omega (arith, c.loop-i.invariant.2.long, c.loop-i-test.true)
-
 pub loop-i-preserved : goal.loop-i-preserved
 loop-i-preserved c =
     let inv = c.loop-i.invariant in
@@ -26,4 +23,7 @@ pub shape_of-laid : goal.shape_of-laid
 shape_of-laid c = c.loop-i.invariant.2.long ∙ sym c.requires.1
 
 pub returns : goal.returns
-returns c = let inv = c.loop-i.invariant in record { named = along_end _ _ _ inv.2 inv.0 c.loop-i-test.false; within = inv.1 }
+returns c =
+    let inv = c.loop-i.invariant in
+    let e : c.loop-i.i ≡ 128 = omega (arith, inv.1, c.loop-i-test.false) in
+    record { named = rw e at (along_end _ _ _ inv.2 inv.0 c.loop-i-test.false); within = omega arith }

@@ -7,6 +7,3 @@ use Rattle.console_chain.proofs.along.Given as goal
 
 abbrev pub invariant-loop-i : goal.invariant-loop-i
 invariant-loop-i l = (length l.order ≡ places) × (l.i ≤ places) × Along l.order l.laid l.i
-
-abbrev pub decreases-loop-i : goal.decreases-loop-i
-decreases-loop-i l = places - l.i

@@ -1,5 +1,4 @@
 use Rattle.console_routes.proofs.Laws.{list_laid}
-use borrow.Author.Rules.{rules}
 use Rattle.console_routes.proofs.addressed.Goals as goal
 
 pub returns : goal.returns

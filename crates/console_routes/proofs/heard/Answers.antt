@@ -2,7 +2,6 @@ use Rattle.console_routes.specs.RouteLines.{open_in}
 use Rattle.console_state.proofs.Laws.{spelled}
 use Rattle.open.specs.Open.{open_of}
 use mathlib.Core.Path.{◌∙◌, ap}
-use borrow.Author.Rules.{rules}
 use Rattle.console_routes.proofs.heard.Goals as goal
 
 pub returns : goal.returns

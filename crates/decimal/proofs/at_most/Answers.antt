@@ -1,7 +1,10 @@
-use mathlib.Core.Path.{◌∙◌}
-use Rattle.decimal.specs.Decimal.{number_of, is_at_most}
+use Rattle.decimal.proofs.Laws.{small_number}
+use Rattle.std.specs.Option.{MatchOption}
+use Rattle.std.proofs.Common.{◌≡◌, false, rules}
+use lib.Dec.{leb}
 use Rattle.decimal.proofs.at_most.Goals as goal
 
 pub returns : goal.returns
-unfolding number_of is_at_most
-returns c = record { small = c.both.ensures.both ∙ rw c.spelled-n.ensures.number }
+returns c =
+    let h : MatchOption c.number.result (c.is_some_and.result ≡ false) (λ n. c.is_some_and.result ≡ leb n c.args.most) = search rules in
+    record { small = small_number _ _ _ _ c.number.ensures.number h }

@@ -1,6 +1,6 @@
-use Rattle.decimal.specs.Decimal.{number_of, is_at_most}
+use Rattle.decimal.proofs.Laws.{some_number}
+use Rattle.std.proofs.Common.{◌∙◌}
 use Rattle.decimal.proofs.is_number.Goals as goal
 
 pub returns : goal.returns
-unfolding number_of is_at_most
-returns c = record { number = cc }
+returns c = record { number = c.is_some.ensures ∙ some_number _ _ c.number.ensures.number }

@@ -1,6 +1,6 @@
-use Rattle.decimal.specs.Decimal.{number_of, is_at_most}
+use Rattle.decimal.proofs.Laws.{which_number}
+use Rattle.std.proofs.Common.{◌∙◌}
 use Rattle.decimal.proofs.value.Goals as goal
 
 pub returns : goal.returns
-unfolding number_of is_at_most
-returns c = record { value = cc }
+returns c = record { value = c.unwrap_or.ensures ∙ which_number _ _ c.number.ensures.number }

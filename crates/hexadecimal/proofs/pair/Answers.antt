@@ -1,7 +1,7 @@
 use Rattle.hexadecimal.specs.Hexadecimal.{pair_of}
-use Prim.Native.Nat.{◌-◌}
+use Rattle.std.proofs.Common.{arith}
 use Rattle.hexadecimal.proofs.pair.Goals as goal
 
 pub returns : goal.returns
 unfolding pair_of
-returns c = record { pair = rw (c.hex_code-2.ensures.code.0, c.hex_code.ensures.code.0) }
+returns c = record { pair = omega arith }

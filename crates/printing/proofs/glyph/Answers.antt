@@ -1,13 +1,14 @@
 use Rattle.printing.specs.Text.{glyph_of}
+use Rattle.std.proofs.Common.{◌≡◌, ◌+◌, ◌-◌, arith}
 use borrow.Author.Tests.{lt-ltb, le-ltb}
-use Prim.Native.Nat.{◌-◌}
-use borrow.Author.Rules.{rules}
 use Rattle.printing.proofs.glyph.Goals as goal
 
-pub returns-then-d-lt10 : goal.returns-then-d-lt10
+pub returns-in-0-to-9 : goal.returns-in-0-to-9
 unfolding glyph_of
-returns-then-d-lt10 c = record { glyph = rw (lt-ltb _ _ c.if-d-lt10.true) }
+returns-in-0-to-9 c = record { glyph = rw (lt-ltb c.args.d 10 (omega arith)) }
 
-pub returns-else-d-lt10 : goal.returns-else-d-lt10
+pub returns-in_default : goal.returns-in_default
 unfolding glyph_of
-returns-else-d-lt10 c = record { glyph = rw (le-ltb _ _ c.if-d-lt10.false) }
+returns-in_default c =
+    let e : 65 + (c.args.d - 10) ≡ 55 + c.args.d = omega arith in
+    record { glyph = rw (e, le-ltb c.args.d 10 (omega arith)) }

@@ -2,8 +2,4 @@ use Rattle.route_limit.proofs.Laws.{place_told}
 use Rattle.route_limit.proofs.local_place.Goals as goal
 
 pub returns : goal.returns
-returns c =
-    record {
-      place = place_told c.args.flags c.srv6-form.ensures.form c.wide-fixed.ensures.same.0 c.wide-sid.ensures.same.0
-          c.flag.ensures.flag.0 c.pick.ensures.picked.0 c.pick.ensures.picked.1;
-    }
+returns c = record { place = place_told c.args.flags c.srv6-form.ensures.form c.from.ensures c.flag.ensures.flag.0 c.sid_length.ensures.length }

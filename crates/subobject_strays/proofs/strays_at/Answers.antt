@@ -31,14 +31,14 @@ reserved_two-fixed-requires c = (
 pub with_structure-requires : goal.with_structure-requires
 with_structure-requires c = (
   structure_end c.args.form c.args.h c.args.at _ _ _ _ _ c.structured.ensures.structured
-      c.if-structured.true c.requires.0 c.wide.ensures.same.0 c.wide-then-structured.ensures.same.0 c.nai_length-nai.ensures.length.0,
+      c.if-structured.true c.requires.0 c.from.ensures c.from-then-structured.ensures c.nai_length-nai.ensures.length.0,
   c.stray_flags-flags.ensures.flags.1,
 )
 
 pub returns-then-structured : goal.returns-then-structured
 returns-then-structured c =
-    let flags = c.stray_flags-flags.ensures.flags.0 in let fixed = c.reserved_two-fixed.ensures.two in let a = c.wide.ensures.same.0 in
-    let b = c.wide-then-structured.ensures.same.0 in let n = c.nai_length-nai.ensures.length.0 in record {
+    let flags = c.stray_flags-flags.ensures.flags.0 in let fixed = c.reserved_two-fixed.ensures.two in let a = c.from.ensures in
+    let b = c.from-then-structured.ensures in let n = c.nai_length-nai.ensures.length.0 in record {
       strays = c.with_structure.ensures.strays
           ∙ strays_structured c.args.form c.args.h c.args.s.now c.args.at _ _ flags fixed _ (λ i. c.args.at + a i + b i + n i + 4)
           (sym c.structured.ensures.structured ∙ c.if-structured.true);

@@ -1,24 +1,24 @@
 use Rattle.tlvs.proofs.Laws.{at_none, at_torn, at_whole}
-use native.Mathlib.Omega.{arith}
 use Rattle.tlvs.proofs.item_at.Goals as goal
+use Rattle.tlvs.proofs.item_at.Goals.{then-short, else-short}
 
-pub returns-then-room-lt-TLV_HEAD : goal.returns-then-room-lt-TLV_HEAD
-returns-then-room-lt-TLV_HEAD c = record { exact = at_none _ _ _ _ c.if-room-lt-TLV_HEAD.true; within = tt }
+pub returns-then-room-lt-TLV_HEAD-clause-exact : goal.returns-then-room-lt-TLV_HEAD-clause-exact
+returns-then-room-lt-TLV_HEAD-clause-exact c = at_none _ _ _ _ c.if-room-lt-TLV_HEAD.true
 
-pub returns-then-room-needed : goal.returns-then-room-needed
-returns-then-room-needed c =
-    let a = c.args in record {
-      exact = at_torn a.s.now a.at a.end a.short c.read16-kind.ensures.number.0
-          c.read16-len.ensures.number.0 c.padded-padded.ensures.padded.0
-          c.needed.ensures.needed.0 c.if-room-lt-TLV_HEAD.false c.if-room-needed.true;
-      within = tt;
-    }
+pub returns-then-room-needed-clause-exact : goal.returns-then-room-needed-clause-exact
+returns-then-room-needed-clause-exact c =
+    let a = c.args in
+    at_torn a.s.now a.at a.end a.short {needed = c.if-short.needed} c.read16-kind.ensures.number.0 c.read16-len.ensures.number.0 c.padded-padded.ensures.padded.0
+    (elim c.if-short.branch [
+      | then-short w ↦ rw (w.needed-is, w.if-short.true)
+      | else-short w ↦ rw (w.needed-is, w.if-short.false)
+    ]) c.if-room-lt-TLV_HEAD.false c.if-room-needed.true
 
-pub returns : goal.returns
-returns c =
-    let a = c.args in record {
-      exact = at_whole a.s.now a.at a.end a.short c.read16-kind.ensures.number.0
-          c.read16-len.ensures.number.0 c.padded-padded.ensures.padded.0
-          c.needed.ensures.needed.0 c.if-room-lt-TLV_HEAD.false c.if-room-needed.false;
-      within = omega arith;
-    }
+pub returns-clause-exact : goal.returns-clause-exact
+returns-clause-exact c =
+    let a = c.args in
+    at_whole a.s.now a.at a.end a.short {needed = c.if-short.needed} c.read16-kind.ensures.number.0 c.read16-len.ensures.number.0 c.padded-padded.ensures.padded.0
+    (elim c.if-short.branch [
+      | then-short w ↦ rw (w.needed-is, w.if-short.true)
+      | else-short w ↦ rw (w.needed-is, w.if-short.false)
+    ]) c.if-room-lt-TLV_HEAD.false c.if-room-needed.false

@@ -25,5 +25,5 @@ returns c =
       answer = simp (le-ltb _ _ c.if-buf-lt-HEADER.false)
           (c.accept.ensures.accepted ∙ ap (λ (f : ℕ). accepted_as (record { ero = a.ero; at = 4; form = f })) c.kept_form.ensures.form);
       buffer = simp (le-ltb _ _ c.if-buf-lt-HEADER.false)
-          (header_stored a.buf.now a.ero c.pick.result c.pick.ensures.picked.0 c.if-buf-lt-HEADER.false);
+          (header_stored a.buf.now a.ero c.class.result c.class.ensures.class c.if-buf-lt-HEADER.false);
     }

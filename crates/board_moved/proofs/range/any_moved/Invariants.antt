@@ -7,7 +7,4 @@ use Rattle.board_moved.proofs.Ranges.{Still}
 use Rattle.board_moved.proofs.range.any_moved.Given as goal
 
 abbrev pub invariant-loop-g : goal.invariant-loop-g
-invariant-loop-g l = (l.g ≤ groups) × (in_tops l.versions l.tops ≡ true) × Still l.keys l.versions l.from l.to l.v (group * l.g)
-
-abbrev pub decreases-loop-g : goal.decreases-loop-g
-decreases-loop-g l = groups - l.g
+invariant-loop-g l = (l.g ≤ groups) × (in_tops l.b.versions.now l.b.tops.now ≡ true) × Still l.b.keys.now l.b.versions.now l.from l.to l.v (group * l.g)

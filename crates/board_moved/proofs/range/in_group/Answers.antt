@@ -15,7 +15,7 @@ pub returns-then-is_moved : goal.returns-then-is_moved
 returns-then-is_moved c =
     let a = c.args in record {
       moved = sym (any_of _ group _ c.loop-j-test.true
-          (sym (place_moved a.keys.now a.versions.now a.from a.to a.v _ _ _ _ refl refl c.is_moved.ensures.moved) ∙ c.if-is_moved.true));
+          (sym (place_moved a.b.keys.now a.b.versions.now a.from a.to a.v _ _ _ _ refl refl c.is_moved.ensures.moved) ∙ c.if-is_moved.true));
     }
 
 pub loop-j-preserved : goal.loop-j-preserved
@@ -25,7 +25,7 @@ loop-j-preserved c =
       loop.invariant.0,
       omega (arith, c.loop-j-test.true),
       any_more _ _ loop.invariant.2
-          (sym (place_moved a.keys.now a.versions.now a.from a.to a.v _ _ _ _ refl refl c.is_moved.ensures.moved) ∙ c.if-is_moved.false),
+          (sym (place_moved a.b.keys.now a.b.versions.now a.from a.to a.v _ _ _ _ refl refl c.is_moved.ensures.moved) ∙ c.if-is_moved.false),
     )
 
 pub returns : goal.returns

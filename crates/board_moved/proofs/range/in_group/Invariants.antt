@@ -7,7 +7,4 @@ use Rattle.board_record.specs.Search.{moved_b}
 use Rattle.board_moved.proofs.range.in_group.Given as goal
 
 abbrev pub invariant-loop-j : goal.invariant-loop-j
-invariant-loop-j l = (l.g < groups) × (l.j ≤ group) × (any_below (λ k. moved_b l.keys l.versions l.from l.to l.v (group * l.g + k)) l.j ≡ false)
-
-abbrev pub decreases-loop-j : goal.decreases-loop-j
-decreases-loop-j l = group - l.j
+invariant-loop-j l = (l.g < groups) × (l.j ≤ group) × (any_below (λ k. moved_b l.b.keys.now l.b.versions.now l.from l.to l.v (group * l.g + k)) l.j ≡ false)

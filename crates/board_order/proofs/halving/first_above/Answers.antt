@@ -1,38 +1,14 @@
-use native.Mathlib.Omega.{arith}
-use Prim.Native.Nat.{◌-◌}
-use mathlib.Core.Path.{refl, sym, ◌∙◌}
-use Rattle.board_order.proofs.Halves.{between_all, between_down, between_up, between_done}
+use Rattle.std.proofs.Common.{rules}
+use Rattle.std.proofs.lemmas.List.Sorted.{IsPartitionPoint-from_clause}
+use Rattle.board_order.proofs.Halves.{in_reach, in_reach_place, in_reach_none, in_reach_first, partition_is}
 use Rattle.board_order.proofs.halving.first_above.Goals as goal
 
-pub loop-low-init : goal.loop-low-init
-loop-low-init c = between_all _ _ _
-
-pub overflow_add-middle : goal.overflow_add-middle
-overflow_add-middle c = omega (arith, c.loop-low.invariant.most, c.loop-low.invariant.ordered)
-
-pub above-requires : goal.above-requires
-above-requires c = (c.requires.0, c.requires.1, omega (arith, c.loop-low.invariant.most, c.loop-low-test.true))
-
-pub loop-low-smaller-then-above : goal.loop-low-smaller-then-above
-loop-low-smaller-then-above c = omega (arith, c.loop-low-test.true)
-
-pub loop-low-preserved-then-above : goal.loop-low-preserved-then-above
-loop-low-preserved-then-above c =
-    between_down _ _ _ c.requires.2 _ _ _
-    c.loop-low.invariant c.loop-low-test.true refl
-    (sym c.above.ensures.above ∙ c.if-above.true)
-
-pub overflow_add-low : goal.overflow_add-low
-overflow_add-low c = omega (arith, c.loop-low.invariant.most, c.loop-low-test.true)
-
-pub loop-low-smaller : goal.loop-low-smaller
-loop-low-smaller c = omega (arith, c.loop-low-test.true)
-
-pub loop-low-preserved : goal.loop-low-preserved
-loop-low-preserved c =
-    between_up _ _ _ c.requires.2 _ _ _
-    c.loop-low.invariant c.loop-low-test.true refl
-    (sym c.above.ensures.above ∙ c.if-above.false)
-
 pub returns : goal.returns
-returns c = record { first = between_done _ _ _ _ _ c.loop-low.invariant c.loop-low-test.false }
+returns c =
+    let b = c.args.b in
+    record {
+      first =
+          partition_is b.versions.now b.order.now c.args.w _ (search rules) c.partition_point.ensures.bound
+          (IsPartitionPoint-from_clause (in_reach b.versions.now b.order.now c.args.w) _ _ c.partition_point.ensures.partitioned
+          (in_reach_first b.versions.now b.order.now c.args.w c.requires (search rules)) (λ a r f' k. search (rules, in_reach_place, in_reach_none)));
+    }

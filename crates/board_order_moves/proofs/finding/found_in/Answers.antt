@@ -1,19 +1,14 @@
-use Prim.Native.Nat.{◌-◌}
 use native.Mathlib.Omega.{arith}
-use mathlib.Core.Path.{◌∙◌}
-use Rattle.board_order_moves.proofs.Lasts.{last_none, last_more, last_end}
+use mathlib.Core.Path.{sym, ◌∙◌}
+use Rattle.board_record.specs.Search.{place_in}
+use Rattle.board_order_moves.proofs.Finds.{looked_all}
 use Rattle.board_order_moves.proofs.finding.found_in.Goals as goal
 
-pub loop-i-init : goal.loop-i-init
-loop-i-init c = (c.requires, omega arith, last_none _)
+pub returns-then-first-lt-NOWHERE-clause-found : goal.returns-then-first-lt-NOWHERE-clause-found
+unfolding place_in
+returns-then-first-lt-NOWHERE-clause-found c = c.from.ensures ∙ looked_all _ _ _ c.loop-i-test.false c.loop-i.invariant
 
-pub loop-i-preserved : goal.loop-i-preserved
-loop-i-preserved c =
-    let loop = c.loop-i in (
-      loop.invariant.0,
-      omega (arith, c.loop-i-test.true),
-      last_more _ _ _ _ _ loop.invariant.2 c.if_same.ensures.same c.larger-last.ensures.larger,
-    )
-
-pub returns : goal.returns
-returns c = let loop = c.loop-i in record { found = c.wide.ensures.same.0 ∙ last_end _ _ _ loop.invariant.1 c.loop-i-test.false loop.invariant.2 }
+pub returns-else-first-lt-NOWHERE-clause-found : goal.returns-else-first-lt-NOWHERE-clause-found
+unfolding place_in
+returns-else-first-lt-NOWHERE-clause-found c =
+    omega (arith, looked_all _ _ _ c.loop-i-test.false c.loop-i.invariant, c.loop-i.invariant.most, c.if-first-lt-NOWHERE.false)

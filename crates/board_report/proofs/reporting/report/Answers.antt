@@ -1,173 +1,97 @@
--- The board decides, then stores. Each refusal is one law of the table (`report_not_board`, `report_refused`) and one of the record, the acceptance two others;
--- between them every need of a store is met by what the passed rules say (`passed`); the record is what `enter` leaves, the store what `lay` does.
+-- Each way out is one law of the record (`report_none`, `report_refusal`, `report_done`); every need of a store is met by what the passed rules say (`report_passed`) and by what an accepted
+-- route has (`report_fits`); the record is what `enter` leaves, the store what `lay` does.
 use native.Mathlib.Omega.{arith}
-use mathlib.Core.Path.{refl, sym}
-use mathlib.Core.Bool.{true, false}
-use Rattle.board_record.specs.Table.{table_of}
-use Rattle.board_record.specs.Record.{with_rows}
+use mathlib.Core.Path.{◌≡◌, refl, ap, ◌∙◌}
+use mathlib.Core.Bool.{true}
+use Rattle.std.proofs.lemmas.Grind.{common_steps}
+use Rattle.answers.specs.declared.refusal.Refusal.{Refusal}
+use Rattle.answers.specs.declared.verdict.Verdict.{Verdict}
+use Rattle.answers.specs.Verdicts.{refusal_of, verdict_of}
+use Rattle.board_record.specs.Lent.{board_lent}
+use Rattle.board_record.specs.Record.{table_in}
+use Rattle.board_rules.specs.OnRecord.{result_of}
 use Rattle.board_rules.proofs.Told.{board_proper}
-use Rattle.board_rules.proofs.OnRecord.{record_is, tidy_order, tidy_tops, result_not, result_refused, result_accepted, store_not, store_on}
-use Rattle.board_report.proofs.Reports.{passed, body_there, form_small, report_not_board, store_not_board, report_verdict_lem, report_refused, store_refused}
-use Rattle.board_report.proofs.Reports.{report_accepted, store_accepted, report_room, lay_fits}
-use mathlib.Core.Path.{ap}
-use mathlib.Core.Bool.{not}
-use borrow.Author.Rules.{rules}
+use Rattle.board_rules.proofs.OnRecord.{record_is, tidy_order, tidy_tops}
+use Rattle.board_entry.specs.Parts.{board_in}
+use Rattle.board_report.proofs.Reports.{report_none, report_board, report_refusal, report_passed, report_fits, report_lies, report_done}
 use Rattle.board_report.proofs.reporting.report.Goals as goal
 
-pub returns-then-not-is_board : goal.returns-then-not-is_board
-returns-then-not-is_board c =
-    let args = c.args in let t = table_of args.keys.now args.versions.now args.lengths.now args.version.now args.floor.now args.forms.now in
-    let b = with_rows t args.order.now args.tops.now in record {
-      answer = (
-        result_not b _ _ _ _ c.is_board.ensures.board (ap not c.if-not-is_board.true) c.refused.ensures.refused
-            (λ e. report_not_board t args.store.now args.key args.octets.now args.session args.pst false _ (sym e) refl c.refused.ensures.refused),
-        store_not b args.store.now args.key args.octets.now args.session args.pst _ _ c.is_board.ensures.board (ap not c.if-not-is_board.true)
-            (λ e. store_not_board t args.store.now args.key args.octets.now args.session args.pst false (sym e) refl),
-      );
-    }
+pub returns-then-not-is_board-clause-answer : goal.returns-then-not-is_board-clause-answer
+returns-then-not-is_board-clause-answer c =
+    let b = board_in c.args.b.now in
+    let w = report_none (board_in c.args.b.now) (board_lent c.lent-lent.result) c.lent-lent.ensures.lent c.args.store.now c.args.key c.args.octets.now c.args.session c.args.pst
+    c.if-not-is_board.ensures.board in
+    (ap (λ (e : Refusal). result_of (refusal_of e) b) c.into.ensures ∙ w.0, w.1)
 
-pub target-at-requires : goal.target-at-requires
-target-at-requires c =
-    let args = c.args in
-    let t = table_of args.keys.now args.versions.now args.lengths.now args.version.now args.floor.now args.forms.now in
-    let b = with_rows t args.order.now args.tops.now in
-    let h = record_is b _ _ c.is_board.ensures.board (ap not c.if-not-is_board.false) in
-    board_proper t _ h.0
+pub target-place-requires : goal.target-place-requires
+target-place-requires c =
+    let l = board_lent c.lent-lent.result in
+    board_proper (table_in l) _ (record_is l _ true c.if-not-is_board.ensures.board refl).0
 
-pub returns-then-verdict-ne0 : goal.returns-then-verdict-ne0
-returns-then-verdict-ne0 c =
-    let args = c.args in let t = table_of args.keys.now args.versions.now args.lengths.now args.version.now
-    args.floor.now args.forms.now in let b = with_rows t args.order.now args.tops.now in
-    let h = record_is b _ _ c.is_board.ensures.board (ap not c.if-not-is_board.false) in let v = report_verdict_lem t args.store.now args.key args.octets.now args.session args.pst true _ _ _ _
-    (sym h.0) refl c.target-at.ensures.target
-    c.body_size-n.ensures.size c.judge.ensures.judged
-    c.report_rules-verdict.ensures.first in record {
-      answer = (
-        result_refused b _ _ h.1
-            (report_refused t args.store.now args.key args.octets.now args.session args.pst _ v
-            c.if-verdict-ne0.true) c.if-verdict-ne0.true,
-        store_on b args.store.now args.key args.octets.now args.session args.pst _ h.1
-            (store_refused t args.store.now args.key args.octets.now args.session args.pst _ v
-            c.if-verdict-ne0.true),
-      );
-    }
-
-pub floor_after-raised-requires : goal.floor_after-raised-requires
-floor_after-raised-requires c =
-    let rules = c.report_rules-verdict in
-    let judge = c.judge in
-    let size = c.body_size-n in
-    let target = c.target-at in
-    let args = c.args in
-    let g = passed args.key judge.result size.result args.version.now target.result _ rules.ensures.first
-    c.if-verdict-ne0.false in
-    g.place
+pub returns-in_err-at-clause-answer : goal.returns-in_err-at-clause-answer
+returns-in_err-at-clause-answer c =
+    let b = board_in c.args.b.now in
+    let r = c.in_err-at.field-0.0 in
+    let e : verdict_of c.from_residual.result ≡ refusal_of r = grind (arith, common_steps) in
+    let w = report_refusal (board_in c.args.b.now) (board_lent c.lent-lent.result) c.lent-lent.ensures.lent c.args.store.now c.args.key c.args.octets.now c.args.session c.args.pst
+    c.if-not-is_board.ensures.board c.saturating_sub-n.result c.saturating_sub-n.ensures c.judge-route.result c.judge-route.ensures.judged c.target-place.result c.target-place.ensures.target
+    c.target-place.ensures.within r c.in_err-at.ensures.first in
+    (ap (λ (v : Verdict). result_of v b) e ∙ w.0, w.1)
 
 pub overflow_cast-key : goal.overflow_cast-key
 overflow_cast-key c =
-    let rules = c.report_rules-verdict in
-    let judge = c.judge in
-    let size = c.body_size-n in
-    let target = c.target-at in
-    let args = c.args in
-    let g = passed args.key judge.result size.result args.version.now target.result _ rules.ensures.first c.if-verdict-ne0.false in
+    let g = report_passed (board_in c.args.b.now) (board_lent c.lent-lent.result) c.lent-lent.ensures.lent c.args.store.now c.args.key c.args.octets.now c.args.session c.args.pst
+    c.if-not-is_board.ensures.board c.saturating_sub-n.result c.saturating_sub-n.ensures c.judge-route.result c.judge-route.ensures.judged c.target-place.result c.target-place.ensures.target
+    c.target-place.ensures.within c.in_ok-at.at c.in_ok-at.ensures.place c.in_ok-at.counts c.in_ok-at.ensures.first in
     omega (arith, g.key)
 
 pub overflow_cast-n : goal.overflow_cast-n
 overflow_cast-n c =
-    let rules = c.report_rules-verdict in
-    let judge = c.judge in
-    let size = c.body_size-n in
-    let target = c.target-at in
-    let args = c.args in
-    let g = passed args.key judge.result size.result args.version.now target.result _ rules.ensures.first c.if-verdict-ne0.false in
+    let g = report_passed (board_in c.args.b.now) (board_lent c.lent-lent.result) c.lent-lent.ensures.lent c.args.store.now c.args.key c.args.octets.now c.args.session c.args.pst
+    c.if-not-is_board.ensures.board c.saturating_sub-n.result c.saturating_sub-n.ensures c.judge-route.result c.judge-route.ensures.judged c.target-place.result c.target-place.ensures.target
+    c.target-place.ensures.within c.in_ok-at.at c.in_ok-at.ensures.place c.in_ok-at.counts c.in_ok-at.ensures.first in
     omega (arith, g.size)
 
 pub overflow_cast-pst : goal.overflow_cast-pst
 overflow_cast-pst c =
-    let rules = c.report_rules-verdict in
-    let judge = c.judge in
-    let size = c.body_size-n in
-    let target = c.target-at in
-    let args = c.args in
-    let g = passed args.key judge.result size.result args.version.now target.result _ rules.ensures.first c.if-verdict-ne0.false in
-    let z = form_small args.octets.now args.session args.pst _ judge.ensures.judged g.route_taken in
-    omega arith
+    let g = report_fits (board_in c.args.b.now) (board_lent c.lent-lent.result) c.lent-lent.ensures.lent c.args.store.now c.args.key c.args.octets.now c.args.session c.args.pst
+    c.if-not-is_board.ensures.board c.saturating_sub-n.result c.saturating_sub-n.ensures c.judge-route.result c.judge-route.ensures.judged c.target-place.result c.target-place.ensures.target
+    c.target-place.ensures.within c.in_ok-at.at c.in_ok-at.ensures.place c.in_ok-at.counts c.in_ok-at.ensures.first in
+    omega (arith, g.1)
 
 pub enter-requires : goal.enter-requires
 enter-requires c =
-    let rules = c.report_rules-verdict in
-    let judge = c.judge in
-    let size = c.body_size-n in
-    let target = c.target-at in
-    let args = c.args in
-    let t = table_of args.keys.now args.versions.now args.lengths.now args.version.now args.floor.now args.forms.now in
-    let b = with_rows t args.order.now args.tops.now in
-    let h = record_is b _ _ c.is_board.ensures.board (ap not c.if-not-is_board.false) in
-    let g = passed args.key judge.result size.result args.version.now target.result _ rules.ensures.first c.if-verdict-ne0.false in
-    (board_proper t _ h.0, tidy_order b h.1, tidy_tops b h.1, g.place, λ e. omega (arith, g.low))
-
-pub start_of-requires : goal.start_of-requires
-start_of-requires c =
-    let rules = c.report_rules-verdict in
-    let judge = c.judge in
-    let size = c.body_size-n in
-    let target = c.target-at in
-    let args = c.args in
-    let g = passed args.key judge.result size.result args.version.now target.result _ rules.ensures.first c.if-verdict-ne0.false in
-    g.place
+    let b = board_in c.args.b.now in
+    let h = report_board (board_in c.args.b.now) (board_lent c.lent-lent.result) c.lent-lent.ensures.lent c.args.store.now c.args.key c.args.octets.now c.args.session c.args.pst
+    c.if-not-is_board.ensures.board in
+    let g = report_passed (board_in c.args.b.now) (board_lent c.lent-lent.result) c.lent-lent.ensures.lent c.args.store.now c.args.key c.args.octets.now c.args.session c.args.pst
+    c.if-not-is_board.ensures.board c.saturating_sub-n.result c.saturating_sub-n.ensures c.judge-route.result c.judge-route.ensures.judged c.target-place.result c.target-place.ensures.target
+    c.target-place.ensures.within c.in_ok-at.at c.in_ok-at.ensures.place c.in_ok-at.counts c.in_ok-at.ensures.first in
+    (board_proper (table_in b) _ h.0, tidy_order b h.1, tidy_tops b h.1, g.place, λ e. omega (arith, g.low))
 
 pub slice_bounds-lay-count : goal.slice_bounds-lay-count
 slice_bounds-lay-count c =
-    let rules = c.report_rules-verdict in
-    let judge = c.judge in
-    let size = c.body_size-n in
-    let target = c.target-at in
-    let args = c.args in
-    let g = passed args.key judge.result size.result args.version.now target.result _ rules.ensures.first c.if-verdict-ne0.false in
-    let z = body_there args.octets.now args.session args.pst _ judge.ensures.judged g.route_taken in
-    omega arith
+    let g = report_fits (board_in c.args.b.now) (board_lent c.lent-lent.result) c.lent-lent.ensures.lent c.args.store.now c.args.key c.args.octets.now c.args.session c.args.pst
+    c.if-not-is_board.ensures.board c.saturating_sub-n.result c.saturating_sub-n.ensures c.judge-route.result c.judge-route.ensures.judged c.target-place.result c.target-place.ensures.target
+    c.target-place.ensures.within c.in_ok-at.at c.in_ok-at.ensures.place c.in_ok-at.counts c.in_ok-at.ensures.first in
+    omega (arith, g.0)
 
 pub slice_bounds-lay-start : goal.slice_bounds-lay-start
 slice_bounds-lay-start c =
-    let rules = c.report_rules-verdict in
-    let judge = c.judge in
-    let size = c.body_size-n in
-    let target = c.target-at in
-    let args = c.args in
-    let g = passed args.key judge.result size.result args.version.now target.result _ rules.ensures.first c.if-verdict-ne0.false in
-    let z = body_there args.octets.now args.session args.pst _ judge.ensures.judged g.route_taken in
-    omega arith
+    let g = report_fits (board_in c.args.b.now) (board_lent c.lent-lent.result) c.lent-lent.ensures.lent c.args.store.now c.args.key c.args.octets.now c.args.session c.args.pst
+    c.if-not-is_board.ensures.board c.saturating_sub-n.result c.saturating_sub-n.ensures c.judge-route.result c.judge-route.ensures.judged c.target-place.result c.target-place.ensures.target
+    c.target-place.ensures.within c.in_ok-at.at c.in_ok-at.ensures.place c.in_ok-at.counts c.in_ok-at.ensures.first in
+    omega (arith, g.0)
 
 pub lay-requires : goal.lay-requires
 lay-requires c =
-    let rules = c.report_rules-verdict in
-    let judge = c.judge in
-    let size = c.body_size-n in
-    let target = c.target-at in
-    let args = c.args in
-    let t = table_of args.keys.now args.versions.now args.lengths.now args.version.now args.floor.now args.forms.now in
-    let b = with_rows t args.order.now args.tops.now in
-    let h = record_is b _ _ c.is_board.ensures.board (ap not c.if-not-is_board.false) in
-    let g = passed args.key judge.result size.result args.version.now target.result _ rules.ensures.first c.if-verdict-ne0.false in
-    lay_fits args.store.now args.octets.now _ _ _ size.ensures.size g.size
-    (report_room t args.store.now args.key args.octets.now args.session args.pst true _ (sym h.0) refl g.place) c.start_of.ensures.start
+    report_lies (board_in c.args.b.now) (board_lent c.lent-lent.result) c.lent-lent.ensures.lent c.args.store.now c.args.key c.args.octets.now c.args.session c.args.pst
+    c.if-not-is_board.ensures.board c.saturating_sub-n.result c.saturating_sub-n.ensures c.judge-route.result c.judge-route.ensures.judged c.target-place.result c.target-place.ensures.target
+    c.target-place.ensures.within c.in_ok-at.at c.in_ok-at.ensures.place c.in_ok-at.counts c.in_ok-at.ensures.first _ c.start_of.ensures.start
 
-pub returns : goal.returns
-returns c =
-    let rules = c.report_rules-verdict in let judge = c.judge in let size = c.body_size-n in let target = c.target-at in let args = c.args in
-    let t = table_of args.keys.now args.versions.now args.lengths.now args.version.now args.floor.now args.forms.now in
-    let b = with_rows t args.order.now args.tops.now in let h = record_is b _ _ c.is_board.ensures.board (ap not c.if-not-is_board.false) in
-    let yes = c.if-verdict-ne0.false in let enter = c.enter in let raised = c.floor_after-raised in
-    let v = report_verdict_lem t args.store.now args.key args.octets.now args.session args.pst true _ _ _ _
-    (sym h.0) refl target.ensures.target size.ensures.size judge.ensures.judged rules.ensures.first in record {
-      answer = (
-        result_accepted b _ _ _ _ _ h.1
-            (report_accepted t args.store.now args.key args.octets.now args.session args.pst _ _ _ _ _ v
-            yes target.ensures.target size.ensures.size (raised.ensures.floor args.lengths.now args.forms.now args.version.now) enter.ensures.table)
-            yes enter.ensures.rows.0 enter.ensures.rows.1,
-        store_on b args.store.now args.key args.octets.now args.session args.pst _ h.1
-            (store_accepted t args.store.now args.key args.octets.now args.session args.pst _ _ _ _ v
-            yes target.ensures.target c.start_of.ensures.start c.lay.ensures.laid),
-      );
-    }
+pub returns-clause-answer : goal.returns-clause-answer
+returns-clause-answer c =
+    report_done (board_in c.args.b.now) (board_lent c.lent-lent.result) c.lent-lent.ensures.lent c.args.store.now c.args.key c.args.octets.now c.args.session c.args.pst
+    c.if-not-is_board.ensures.board c.saturating_sub-n.result c.saturating_sub-n.ensures c.judge-route.result c.judge-route.ensures.judged c.target-place.result c.target-place.ensures.target
+    c.target-place.ensures.within c.in_ok-at.at c.in_ok-at.ensures.place c.in_ok-at.counts c.in_ok-at.ensures.first
+    _ _ _ _ _ _ c.floor_after-raised.ensures.floor c.enter.ensures.table c.enter.ensures.rows.0 c.enter.ensures.rows.1 c.start_of.ensures.start c.lay.ensures.laid

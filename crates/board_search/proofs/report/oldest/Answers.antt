@@ -1,42 +1,38 @@
 use native.Mathlib.Omega.{arith}
-use Prim.Native.Nat.{◌-◌}
-use Rattle.board_search.proofs.Tracks.{tracks_none, tracks_more, below, oldest_done}
+use mathlib.Core.Logic.{inl, inr}
+use Rattle.board_search.proofs.Tracks.{least_none, least_skip, least_first, least_less, least_keep, bare_no, bare_yes, oldest_done}
 use Rattle.board_search.proofs.report.oldest.Goals as goal
+use Rattle.board_search.proofs.report.oldest.Goals.{then-b-i, else-b-i, then-b-i-ne0-via-then-b-i-ne0, then-b-i-ne0-via-else-b-i-ne0+then-b-i-eq0}
 
 pub loop-i-init : goal.loop-i-init
-loop-i-init c = (omega arith, rw c.no_best-best.ensures.none (tracks_none _ _))
+loop-i-init c = (least_none _ _, tt)
 
-pub offset_bounds-versions-i : goal.offset_bounds-versions-i
-offset_bounds-versions-i c = omega arith
-
-pub bounds-versions-i : goal.bounds-versions-i
-bounds-versions-i c = omega arith
-
-pub offset_bounds-lengths-i : goal.offset_bounds-lengths-i
-offset_bounds-lengths-i c = omega arith
-
-pub bounds-lengths-i : goal.bounds-lengths-i
-bounds-lengths-i c = omega arith
-
-pub overflow_add-i : goal.overflow_add-i
-overflow_add-i c = omega arith
-
-pub loop-i-smaller : goal.loop-i-smaller
-loop-i-smaller c = omega arith
-
-pub loop-i-preserved : goal.loop-i-preserved
-loop-i-preserved c = (
-  omega arith,
-  tracks_more _ _ _ _ _ c.loop-i.invariant.1
-      c.loop-i-test.true
-      (below c.args.keys.now c.args.versions.now c.args.lengths.now
-      c.args.version c.args.floor c.args.forms.now c.requires _ c.loop-i-test.true)
-      c.older-best.ensures.better,
+pub loop-i-preserved-then-b-i-ne0 : goal.loop-i-preserved-then-b-i-ne0
+loop-i-preserved-then-b-i-ne0 c = (
+  elim c.then-b-i-ne0.branch [
+    | then-b-i-ne0-via-then-b-i-ne0 w ↦ least_skip _ _ _ _ (bare_no _ _ (inl w.if-b-i-ne0.true)) c.loop-i.invariant.0
+    | then-b-i-ne0-via-else-b-i-ne0+then-b-i-eq0 w ↦ least_skip _ _ _ _ (bare_no _ _ (inr w.if-b-i-eq0.true)) c.loop-i.invariant.0
+  ],
+  c.loop-i.invariant.1,
 )
 
-pub returns : goal.returns
-returns c =
-    let args = c.args in record {
-      oldest = oldest_done args.keys.now args.versions.now args.lengths.now args.version args.floor args.forms.now
-          c.requires _ _ c.loop-i.invariant.1 c.loop-i.invariant.0 c.loop-i-test.false;
-    }
+pub loop-i-preserved-in_default : goal.loop-i-preserved-in_default
+loop-i-preserved-in_default c = (
+  least_first _ _ _ (bare_yes _ _ c.if-b-i-ne0.false c.if-b-i-eq0.false) (rw c.in_default.is at c.loop-i.invariant.0),
+  c.loop-i-test.true,
+)
+
+pub loop-i-preserved : goal.loop-i-preserved
+loop-i-preserved c =
+    let e = rw c.in-Some.is at c.loop-i.invariant.0 in
+    let l = rw c.in-Some.is at c.loop-i.invariant.1 in
+    elim c.if-b-i.branch [
+      | then-b-i w ↦ rw w.best-is
+          (least_less _ _ _ _ (bare_yes _ _ c.if-b-i-ne0.false c.if-b-i-eq0.false) e l w.if-b-i.true, c.loop-i-test.true)
+      | else-b-i w ↦ rw w.best-is (least_keep _ _ _ _ e l w.if-b-i.false, l)
+    ]
+
+pub returns-clause-oldest : goal.returns-clause-oldest
+returns-clause-oldest c =
+    let b = c.args.b in
+    oldest_done b.keys.now b.versions.now b.lengths.now b.version b.floor b.forms.now c.requires _ _ c.loop-i.invariant.0 c.loop-i.auto.i-end c.loop-i-test.false

@@ -1,11 +1,14 @@
-use Prim.Native.Nat.{◌≤◌, ◌-◌}
+use mathlib.Core.Path.{◌≡◌}
+use Prim.Native.Nat.{◌<◌}
 use lib.ListN.{get_or}
-use Rattle.board_search.specs.Best.{bare}
-use Rattle.board_search.proofs.Tracks.{Tracks}
+use Rattle.std.proofs.Common.{IfSome}
+use Rattle.std.specs.Option.{unwrap_or}
+use Rattle.board_record.specs.Sizes.{places}
+use Rattle.board_record.specs.Search.{least_where}
+use Rattle.board_search.specs.Oldest.{bare}
 use Rattle.board_search.proofs.report.oldest.Given as goal
 
 abbrev pub invariant-loop-i : goal.invariant-loop-i
-invariant-loop-i l = (l.i ≤ 128) × Tracks (λ j. bare (get_or l.versions j 0) (get_or l.lengths j 0)) (λ j. get_or l.versions j 0) l.i l.best
-
-abbrev pub decreases-loop-i : goal.decreases-loop-i
-decreases-loop-i l = 128 - l.i
+invariant-loop-i l =
+    (unwrap_or l.best places ≡ least_where (λ j. bare (get_or l.b.versions.now j 0) (get_or l.b.lengths.now j 0)) (λ j. get_or l.b.versions.now j 0) l.i)
+    × IfSome l.best (λ p. p < places)

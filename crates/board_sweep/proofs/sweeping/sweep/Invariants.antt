@@ -8,6 +8,3 @@ use Rattle.board_sweep.proofs.sweeping.sweep.Given as goal
 
 abbrev pub invariant-loop-i : goal.invariant-loop-i
 invariant-loop-i l = (l.i ≤ 128) × Sweeping l.initial.keys l.initial.versions l.lengths l.c l.i l.keys l.versions × (l.dropped ≡ false → (l.keys ≡ l.initial.keys) × (l.versions ≡ l.initial.versions))
-
-abbrev pub decreases-loop-i : goal.decreases-loop-i
-decreases-loop-i l = 128 - l.i

@@ -1,6 +1,5 @@
 use Rattle.border_board.proofs.Laws.{told}
-use borrow.Author.Rules.{rules}
 use Rattle.border_board.proofs.taking.compact.Goals as goal
 
 pub returns : goal.returns
-returns c = record { answer = told _ _ _ _ c.compact-v.ensures.answer c.verdict_out.ensures.verdict }
+returns c = record { parts = c.compact-answer.ensures.parts; answer = told _ _ _ _ c.compact-answer.ensures.answer c.passed_out.ensures.answer }

@@ -1,5 +1,4 @@
 use Rattle.octets.proofs.Tests.{tests}
-use borrow.Author.Rules.{rules}
 use Rattle.border_opened.proofs.opened.form_out.Goals as goal
 
 pub returns-then-form-lt256 : goal.returns-then-form-lt256

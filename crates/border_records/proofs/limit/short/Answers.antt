@@ -1,5 +1,4 @@
-use borrow.Author.Rules.{rules}
 use Rattle.border_records.proofs.limit.short.Goals as goal
 
-pub returns-in-Most : goal.returns-in-Most
-returns-in-Most c = record { short = rw c.in-Most.is c.cut.ensures.cut }
+pub returns-in-Some : goal.returns-in-Some
+returns-in-Some c = record { short = rw c.in-Some.is c.cut.ensures.cut }

@@ -1,4 +1,11 @@
 use Rattle.console_board.proofs.change.compacted.Goals as goal
 
-pub returns : goal.returns
-returns c = record { board = rw (← c.compact-a.ensures.answer); told = rw (← c.compact-a.ensures.answer) c.plain.ensures.told }
+pub returns-in-Ok : goal.returns-in-Ok
+returns-in-Ok c =
+    let e = c.in-Ok.ensures.answer in
+    record { board = rw (← e); told = rw (← e) c.plain.ensures.told }
+
+pub returns-in-Err : goal.returns-in-Err
+returns-in-Err c =
+    let e = c.in-Err.ensures.answer in
+    record { board = rw (← e); told = rw (← e) c.plain-in-Err.ensures.told }

@@ -4,10 +4,30 @@ use Rattle.board_report_by_value.specs.ByValue.{report_by_value, report_store_by
 use mathlib.Core.Path.{◌∙◌}
 use Rattle.console_board.proofs.change.reported.Goals as goal
 
-pub counted-requires : goal.counted-requires
-counted-requires c = omega (arith, c.requires.1)
+pub returns-in-Ok : goal.returns-in-Ok
+returns-in-Ok c =
+    let a = c.args in
+    let r = a.r in
+    let k = r.line.command in
+    let s = spelled _ _ c.octets_at-n.ensures.octets in
+    let t = c.in-Ok.ensures in
+    let e = t.answer ∙ (λ i. report_by_value a.b a.store.now k.one (s i) r.sessions k.two r.addresses.now) in
+    record {
+      board = rw (← e);
+      store = t.stored ∙ (λ i. report_store_by_value a.b a.store.now k.one (s i) r.sessions k.two r.addresses.now);
+      told = rw (← e) c.counted.ensures.told;
+    }
 
-pub returns : goal.returns
-returns c = let a = c.args in let s = spelled _ _ c.octets_at-n.ensures.octets in let l = c.listed-list.ensures.listed in
-    let e = c.report-a.ensures.answer ∙ (λ i. report_by_value a.b a.store.now a.c.one (s i) a.sessions a.c.two (l i)) in
-    record { board = rw (← e); store = c.report-a.ensures.stored ∙ (λ i. report_store_by_value a.b a.store.now a.c.one (s i) a.sessions a.c.two (l i)); told = rw (← e) c.counted.ensures.told }
+pub returns-in-Err : goal.returns-in-Err
+returns-in-Err c =
+    let a = c.args in
+    let r = a.r in
+    let k = r.line.command in
+    let s = spelled _ _ c.octets_at-n.ensures.octets in
+    let t = c.in-Err.ensures in
+    let e = t.answer ∙ (λ i. report_by_value a.b a.store.now k.one (s i) r.sessions k.two r.addresses.now) in
+    record {
+      board = rw (← e);
+      store = t.stored ∙ (λ i. report_store_by_value a.b a.store.now k.one (s i) r.sessions k.two r.addresses.now);
+      told = rw (← e) c.counted-in-Err.ensures.told;
+    }

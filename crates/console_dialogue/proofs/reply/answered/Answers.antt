@@ -1,5 +1,6 @@
 -- A row's turn is the call's of its group (`proofs/Rows`): which verb was read is known from the row (`verb_in_lem`), the command and the sessions from `parse` and `agree`, and each arm's
 -- return hands these and what its call ensures to the law of its group.
+use Rattle.session.proofs.Laws.{agreed_results}
 use Rattle.console_dialogue.proofs.TurnLaws.{does, composed_does}
 use Rattle.console_dialogue.proofs.Rows.{verb_in_lem, asks_does, writes_row, changes_does, looks_does}
 use Rattle.console_writer_rows.specs.Written.{written_turn}
@@ -51,7 +52,8 @@ returns-in-Asks c =
     let x = c.in-Asks.x in
     record {
       done = asks_does x a.state parse.result a.store.now a.memory.now a.line.now a.n parse.ensures.read
-          (verb_in_lem (r.Asks x) c.row_of-row.ensures.row c.in-Asks.is) c.ended-in-Asks.ensures.ended c.agree-s.ensures.sessions c.asked.ensures.told;
+          (verb_in_lem (r.Asks x) c.row_of-row.ensures.row c.in-Asks.is) c.ended-in-Asks.ensures.ended
+          (agreed_results _ _ c.ok.ensures.value c.ok-2.ensures.value c.agree-s.ensures.sessions) c.asked.ensures.told;
     }
 
 pub returns-in-Writes : goal.returns-in-Writes
@@ -76,7 +78,8 @@ returns-in-Changes c =
     let x = c.in-Changes.x in
     record {
       done = changes_does x a.state parse.result a.store.now a.memory.now a.line.now a.n parse.ensures.read
-          (verb_in_lem (r.Changes x) c.row_of-row.ensures.row c.in-Changes.is) c.boarded.ensures.ended c.agree-s.ensures.sessions
+          (verb_in_lem (r.Changes x) c.row_of-row.ensures.row c.in-Changes.is) c.boarded.ensures.ended
+          (agreed_results _ _ c.ok.ensures.value c.ok-2.ensures.value c.agree-s.ensures.sessions)
           call.ensures.board call.ensures.store call.ensures.told;
     }
 

@@ -2,7 +2,6 @@ use Rattle.writer_begin_finish.specs.Ends.{begin_answer, begin_buffer}
 use Prim.Native.Nat.{ℕ}
 use mathlib.Core.List.{List}
 use mathlib.Core.Path.{◌∙◌, ap}
-use borrow.Author.Rules.{rules}
 use Rattle.console_writer.proofs.begin.fresh.Goals as goal
 
 pub returns : goal.returns

@@ -1,25 +1,28 @@
+use Rattle.answers.specs.Verdicts.{refusal_of, accepted_with}
+use Rattle.answers.proofs.Results.{numbered}
 use Rattle.console_writer.specs.WriterLines.{finish_line}
 use Rattle.console_state.proofs.Laws.{told_refused, told_accepted, take_fit}
 use Rattle.console_lines.specs.Lines.{octets_line}
 use lib.ListN.{take}
-use borrow.Author.Rules.{rules}
+use mathlib.Core.Path.{refl}
 use Rattle.console_writer.proofs.end.close.Goals as goal
 
-pub returns-then-v-ne0 : goal.returns-then-v-ne0
+pub returns-in-Err : goal.returns-in-Err
 unfolding finish_line
-returns-then-v-ne0 c =
+returns-in-Err c =
     let w = c.finish-w in
+    let e = c.in-Err.refusal in
     record {
       writer = rw (← w.ensures.answer);
       buffer = w.ensures.buffer;
-      told = rw (← w.ensures.answer, ← w.ensures.buffer)
-          (told_refused w.result.verdict (octets_line (take w.result.writer.at w.new.buf))
-          c.if-v-ne0.true c.refusal.ensures.told);
+      told = rw (← w.ensures.answer, ← w.ensures.buffer, c.in-Err.is)
+          (told_refused (refusal_of e) (octets_line (take w.result.writer.at w.new.buf))
+          (numbered e.reason) (rw c.number.ensures.number at c.refusal.ensures.told));
     }
 
-pub returns : goal.returns
+pub returns-in-Ok : goal.returns-in-Ok
 unfolding finish_line
-returns c =
+returns-in-Ok c =
     let w = c.finish-w in
     record {
       writer = rw (← w.ensures.answer);
@@ -27,8 +30,9 @@ returns c =
       told = rw (
         ← w.ensures.answer,
         ← w.ensures.buffer,
+        c.in-Ok.is,
         ← take_fit w.result.writer.at w.new.buf c.fit-n.ensures.cut,
       )
-          (told_accepted w.result.verdict (octets_line (take c.fit-n.result w.new.buf))
-          c.if-v-ne0.false c.octets.ensures.told);
+          (told_accepted (accepted_with 0) (octets_line (take c.fit-n.result w.new.buf))
+          refl c.octets.ensures.told);
     }

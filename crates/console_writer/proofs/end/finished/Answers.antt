@@ -4,7 +4,6 @@ use Rattle.writer_begin_finish.specs.Ends.{finish_buffer}
 use Prim.Native.Nat.{ℕ}
 use mathlib.Core.List.{List}
 use mathlib.Core.Path.{◌∙◌, ap, sym}
-use borrow.Author.Rules.{rules}
 use Rattle.console_writer.proofs.end.finished.Goals as goal
 
 pub returns : goal.returns

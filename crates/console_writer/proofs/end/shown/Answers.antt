@@ -1,5 +1,4 @@
 use Rattle.console_state.proofs.Laws.{take_fit}
-use borrow.Author.Rules.{rules}
 use Rattle.console_writer.proofs.end.shown.Goals as goal
 
 pub returns : goal.returns

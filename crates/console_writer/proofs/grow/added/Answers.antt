@@ -6,7 +6,6 @@ use lib.ListN.{take}
 use Prim.Native.Nat.{ℕ}
 use mathlib.Core.List.{List}
 use mathlib.Core.Path.{◌∙◌, ap, sym}
-use borrow.Author.Rules.{rules}
 use Rattle.console_writer.proofs.grow.added.Goals as goal
 
 pub returns : goal.returns

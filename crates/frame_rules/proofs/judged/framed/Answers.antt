@@ -1,22 +1,22 @@
 -- What the pass gathered answers as the checks do (`frame_by`); each return then rewrites `by_facts` by the tests made before it.
 use native.Mathlib.Omega.{arith}
-use mathlib.Core.Path.{◌≡◌, sym, ◌∙◌}
-use borrow.Author.Tests.{eq-eqb, ne_eqb}
+use mathlib.Core.Path.{◌≡◌, sym, ◌∙◌, ap}
+use mathlib.Core.Bool.{false, not}
+use borrow.Author.Tests.{eq-eqb, ne_eqb, not-true, not-false}
 use Rattle.octets.specs.Octets.{be16}
-use Rattle.answers.specs.Numbers.{frame_broken, route_empty, kinds_mixed, none_of_form}
-use Rattle.answers.specs.Verdicts.{refused_by, accepted_with}
+use Rattle.answers.specs.Numbers.{route_empty, kinds_mixed, none_of_form}
+use Rattle.answers.specs.Verdicts.{refused_by, accepted_with, refusal_of}
+use Rattle.frame.specs.Gathered.{gathered, no_facts}
 use Rattle.frame.proofs.Laws.{headed_sized}
 use Rattle.frame_rules.proofs.Laws.{header_broken, frame_by, by_facts}
-use mathlib.Core.Path.{ap}
-use mathlib.Core.Bool.{not}
 use Rattle.frame_rules.proofs.judged.framed.Goals as goal
 
 pub returns-then-not-is_headed : goal.returns-then-not-is_headed
-returns-then-not-is_headed c = record { framed = c.refused.ensures.refused ∙ header_broken _ _ _ _ c.is_headed.ensures.headed (ap not c.if-not-is_headed.true) }
+returns-then-not-is_headed c = record { framed = ap refusal_of c.into.ensures ∙ header_broken _ _ _ _ c.is_headed.ensures.headed (ap not c.if-not-is_headed.true) }
 
-pub look-g-requires : goal.look-g-requires
+pub look-requires : goal.look-requires
 unfolding be16
-look-g-requires c =
+look-requires c =
     let h = headed_sized c.args.ero c.args.s.now
     (sym c.is_headed.ensures.headed ∙ c.if-not-is_headed.false) in (
       h.low,
@@ -25,65 +25,40 @@ look-g-requires c =
       rw (← c.octet.ensures.octet.0) c.kind-first.ensures.kind,
     )
 
-pub returns-then-not-g : goal.returns-then-not-g
-returns-then-not-g c =
-    let e : refused_by frame_broken 0 ≡ by_facts c.look-g.result = rw c.if-not-g.true in record {
-      framed = c.refused-then-not-g.ensures.refused
-          ∙ e
-          ∙ frame_by _ _ _ _ _ c.is_headed.ensures.headed
-          (ap not c.if-not-is_headed.false) c.look-g.ensures.facts;
+pub returns-in_default : goal.returns-in_default
+returns-in_default c =
+    record {
+      framed = ap refusal_of c.into-in_default.ensures
+          ∙ frame_by _ _ _ _ (no_facts false) c.is_headed.ensures.headed (ap not c.if-not-is_headed.false) c.in_default.ensures.facts;
     }
 
 pub returns-then-g-eq0 : goal.returns-then-g-eq0
 returns-then-g-eq0 c =
-    let e : refused_by route_empty 0 ≡ by_facts c.look-g.result = rw
-    (c.if-not-g.false, eq-eqb _ _ c.if-g-eq0.true) in record {
-      framed = c.refused-then-g-eq0.ensures.refused
-          ∙ e
-          ∙ frame_by _ _ _ _ _ c.is_headed.ensures.headed
-          (ap not c.if-not-is_headed.false) c.look-g.ensures.facts;
-    }
+    let e : refused_by route_empty 0 ≡ by_facts (gathered c.in-Some.g) = rw (eq-eqb _ _ c.if-g-eq0.true) in
+    record { framed = ap refusal_of c.into-then-g-eq0.ensures ∙ e ∙ frame_by _ _ _ _ _ c.is_headed.ensures.headed (ap not c.if-not-is_headed.false) c.in-Some.ensures.facts }
 
-pub returns-then-both : goal.returns-then-both
-returns-then-both c =
-    let e : refused_by kinds_mixed c.look-g.result.other ≡ by_facts c.look-g.result = rw (
-      c.if-not-g.false,
-      ne_eqb _ _ c.if-g-eq0.false,
-      ← c.both.ensures.both,
-      c.if-both.true,
-    ) in record {
-      framed = c.refused-then-both.ensures.refused
-          ∙ e
-          ∙ frame_by _ _ _ _ _ c.is_headed.ensures.headed
-          (ap not c.if-not-is_headed.false) c.look-g.ensures.facts;
-    }
+pub returns-then-not-g : goal.returns-then-not-g
+returns-then-not-g c =
+    let e : refused_by none_of_form 0 ≡ by_facts (gathered c.in-Some.g) = rw (ne_eqb _ _ c.if-g-eq0.false, not-true c.in-Some.g.any c.if-not-g.true) in
+    record { framed = ap refusal_of c.into-then-not-g.ensures ∙ e ∙ frame_by _ _ _ _ _ c.is_headed.ensures.headed (ap not c.if-not-is_headed.false) c.in-Some.ensures.facts }
 
-pub returns-then-not-g-2 : goal.returns-then-not-g-2
-returns-then-not-g-2 c =
-    let e : refused_by none_of_form 0 ≡ by_facts c.look-g.result = rw (
-      c.if-not-g.false,
+pub returns-in-Some-other : goal.returns-in-Some-other
+returns-in-Some-other c =
+    let other = c.in-Some-other.is in
+    let placed = rw other at c.in-Some.ensures.placed in
+    let e : refused_by kinds_mixed c.in-Some-other.place ≡ by_facts (gathered c.in-Some.g) = rw (
       ne_eqb _ _ c.if-g-eq0.false,
-      ← c.both.ensures.both,
-      c.if-both.false,
-      c.if-not-g-2.true,
-    ) in record {
-      framed = c.refused-then-not-g-2.ensures.refused
-          ∙ e
-          ∙ frame_by _ _ _ _ _ c.is_headed.ensures.headed
-          (ap not c.if-not-is_headed.false) c.look-g.ensures.facts;
-    }
+      not-false c.in-Some.g.any c.if-not-g.false,
+      other,
+      ne_eqb c.in-Some-other.place 0 (λ z. omega (arith, placed, z)),
+    ) in
+    record { framed = e ∙ frame_by _ _ _ _ _ c.is_headed.ensures.headed (ap not c.if-not-is_headed.false) c.in-Some.ensures.facts }
 
-pub returns : goal.returns
-returns c =
-    let e : accepted_with c.look-g.result.count ≡ by_facts c.look-g.result = rw (
-      c.if-not-g.false,
+pub returns-in-None : goal.returns-in-None
+returns-in-None c =
+    let e : accepted_with c.in-Some.g.count ≡ by_facts (gathered c.in-Some.g) = rw (
       ne_eqb _ _ c.if-g-eq0.false,
-      ← c.both.ensures.both,
-      c.if-both.false,
-      c.if-not-g-2.false,
-    ) in record {
-      framed = c.accepted.ensures.accepted
-          ∙ e
-          ∙ frame_by _ _ _ _ _ c.is_headed.ensures.headed
-          (ap not c.if-not-is_headed.false) c.look-g.ensures.facts;
-    }
+      not-false c.in-Some.g.any c.if-not-g.false,
+      c.in-None.is,
+    ) in
+    record { framed = e ∙ frame_by _ _ _ _ _ c.is_headed.ensures.headed (ap not c.if-not-is_headed.false) c.in-Some.ensures.facts }

@@ -1,55 +1,24 @@
-use Rattle.frame_rules.proofs.Laws.{headed_last}
-use mathlib.Core.Path.{sym, ◌∙◌}
+use Rattle.std.proofs.Common.{rules}
 use Rattle.frame.specs.Frames.{headed}
 use Rattle.octets.specs.Octets.{octet_of}
-use borrow.Author.Tests.{eq-eqb, ne_eqb, lt-ltb, le-ltb}
 use Rattle.frame_rules.proofs.judged.is_headed.Goals as goal
 
 pub returns-then-n-lt-HEADER : goal.returns-then-n-lt-HEADER
-unfolding headed
-returns-then-n-lt-HEADER c = record { headed = simp (lt-ltb _ _ c.if-n-lt-HEADER.true) }
-
-pub returns-then-wide-pick : goal.returns-then-wide-pick
 unfolding headed octet_of
-returns-then-wide-pick c = record { headed = simp (le-ltb _ _ c.if-n-lt-HEADER.false, ← c.wide.ensures.same.0, ← c.pick.ensures.picked.0, ne_eqb _ _ c.if-wide-pick.true) }
+returns-then-n-lt-HEADER c = search rules
 
-pub returns-then-wide-ne-OBJECT_TYPE : goal.returns-then-wide-ne-OBJECT_TYPE
+pub returns-then-from-class : goal.returns-then-from-class
 unfolding headed octet_of
-returns-then-wide-ne-OBJECT_TYPE c =
-    record {
-      headed = simp (
-        le-ltb _ _ c.if-n-lt-HEADER.false,
-        ← c.wide.ensures.same.0,
-        ← c.pick.ensures.picked.0,
-        eq-eqb _ _ c.if-wide-pick.false,
-        ← c.wide-2.ensures.same.0,
-        ne_eqb _ _ c.if-wide-ne-OBJECT_TYPE.true,
-      );
-    }
+returns-then-from-class c = search rules
+
+pub returns-then-from-ne-OBJECT_TYPE : goal.returns-then-from-ne-OBJECT_TYPE
+unfolding headed octet_of
+returns-then-from-ne-OBJECT_TYPE c = search rules
 
 pub returns-then-read16-n : goal.returns-then-read16-n
 unfolding headed octet_of
-returns-then-read16-n c =
-    record {
-      headed = simp (
-        le-ltb _ _ c.if-n-lt-HEADER.false,
-        ← c.wide.ensures.same.0,
-        ← c.pick.ensures.picked.0,
-        eq-eqb _ _ c.if-wide-pick.false,
-        ← c.wide-2.ensures.same.0,
-        eq-eqb _ _ c.if-wide-ne-OBJECT_TYPE.false,
-        ← c.read16.ensures.number.0,
-        ne_eqb _ _ c.if-read16-n.true,
-      );
-    }
+returns-then-read16-n c = search rules
 
 pub returns : goal.returns
-returns c =
-    record {
-      headed = headed_last c.args.ero
-          c.args.s.now
-          c.if-n-lt-HEADER.false
-          (sym c.wide.ensures.same.0 ∙ c.if-wide-pick.false ∙ c.pick.ensures.picked.0)
-          (rw (← c.wide-2.ensures.same.0) c.if-wide-ne-OBJECT_TYPE.false)
-          (sym c.read16.ensures.number.0 ∙ c.if-read16-n.false);
-    }
+unfolding headed octet_of
+returns c = search rules

@@ -8,10 +8,10 @@ pub label-requires : goal.label-requires
 label-requires c =
     let there = sym c.labelled.ensures.labelled ∙ c.if-labelled.true in
     let room = label_room c.args.form c.args.s.now c.args.at c.args.h there c.requires.0 c.requires.1 in
-    omega (arith, room, c.wide.ensures.same.0)
+    omega (arith, room, c.from.ensures)
 
 pub returns-then-labelled : goal.returns-then-labelled
-returns-then-labelled c = record { broken = rw (← c.wide.ensures.same.0, ← c.label.ensures.label) c.twenty_nine.ensures.broken }
+returns-then-labelled c = record { broken = rw (← c.from.ensures, ← c.label.ensures.label) c.twenty_nine.ensures.broken }
 
 pub returns : goal.returns
 unfolding rule29

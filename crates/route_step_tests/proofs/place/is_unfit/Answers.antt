@@ -7,12 +7,12 @@ returns-then-room-lt-UNIT c = record { unfit = unfit_unit _ _ c.if-room-lt-UNIT.
 
 pub returns-then-room-len : goal.returns-then-room-len
 unfolding octet_of
-returns-then-room-len c = record { unfit = rw (← c.wide-len.ensures.same.0) (unfit_room _ _ c.if-room-len.true) }
+returns-then-room-len c = record { unfit = rw (← c.from-len.ensures) (unfit_room _ _ c.if-room-len.true) }
 
 pub returns-then-len-ne0 : goal.returns-then-len-ne0
 unfolding octet_of
-returns-then-len-ne0 c = record { unfit = rw (← c.wide-len.ensures.same.0) (unfit_multiple _ _ c.if-len-ne0.true) }
+returns-then-len-ne0 c = record { unfit = rw (← c.from-len.ensures) (unfit_multiple _ _ c.if-len-ne0.true) }
 
 pub returns : goal.returns
 unfolding octet_of
-returns c = record { unfit = rw (← c.wide-len.ensures.same.0) (unfit_short _ _ c.if-room-len.false c.if-len-ne0.false) }
+returns c = record { unfit = rw (← c.from-len.ensures) (unfit_short _ _ c.if-room-len.false c.if-len-ne0.false) }

@@ -7,16 +7,15 @@ use Rattle.route_walk.specs.Walk.{walk_of}
 use Rattle.route_walk.proofs.Laws.{Left, Checking, ending}
 use Rattle.route_walk.proofs.subobjects.walk.Given as goal
 
-abbrev pub invariant-loop-k : goal.invariant-loop-k
-invariant-loop-k l = (l.k ≤ rule_count) × Checking (λ p. broken_by (subject_at l.form l.s l.ero l.n p)) l.s l.at l.next (ending l.form l.s l.ero l.count l.stray)
-    (walk_of l.form l.s l.ero l.n l.count) l.k
-
-abbrev pub decreases-loop-k : goal.decreases-loop-k
-decreases-loop-k l = rule_count - l.k
+abbrev pub invariant-loop-reason : goal.invariant-loop-reason
+invariant-loop-reason l = (l.reason-index ≤ rule_count)
+    × Checking (λ p. broken_by (subject_at l.form l.s l.ero l.n p)) l.s l.at l.next (ending l.form l.s l.ero l.count l.stray)
+    (walk_of l.form l.s l.ero l.n l.count) l.reason-index
 
 abbrev pub invariant-walk : goal.invariant-walk
-invariant-walk l = (l.at ≤ length l.s) × Left (λ p. broken_by (subject_at l.form l.s l.ero l.n p)) l.s l.at (ending l.form l.s l.ero l.count l.stray)
-    (walk_of l.form l.s l.ero l.n l.count) × (l.stray ≤ l.at)
+invariant-walk l = (l.at ≤ length l.s)
+    × Left (λ p. broken_by (subject_at l.form l.s l.ero l.n p)) l.s l.at (ending l.form l.s l.ero l.count l.stray) (walk_of l.form l.s l.ero l.n l.count)
+    × (l.stray ≤ l.at)
 
 abbrev pub decreases-walk : goal.decreases-walk
 decreases-walk l = length l.s - l.at

@@ -12,16 +12,16 @@ sum_at-requires c =
       fixed_most c.requires.1,
       c.requires.1.sid,
       nai_most c.requires.1 c.args.h.nt,
-      c.wide-fixed.ensures.same.0,
-      c.wide-sid.ensures.same.0,
+      c.from-fixed.ensures,
+      c.from-sid.ensures,
       c.nai_length-nai.ensures.length.0,
     )
 
 pub returns-then-structured : goal.returns-then-structured
 returns-then-structured c =
     record {
-      broken = eleven_made c.args.form c.args.h c.args.s.now c.args.at _ _ _ _ _ c.wide-fixed.ensures.same.0
-          c.wide-sid.ensures.same.0 c.nai_length-nai.ensures.length.0 c.sum_at.ensures.sum.0 c.eleven.ensures.broken;
+      broken = eleven_made c.args.form c.args.h c.args.s.now c.args.at _ _ _ _ _ c.from-fixed.ensures
+          c.from-sid.ensures c.nai_length-nai.ensures.length.0 c.sum_at.ensures.sum.0 c.eleven.ensures.broken;
     }
 
 pub returns : goal.returns

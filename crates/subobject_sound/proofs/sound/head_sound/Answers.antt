@@ -1,31 +1,22 @@
+use Rattle.std.proofs.Common.{◌≡◌, ◌&&◌, not, eqb}
 use mathlib.Core.Path.{sym, ◌∙◌}
-use mathlib.Core.Bool.{false≢true}
-use borrow.Author.Tests.{not-true}
+use borrow.Author.Tests.{eq-eqb, ne_eqb, not-true}
+use Rattle.subobject.proofs.Laws.{bit_of}
 use Rattle.subobject_sound.proofs.Laws.{nt_known, seven_kept}
+use Rattle.subobject_sound.proofs.sound.head_sound.Goals.{then-not-bare, else-not-bare}
 use Rattle.subobject_sound.proofs.sound.head_sound.Goals as goal
-
-pub returns-then-both : goal.returns-then-both
-returns-then-both c = record { sound = λ e. absurd (false≢true e) }
-
-pub returns-then-nine : goal.returns-then-nine
-returns-then-nine c = record { sound = λ e. absurd (false≢true e) }
-
-pub returns-then-h-pick : goal.returns-then-h-pick
-returns-then-h-pick c = record { sound = λ e. absurd (false≢true e) }
-
-pub returns-then-is_malformed : goal.returns-then-is_malformed
-returns-then-is_malformed c = record { sound = λ e. absurd (false≢true e) }
-
-pub returns-then-h-expected : goal.returns-then-h-expected
-returns-then-h-expected c = record { sound = λ e. absurd (false≢true e) }
 
 pub returns : goal.returns
 returns c =
+    let unknown : c.if-not-bare.unknown ≡ (not (eqb c.args.h.nt 0) && eqb c.nai_length-nai.result 0) = elim c.if-not-bare.branch [
+      | then-not-bare w ↦ rw (ne_eqb _ 0 w.if-not-bare.true) w.unknown-is
+      | else-not-bare w ↦ rw (eq-eqb _ 0 w.if-not-bare.false) (w.unknown-is ∙ rw (eq-eqb c.args.h.nt 0 w.if-not-bare.false))
+    ] in
     record {
       sound = λ e. (
-        nt_known _ _ _ _ c.nai_length-nai.ensures.length.0 c.both.ensures.both c.if-both.false,
+        nt_known _ _ _ _ c.nai_length-nai.ensures.length.0 unknown c.if-unknown.false,
         sym c.nine.ensures.broken ∙ c.if-nine.false,
-        seven_kept _ _ _ _ _ c.pick.ensures.picked.0 c.if-h-pick.false (c.expected.ensures.length c.nai_length-nai.ensures.length.0) c.if-h-expected.false
+        seven_kept _ _ _ _ _ (bit_of _ c.from.ensures) c.if-h-from.false (c.expected.ensures.length c.nai_length-nai.ensures.length.0) c.if-h-expected.false
             c.is_malformed.ensures.malformed c.if-is_malformed.false,
         sym c.ten.ensures.broken ∙ not-true _ e,
       );

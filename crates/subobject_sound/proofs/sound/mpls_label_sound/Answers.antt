@@ -30,6 +30,6 @@ returns c =
     record {
       sound = λ e. (
         good_29 _ _ (c.label_good.ensures.good (c.if-not-label_good.false)),
-        timed_30 _ c.args.s.now c.args.at _ c.wide.ensures.same.0 e,
+        timed_30 _ c.args.s.now c.args.at _ refl e,
       );
     }

@@ -1,8 +1,9 @@
-use Rattle.writer_fixed.proofs.Laws.{worth_none, worth_some}
+use native.Mathlib.Omega.{arith}
+use Rattle.writer_fixed.proofs.Laws.{flag_most}
 use Rattle.writer_fixed.proofs.head.worth.Goals as goal
 
-pub returns-then-flag-eq0 : goal.returns-then-flag-eq0
-returns-then-flag-eq0 c = record { worth = worth_none c.args.flag c.args.w c.if-flag-eq0.true }
+pub overflow_mul-result : goal.overflow_mul-result
+overflow_mul-result c = omega (arith, flag_most c.args.flag c.from.result c.requires)
 
 pub returns : goal.returns
-returns c = record { worth = worth_some c.args.flag c.args.w _ c.requires c.if-flag-eq0.false c.wide.ensures.same }
+returns c = record { worth = (rw c.from.ensures, omega (arith, flag_most c.args.flag c.from.result c.requires)) }

@@ -1,85 +1,56 @@
--- The four runs are laid one behind the other (`written_subobject`); each fits because the whole subobject does (`room`).
-use Prim.Native.Nat.{ℕ, ◌+◌, ◌≤◌}
+-- The four runs are laid one behind the other (`written_subobject`); each fits because the whole subobject does (`lent_room`).
+use Prim.Native.Nat.{ℕ}
 use mathlib.Core.Bool.{Bool, cond}
-use mathlib.Core.Path.{◌≡◌, refl, ap, ◌∙◌}
+use mathlib.Core.Path.{refl, ap, ◌∙◌}
 use lib.Dec.{eqb}
 use lib.ListN.{length}
 use native.Mathlib.Omega.{arith}
 use Rattle.octets.proofs.Said.{cond_most}
-use Rattle.forms.specs.Forms.{nai_length}
 use Rattle.forms.proofs.Laws.{fixed_most, nai_most}
 use Rattle.subobject.specs.declared.head.Head.{Head}
-use Rattle.subobject.specs.declared.segment.Segment.{Segment}
 use Rattle.subobject.specs.Layout.{sid_length}
-use Rattle.subobject.specs.Rules.{has_structure}
-use Rattle.subobject.specs.Segments.{head_of_segment, segment_with}
-use Rattle.writer_layout.proofs.Laws.{small_head, room, written_subobject}
-use Rattle.writer_layout.proofs.image.write.Goals.{Start}
+use Rattle.writer_spare.specs.Lending.{lent_of}
+use Rattle.writer_layout.proofs.Laws.{small_head, lent_head, lent_room, written_subobject}
 use Rattle.writer_layout.proofs.image.write.Goals as goal
 
-abbrev seg : Start → Segment
-seg c = segment_with c.args.o c.args.sid.now c.args.nai.now c.args.bits.now
-
-head : (c : Start) → c.args.h ≡ head_of_segment c.args.form (seg c)
-unfolding head_of_segment
-head c = c.requires.1
-
-parts : (c : Start)
-    → c.args.form.fixed + sid_length c.args.form c.args.h.s + nai_length c.args.form c.args.h.nt + cond (has_structure c.args.h) 8 0
-    ≤ length c.args.out.now
-parts c = room c.requires.4 (seg c) c.args.h (length c.args.out.now) c.requires.0 (head c) c.requires.3
-
 pub fixed-requires : goal.fixed-requires
-fixed-requires c = (
-  small_head c.requires.4 c.requires.5 (seg (goal.at.fixed-requires c).Start) c.args.h (head (goal.at.fixed-requires c).Start) c.requires.2,
-  omega (arith, parts (goal.at.fixed-requires c).Start),
-  c.requires.4,
-  c.requires.5.setup,
-  ap (λ (h : Head). h.kind) c.requires.1,
-  c.requires.6.whole,
+fixed-requires g c = let p = c.args.p in let q = c.requires in (
+  small_head q.3 q.4 (lent_of p.lent) p.head (lent_head g.L.Layout.layout p.lent p.head q.0) q.1,
+  omega (arith, lent_room q.3 p.lent p.head (length c.args.out.now) q.0 q.2),
+  ap (λ (h : Head). h.kind) q.0,
+  q.5.whole,
 )
 
 pub lay_sid-requires : goal.lay_sid-requires
-lay_sid-requires c = (c.requires.0.sid, c.requires.5.setup, omega (arith, parts (goal.at.lay_sid-requires c).Start, c.fixed.auto.out))
+lay_sid-requires g c = let p = c.args.p in let q = c.requires in omega (arith, lent_room q.3 p.lent p.head (length c.args.out.now) q.0 q.2, c.fixed.auto.out)
 
 pub lay_nai-requires : goal.lay_nai-requires
-lay_nai-requires c = (
-  c.requires.0.nai,
-  rw c.requires.6.nai (c.requires.5.sizes c.args.h.nt),
-  omega (arith, parts (goal.at.lay_nai-requires c).Start, c.lay_sid.auto.out, c.fixed.auto.out, c.requires.6.front, c.requires.6.nai),
+lay_nai-requires g c = let p = c.args.p in let q = c.requires in (
+  omega (arith, nai_most q.3 p.head.nt, q.5.nai),
+  omega (arith, lent_room q.3 p.lent p.head (length c.args.out.now) q.0 q.2, c.lay_sid.auto.out, c.fixed.auto.out, q.5.front, q.5.nai),
 )
 
-pub overflow_add-front : goal.overflow_add-front
-overflow_add-front c =
-    omega (
-      arith,
-      parts (goal.at.overflow_add-front c).Start,
-      c.requires.6.front,
-      c.requires.6.nai,
-      fixed_most c.requires.4,
-      c.requires.4.sid,
-      nai_most c.requires.4 c.args.h.nt,
-      cond_most (eqb c.args.h.s 0) c.args.form.sid,
-    )
+pub overflow_add-p : goal.overflow_add-p
+overflow_add-p g c = let p = c.args.p in let q = c.requires in
+    omega (arith, q.5.front, q.5.nai, fixed_most q.3, q.3.sid, nai_most q.3 p.head.nt, cond_most (eqb p.head.s 0) g.L.Layout.layout.sid)
 
 pub lay_structure-requires : goal.lay_structure-requires
-lay_structure-requires c =
+lay_structure-requires g c = let p = c.args.p in let q = c.requires in
     omega (
       arith,
-      parts (goal.at.lay_structure-requires c).Start,
+      lent_room q.3 p.lent p.head (length c.args.out.now) q.0 q.2,
       c.lay_nai.auto.out,
       c.lay_sid.auto.out,
       c.fixed.auto.out,
-      c.requires.6.front,
-      c.requires.6.nai,
-      ap (λ (x : Bool). cond {A = ℕ} x 8 0) c.requires.7,
+      q.5.front,
+      q.5.nai,
+      ap (λ (x : Bool). cond {A = ℕ} x 8 0) q.6,
     )
 
 pub returns : goal.returns
-returns c =
-    let p = c.requires.6 in let h = c.args.h in record {
-      written = written_subobject c.requires.4 (seg (goal.at.returns c).Start) h c.structure-last.result c.args.out.now c.fixed.new.out c.lay_sid.new.out
-          c.lay_nai.new.out c.lay_structure.new.out c.args.form.fixed (sid_length c.args.form h.s) c.args.n
-          c.args.o.structured c.requires.0 (head (goal.at.returns c).Start) c.structure-last.ensures.structure refl refl p.nai c.requires.7 c.requires.3 c.fixed.ensures.fixed
-          c.lay_sid.ensures.laid (c.lay_nai.ensures.laid ∙ rw p.front) (c.lay_structure.ensures.laid ∙ rw p.front);
-    }
+returns g c = let p = c.args.p in let q = c.requires in let h = p.head in let form = g.L.Layout.layout in record {
+  written = written_subobject q.3 (lent_of p.lent) h c.structure-last.result c.args.out.now c.fixed.new.out c.lay_sid.new.out
+      c.lay_nai.new.out c.lay_structure.new.out form.fixed (sid_length form h.s) p.nai
+      p.lent.outline.structured p.lent.typed (lent_head form p.lent h q.0) c.structure-last.ensures.structure refl refl q.5.nai q.6 q.2 c.fixed.ensures.fixed
+      c.lay_sid.ensures.laid (c.lay_nai.ensures.laid ∙ rw q.5.front) (c.lay_structure.ensures.laid ∙ rw q.5.front);
+}

@@ -1,14 +1,7 @@
-use mathlib.Core.Path.{◌∙◌}
 use Rattle.subobject.specs.Rules.{rule29}
-use borrow.Author.Tests.{not-true}
 use Rattle.writer_tests.proofs.Laws.{no_label}
-use mathlib.Core.Path.{ap}
-use mathlib.Core.Bool.{not}
 use Rattle.writer_tests.proofs.test.label_bad.Goals as goal
 
-pub returns-then-not-labelled : goal.returns-then-not-labelled
+pub returns-else-labelled : goal.returns-else-labelled
 unfolding rule29
-returns-then-not-labelled c = record { bad = rw (no_label c.args.h c.args.labelled c.requires (not-true c.args.labelled (ap not c.if-not-labelled.true))) }
-
-pub returns : goal.returns
-returns c = record { bad = c.twenty_nine.ensures.broken ∙ rw c.label_at.ensures.label }
+returns-else-labelled c = record { bad = rw (no_label c.args.h c.args.labelled c.requires c.if-labelled.false) c.if-labelled.false }
