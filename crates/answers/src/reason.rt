@@ -1,63 +1,44 @@
-// The reasons of a refusal, each with the number that it carries (document 01, "Numbers answered").
+// The reasons of a refusal, each with the number that it carries (document 01, "Numbers answered"). What each says stands beside its constant.
 ghost use Rattle.std.specs.Prelude.{◌≡◌};
 ghost use Rattle.answers.specs.Reasons.{number_of};
 
+use super::number::{
+    ALL_PATHS, BODY_TOO_LONG, BUFFER_FULL, CAPABILITY_MISSING, FRAME_BROKEN, KEY_OUT_OF_RANGE,
+    KINDS_MIXED, LABEL_FORMAT, LABEL_VALUE, LENGTH_WRONG, MARK_AHEAD, MARK_TOO_OLD, NAI_UNKNOWN,
+    NO_PATH, NO_SUCH_SEGMENT, NONE_OF_FORM, NOT_A_BOARD, NOT_AGREED, NOT_USABLE, NOTHING_THERE,
+    OPEN_MALFORMED, ROUTE_EMPTY, SID_NEEDED, STRUCTURE_TOO_LONG, TOO_MANY_SEGMENTS,
+    VERSIONS_USED_UP, WRONG_MSD,
+};
+
 #[derive(Clone, Copy, Debug, PartialEq, Eq)]
 pub enum Reason {
-    // OPEN ill formed
-    OpenMalformed = 1,
-    // capability missing
-    CapabilityMissing = 2,
-    // wrong MSD type
-    WrongMsd = 3,
-    // route frame broken
-    FrameBroken = 4,
-    // route empty
-    RouteEmpty = 5,
-    // kinds mixed
-    KindsMixed = 6,
-    // F isn't 1 exactly for NT 0, or Length isn't as expected
-    LengthWrong = 7,
-    // an NT that the form does not know: not 0, 2, 4, 6
-    NaiUnknown = 8,
-    // S and F both 1
-    NothingThere = 9,
-    // no SID, and the PCC's N is 0
-    SidNeeded = 10,
-    // four bit lengths sum above 128
-    StructureTooLong = 11,
-    // more segments than the limit
-    TooManySegments = 12,
-    // the setup type is not the form's, or the form is not agreed
-    NotAgreed = 13,
-    // no subobject of the form that the setup type names
-    NoneOfForm = 14,
-    // no such segment
-    NoSuchSegment = 15,
-    // lent buffer full
-    BufferFull = 16,
-    // not a board
-    NotABoard = 17,
-    // key out of range
-    KeyOutOfRange = 18,
-    // body above 384 octets
-    BodyTooLong = 19,
-    // version is 2^64-2
-    VersionsUsedUp = 20,
-    // 128 paths
-    AllPaths = 21,
-    // key has no path
-    NoPath = 22,
-    // mark too old
-    MarkTooOld = 23,
-    // mark ahead
-    MarkAhead = 24,
-    // unusable bit positions, or address list not a multiple of 16 octets
-    NotUsable = 28,
-    // bad label value
-    LabelValue = 29,
-    // bad label format
-    LabelFormat = 30,
+    OpenMalformed = OPEN_MALFORMED as isize,
+    CapabilityMissing = CAPABILITY_MISSING as isize,
+    WrongMsd = WRONG_MSD as isize,
+    FrameBroken = FRAME_BROKEN as isize,
+    RouteEmpty = ROUTE_EMPTY as isize,
+    KindsMixed = KINDS_MIXED as isize,
+    LengthWrong = LENGTH_WRONG as isize,
+    NaiUnknown = NAI_UNKNOWN as isize,
+    NothingThere = NOTHING_THERE as isize,
+    SidNeeded = SID_NEEDED as isize,
+    StructureTooLong = STRUCTURE_TOO_LONG as isize,
+    TooManySegments = TOO_MANY_SEGMENTS as isize,
+    NotAgreed = NOT_AGREED as isize,
+    NoneOfForm = NONE_OF_FORM as isize,
+    NoSuchSegment = NO_SUCH_SEGMENT as isize,
+    BufferFull = BUFFER_FULL as isize,
+    NotABoard = NOT_A_BOARD as isize,
+    KeyOutOfRange = KEY_OUT_OF_RANGE as isize,
+    BodyTooLong = BODY_TOO_LONG as isize,
+    VersionsUsedUp = VERSIONS_USED_UP as isize,
+    AllPaths = ALL_PATHS as isize,
+    NoPath = NO_PATH as isize,
+    MarkTooOld = MARK_TOO_OLD as isize,
+    MarkAhead = MARK_AHEAD as isize,
+    NotUsable = NOT_USABLE as isize,
+    LabelValue = LABEL_VALUE as isize,
+    LabelFormat = LABEL_FORMAT as isize,
 }
 
 impl Reason {

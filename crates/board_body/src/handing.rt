@@ -52,7 +52,8 @@ pub fn body<'b>(b: Lent<'_>, store: &'b [u8], key: u64) -> &'b [u8]
 pub fn body_form(b: Lent<'_>, store: &[u8], key: u64) -> usize
     ensures form { result ≡ body_form_on (board_lent b.entry) store.now key }
 {
-    match path(b, store, key) {
+    let handed = path(b, store, key);
+    match handed {
         Ok(path) => path.form,
         Err(_) => 0,
     }

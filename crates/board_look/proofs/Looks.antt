@@ -5,15 +5,16 @@ use mathlib.Core.Path.{◌≡◌, refl, sym, ap, ◌∙◌}
 use mathlib.Core.Bool.{Bool, true, false, cond}
 use mathlib.Core.List.{List}
 use lib.ListN.{length}
-use borrow.Author.Tests.{eq-eqb, ne_eqb, lt-ltb}
+use borrow.Author.Tests.{eq-eqb, ne_eqb, lt-ltb, le-ltb}
 use Rattle.answers.specs.declared.refusal.Refusal.{Refusal}
+use Rattle.answers.specs.declared.verdict.Verdict.{Verdict}
 use Rattle.answers.specs.Numbers.{not_a_board}
 use Rattle.answers.specs.Verdicts.{refused_by, accepted_with, refusal_of}
 use Rattle.answers.proofs.Results.{refused_numbered}
 use Rattle.board_record.specs.Sizes.{places}
 use Rattle.board_record.specs.declared.record.Board.{Board}
 use Rattle.board_record.specs.Record.{table_in}
-use Rattle.board_record.specs.Table.{key_at, version_at, length_at}
+use Rattle.board_record.specs.Table.{Table, key_at, version_at, length_at}
 use Rattle.board_record.specs.Search.{next_of, moved_in}
 use Rattle.board_record.specs.Proper.{proper_b}
 use Rattle.board_record.specs.Order.{in_order}
@@ -36,6 +37,12 @@ module _ (b : Board) (n : ℕ) (e : true ≡ is_record b n) where
   topped = tidy_tops b (record_is b n true e refl).1
 
 -- ---- next
+-- of any table: level with its version, where no change is wanted
+pub next_level : (b : Table) (store : List ℕ) (s w : ℕ) (v : Verdict) (at : ℕ) → v ≡ next_verdict b store s w → v.number ≡ 0 → at ≡ next_of b s w → places ≤ at
+    → Level b.version ≡ next_answer b store s w
+unfolding next_answer handed_at
+next_level b store s w v at e z p l = rw (← e, eq-eqb v.number 0 z, handed_at, ← p, le-ltb at 128 l)
+
 module _ (b : Board) (store : List ℕ) (s w : ℕ) where
   pub next_none : false ≡ is_record b (length store) → Refused (refused_by not_a_board 0) ≡ next_on b store s w
   unfolding next_answer next_verdict next_rules
@@ -53,9 +60,9 @@ module _ (b : Board) (store : List ℕ) (s w : ℕ) where
       unfolding next_answer next_verdict
       handed = let h = record_is b (length store) true e refl in next_on_lem b store s w _ h.1 (rw (h.0, ← q))
 
-      pub next_level : places ≡ next_of (table_in b) s w → Level b.version ≡ next_on b store s w
+      pub next_level_on : places ≡ next_of (table_in b) s w → Level b.version ≡ next_on b store s w
       unfolding handed_at
-      next_level p = rw (← p) at handed
+      next_level_on p = rw (← p) at handed
 
       module _ (at : ℕ) (p : at ≡ next_of (table_in b) s w) (l : at < places) where
         changed : change_at (table_in b) at ≡ next_on b store s w

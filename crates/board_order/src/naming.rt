@@ -1,5 +1,5 @@
 // A number of the order names a place by 1 more than the place.
-ghost use Rattle.std.specs.Prelude.{◌≡◌, ◌<◌, ◌≤◌, IfSome, IfNone};
+ghost use Rattle.std.specs.Prelude.{◌≡◌, ◌<◌, ◌≤◌, IfSome, IfNone, is_none, eqb};
 ghost use Rattle.std.specs.Option.{unwrap_or};
 ghost use Rattle.board_record.specs.Sizes.{places};
 ghost use Rattle.board_record.specs.Order.{named};
@@ -9,6 +9,7 @@ use board_record::PLACES;
 // What a number names, be it a place of the record or not; none for 0.
 pub fn named(n: u8) -> Option<usize>
     ensures named { unwrap_or result places ≡ named n }
+    ensures none { is_none result ≡ eqb n 0 }
 {
     usize::from(n).checked_sub(1)
 }

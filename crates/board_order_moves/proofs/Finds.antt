@@ -1,12 +1,12 @@
 -- A look along an order for the first number that passes a test: 128 where none has yet. Assumes nothing.
 use Prim.Native.Nat.{ℕ, ◌+◌, ◌<◌, ◌≤◌, min}
 use native.Mathlib.Omega.{arith}
-use mathlib.Core.Path.{◌≡◌, refl, sym, ap, ◌∙◌, subst}
+use mathlib.Core.Path.{◌≡◌, sym, ap, ◌∙◌}
 use mathlib.Core.Bool.{Bool, true, false}
 use mathlib.Core.Logic.{⊎_elim}
 use Rattle.board_record.specs.Sizes.{places}
 use Rattle.board_record.specs.Search.{first_where}
-use Rattle.board_record.proofs.Logic.{true≢false, same?, from?}
+use Rattle.board_record.proofs.Logic.{same?, from?}
 use Rattle.board_record.proofs.Search.{first_found}
 use Rattle.board_order.proofs.Halves.{first_end}
 

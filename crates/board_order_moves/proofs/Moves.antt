@@ -26,12 +26,27 @@ use Rattle.board_record.specs.Search.{place_in}
 use Rattle.board_record.proofs.Search.{first_hit, first_before}
 use Rattle.board_order.proofs.Halves.{first_most}
 
--- ---- the shift: from `from` to i the numbers have moved up
+-- ---- the loop of the shift: from `from` to i the numbers have moved up
 pub record Shifting (r x : List ℕ) (from i : ℕ) : Type 0 where
   pub long : length x ≡ places
   pub before : (j : ℕ) → j < from → get_or x j 0 ≡ get_or r j 0
   pub moved : (j : ℕ) → from ≤ j → j < i → get_or x j 0 ≡ get_or r (j + 1) 0
   pub behind : (j : ℕ) → i ≤ j → get_or x j 0 ≡ get_or r j 0
+
+pub shifting_none : (r : List ℕ) (from : ℕ) → length r ≡ places → Shifting r r from from
+shifting_none r from n = record { long = n; before = λ j l. refl; moved = λ j h l. absurd (omega arith); behind = λ j h. refl }
+
+pub shifting_more : (r x : List ℕ) (from i : ℕ) → Shifting r x from i → from ≤ i → i < places → Shifting r (set x i (get_or x (i + 1) 0)) from (i + 1)
+shifting_more r x from i s h l =
+    let v = get_or x (i + 1) 0 in
+    record {
+      long = length-set x i v ∙ s.long;
+      before = λ j k. get_or-set_other x i j v 0 (λ e. omega arith) ∙ s.before j k;
+      moved = λ j k m.
+          ⊎_elim (λ e. ap (λ (y : ℕ). get_or (set x i v) y 0) e ∙ get_or-set_same x i v 0 (omega (arith, s.long)) ∙ s.behind (i + 1) (omega arith) ∙ ap (λ (y : ℕ). get_or r (y + 1) 0) (sym e))
+          (λ d. get_or-set_other x i j v 0 d ∙ s.moved j k (omega (arith, d))) (same? j i);
+      behind = λ j k. get_or-set_other x i j v 0 (λ e. omega arith) ∙ s.behind j (omega arith);
+    }
 
 shifted_at_lem : (r : List ℕ) (from to p i : ℕ) → i < places → get_or (shifted r from to p) i 0 ≡ shifted_at r from to p i
 unfolding shifted

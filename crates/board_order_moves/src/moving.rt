@@ -15,7 +15,10 @@ fn shift(order: &mut [u8; 128], from: usize, to: usize, number: u8)
     requires { (from ≤ to) × (to < places) }
     ensures shifted { order.new ≡ shifted order.old from to number }
 {
-    order.copy_within(from + 1..to + 1, from);
+    // One by one: the library's method asks for `memmove` (`octets::copy`).
+    for i in from..to {
+        order[i] = order[i + 1];
+    }
     order[to] = number;
 }
 

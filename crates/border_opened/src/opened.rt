@@ -3,7 +3,7 @@ ghost use Rattle.std.specs.Prelude.{◌≡◌};
 ghost use Rattle.session.specs.Answered.{carried_of, opened_of, both_halves, carried_in};
 ghost use Rattle.border_opened.specs.Opens.{form_out, opened_in, opened_out};
 
-use session::{Carried, MplsHalf, NO_FORM, NO_MPLS, NO_SRV6, OpenRefusal, Srv6Half};
+use session::{Carried, MplsHalf, NO_MPLS, NO_SRV6, OpenRefusal, Srv6Half};
 
 #[repr(C)]
 #[derive(Clone, Copy)]
@@ -111,7 +111,7 @@ pub fn opened_out(answer: Result<Carried, OpenRefusal>) -> OpenedRecord
         Ok(carried) => carried_out(carried),
         Err(refusal) => OpenedRecord {
             number: refusal.reason.number(),
-            form: form_out(refusal.form.unwrap_or(NO_FORM)),
+            form: form_out(refusal.form_number()),
             ..carried_out(Carried {
                 srv6: None,
                 mpls: None,

@@ -1,7 +1,7 @@
 -- What sub-TLV 27 announces, in the order of the definitions. Assumes nothing.
-use Rattle.std.specs.Prelude.{Option, None}
+use Rattle.std.specs.Prelude.{Option, None, Result}
 use Prim.Native.Nat.{ℕ, ◌/◌, ◌%◌, ◌≤◌, ◌<◌}
-use mathlib.Core.Path.{◌≡◌, refl, ◌∙◌}
+use mathlib.Core.Path.{◌≡◌, refl, sym, ◌∙◌}
 use mathlib.Core.Logic.{◌↔◌, ◌⊎◌, inl, inr, ⊎_elim}
 use mathlib.Core.List.{List, []}
 use mathlib.Core.Bool.{Bool, true, false, cond, false≢true}
@@ -11,11 +11,14 @@ use borrow.Author.Tests.{eq-eqb, ne_eqb, le-leb, lt-leb}
 use Rattle.octets.proofs.Said.{and_false}
 use Rattle.objects.specs.Objects.{srv6_setup}
 use Rattle.answers.specs.Numbers.{open_malformed, wrong_msd}
-use Rattle.answers.proofs.Determined.{determined}
 use Rattle.flag_positions.specs.declared.Positions.{Positions}
 use Rattle.flag_positions.specs.Positions.{flag_at}
 use Rattle.session.specs.Opened.{Opened}
 use Rattle.session.specs.Sessions.{open_refused, open_carries}
+use Rattle.session.specs.declared.opened.Srv6Half.{Srv6Half}
+use Rattle.session.specs.declared.opened.OpenRefusal.{OpenRefusal}
+use Rattle.session.specs.Answered.{srv6_of}
+use Rattle.session.proofs.Laws.{srv6_back}
 use Rattle.msd.specs.Msd.{max_segments_left, max_h_encaps, wrong_pairs}
 use Rattle.msd.specs.Stands.{Stands}
 use Rattle.msd_limit.specs.Limits.{limit_by, limit_of_pairs, present, only_ends}
@@ -104,5 +107,5 @@ module _ (p : Positions) (w : List ℕ) where
 
 -- Any two answers that fit the contract of a call are equal ----------------------------------------------------
 
-pub announced_determined : (p : Positions) (w : List ℕ) {x y : Opened} → x ≡ announced_of p w → y ≡ announced_of p w → x ≡ y
-announced_determined p w = determined
+pub announced_determined : (p : Positions) (w : List ℕ) {x y : Result Srv6Half OpenRefusal} → srv6_of x ≡ announced_of p w → srv6_of y ≡ announced_of p w → x ≡ y
+announced_determined p w {x} {y} e f = srv6_back x y (e ∙ sym f)

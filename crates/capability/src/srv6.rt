@@ -11,23 +11,23 @@ use answers::Reason;
 use flag_positions::Positions;
 use msd::Depths;
 use objects::SRV6_SETUP;
-use session::{OpenRefusal, Srv6Half};
+use session::{AtFault, OpenRefusal, Srv6Half};
 
 // The type of the sub-TLV.
 pub const SRV6_CAPABILITY: usize = 27;
 
-// The form at fault where its value breaks a rule.
+// The number of the form at fault where its value breaks a rule.
 pub const SRV6_FORM: usize = SRV6_SETUP as usize;
 
 // 1: a wrong length. 3: a pair's type is unknown.
 const MALFORMED: OpenRefusal = OpenRefusal {
     reason: Reason::OpenMalformed,
-    form: Some(SRV6_FORM),
+    form: Some(AtFault::Srv6),
 };
 
 const WRONG_PAIR: OpenRefusal = OpenRefusal {
     reason: Reason::WrongMsd,
-    form: Some(SRV6_FORM),
+    form: Some(AtFault::Srv6),
 };
 
 // The places of the two flag octets, and what N and X are worth in the second.

@@ -1,17 +1,19 @@
 -- What sub-TLV 26 announces, by each way out of the code. Assumes nothing.
-use Rattle.std.specs.Prelude.{None, Some}
+use Rattle.std.specs.Prelude.{None, Some, Result}
 use Prim.Native.Nat.{ℕ, ◌/◌, ◌%◌}
-use mathlib.Core.Path.{◌≡◌}
+use mathlib.Core.Path.{◌≡◌, sym, ◌∙◌}
 use mathlib.Core.List.{List}
 use lib.ListN.{length}
 use lib.Dec.{eqb}
 use borrow.Author.Tests.{eq-eqb, ne_eqb}
-use Rattle.answers.proofs.Determined.{determined}
 use Rattle.answers.specs.Numbers.{open_malformed, wrong_msd}
 use Rattle.octets.specs.Octets.{octet_of}
 use Rattle.objects.specs.Objects.{mpls_setup}
-use Rattle.session.specs.Opened.{Opened}
 use Rattle.session.specs.Sessions.{open_refused, without_srv6, with_mpls}
+use Rattle.session.specs.declared.opened.MplsHalf.{MplsHalf}
+use Rattle.session.specs.declared.opened.OpenRefusal.{OpenRefusal}
+use Rattle.session.specs.Answered.{mpls_of}
+use Rattle.session.proofs.Laws.{mpls_back}
 use Rattle.capability_mpls.specs.Mpls.{mpls_size, mpls_flags_at, depth_at, mpls_sized_of, mpls_n_of, mpls_x_of, depth_of, depthless, mpls_limit_of, mpls_announced_of}
 
 -- what sub-TLV 26 announces --------------------------------------------------------------------------------------
@@ -38,5 +40,5 @@ module _ (w : List ℕ) where
 
 -- Any two answers that fit the contract of a call are equal ----------------------------------------------------
 
-pub announced_mpls_determined : (w : List ℕ) {x y : Opened} → x ≡ mpls_announced_of w → y ≡ mpls_announced_of w → x ≡ y
-announced_mpls_determined w = determined
+pub announced_mpls_determined : (w : List ℕ) {x y : Result MplsHalf OpenRefusal} → mpls_of x ≡ mpls_announced_of w → mpls_of y ≡ mpls_announced_of w → x ≡ y
+announced_mpls_determined w {x} {y} e f = mpls_back x y (e ∙ sym f)

@@ -11,23 +11,23 @@ ghost use Rattle.capability_mpls.specs.Mpls.{mpls_announced_of};
 
 use answers::Reason;
 use objects::MPLS_SETUP;
-use session::{MplsHalf, OpenRefusal};
+use session::{AtFault, MplsHalf, OpenRefusal};
 
 // The type of the sub-TLV.
 pub const MPLS_CAPABILITY: usize = 26;
 
-// The form at fault where its value breaks a rule.
+// The number of the form at fault where its value breaks a rule.
 pub const MPLS_FORM: usize = MPLS_SETUP as usize;
 
 // 1: a wrong length. 3: neither X nor a depth.
 const MALFORMED: OpenRefusal = OpenRefusal {
     reason: Reason::OpenMalformed,
-    form: Some(MPLS_FORM),
+    form: Some(AtFault::Mpls),
 };
 
 const DEPTHLESS: OpenRefusal = OpenRefusal {
     reason: Reason::WrongMsd,
-    form: Some(MPLS_FORM),
+    form: Some(AtFault::Mpls),
 };
 
 // The place of the flag octet, and what N and X are worth in it.

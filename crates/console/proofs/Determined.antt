@@ -14,6 +14,7 @@ use Rattle.command.specs.Commands.{command_of}
 use Rattle.command.specs.declared.Command.{Command}
 use Rattle.console_state.specs.declared.state.State.{State}
 use Rattle.console_state.specs.State.{console_of}
+use Rattle.console_state.proofs.Laws.{pcc_back, pce_back}
 use Rattle.console_dialogue.specs.Turns.{Does}
 
 pub word_determined : (m : ℕ) (line : List ℕ) (i : ℕ) {a b : List ℕ} → a ≡ word_of line m i → b ≡ word_of line m i → a ≡ b
@@ -38,9 +39,11 @@ parse_determined line p q = p ∙ sym q
 pub text_determined : {before x y more : List ℕ} {at e f : ℕ} → Behind before x at e more → Behind before y at f more → (e ≡ f) × (take e x ≡ take f y)
 text_determined p q = (p.ends ∙ sym q.ends, p.text ∙ sym q.text)
 
--- How the console stands after a line, and the text of its answer.
+-- How the console stands after a line, its OPENs as they were answered, and the text of its answer.
 pub turn_determined : {s r q : State} {store memory line a b l m before x y : List ℕ} {n e f : ℕ}
     → Does s store memory line n r a l before x e
     → Does s store memory line n q b m before y f
-    → (console_of r a l ≡ console_of q b m) × (e ≡ f) × (take e x ≡ take f y)
-turn_determined p q = (p.console ∙ sym q.console, (text_determined p.told q.told).0, (text_determined p.told q.told).1)
+    → (console_of r a l ≡ console_of q b m) × (r.pcc ≡ q.pcc) × (r.pce ≡ q.pce) × (e ≡ f) × (take e x ≡ take f y)
+turn_determined {r = r} {q = q} {a = a} {b = b} {l = l} {m = m} p o =
+    let k = p.console ∙ sym o.console in
+    let t = text_determined p.told o.told in (k, pcc_back r q a b l m k, pce_back r q a b l m k, t.0, t.1)

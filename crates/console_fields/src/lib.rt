@@ -14,7 +14,7 @@ use console_line_ends::{NONE_FIELD, flags_end, labels_end, limit_field};
 use console_lines::ACCEPTED;
 use forms::Form;
 use printing::{JOINT, Text};
-use session::{Carried, NO_FORM, NO_SRV6, OpenRefusal};
+use session::{Carried, NO_SRV6, OpenRefusal};
 use subobject::Segment;
 use subobject_strays::Strays;
 
@@ -45,8 +45,8 @@ pub fn opened(out: &mut [u8], answer: Result<Carried, OpenRefusal>) -> usize
 {
     match answer {
         Ok(carried) => carried_line(out, carried),
-        Err(OpenRefusal { reason, form }) => {
-            console_lines::open_refusal(out, reason.number(), form.unwrap_or(NO_FORM))
+        Err(refusal) => {
+            console_lines::open_refusal(out, refusal.reason.number(), refusal.form_number())
         }
     }
 }

@@ -1,6 +1,6 @@
 -- Laws of what a command answers by and of the octets of a lent buffer's start.
 use Prim.Native.Nat.{ℕ, zero, suc, ◌-◌, ◌≤◌, ◌<◌, min}
-use mathlib.Core.Path.{◌≡◌, refl, sym}
+use mathlib.Core.Path.{◌≡◌, refl, sym, ap}
 use mathlib.Core.Bool.{Bool, true, false}
 use mathlib.Core.List.{List, []}
 use lib.ListN.{length, take, drop, drop_of_length-le, length-drop}
@@ -13,7 +13,9 @@ use Rattle.octets.specs.Octets.{over}
 use Rattle.printing.specs.Text.{Behind}
 use Rattle.console_lines.specs.Lines.{refusal_line}
 use Rattle.command_forms.specs.Forms.{most_size}
-use Rattle.console_state.specs.State.{list_in}
+use Rattle.session.proofs.Laws.{opened_back}
+use Rattle.console_state.specs.declared.state.State.{State}
+use Rattle.console_state.specs.State.{Console, console_of, list_in}
 use Rattle.console_state.specs.Answers.{answer_line}
 
 -- ## Answers
@@ -61,3 +63,13 @@ unfolding list_in
 list_part given m {n} e =
     let t = take_all (length m - most_size) (drop most_size m) (omega (arith, length-drop most_size m)) in
     rw t (take_fit given (drop most_size m) (rw t at e))
+
+-- ## The console
+
+-- Two states that stand for one console hold the same answers to both OPENs; board, writer and positions are the console's own.
+module _ (r q : State) (a b l m : List ℕ) (e : console_of r a l ≡ console_of q b m) where
+  pub pcc_back : r.pcc ≡ q.pcc
+  pcc_back = opened_back r.pcc q.pcc (ap (λ (k : Console). k.pcc) e)
+
+  pub pce_back : r.pce ≡ q.pce
+  pce_back = opened_back r.pce q.pce (ap (λ (k : Console). k.pce) e)

@@ -25,6 +25,6 @@ pub fn plain(out: &mut [u8], answer: Result<(), Refusal>) -> usize
 {
     match answer {
         Ok(()) => console_accepted::done(out),
-        Err(e) => console_lines::refusal(out, e.reason.number(), e.place),
+        Err(refusal) => console_lines::refusal(out, refusal.reason.number(), refusal.place),
     }
 }

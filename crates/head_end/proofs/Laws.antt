@@ -1,7 +1,7 @@
 -- Laws of the list of addresses: what a search answers, any two answers that fit are equal. That a hit is an address of the list is shown along their number.
 use Prim.Native.Nat.{ℕ, zero, suc, ◌+◌, ◌*◌, ◌/◌, ◌≤◌, ◌<◌}
 use native.Mathlib.Omega.{arith}
-use mathlib.Core.Path.{◌≡◌, refl, sym, ap, ◌∙◌}
+use mathlib.Core.Path.{◌≡◌, refl, sym, ap, ◌∙◌, subst}
 use mathlib.Core.Logic.{◌↔◌}
 use mathlib.Core.List.{List, []}
 use mathlib.Core.Bool.{Bool, true, false, ◌||◌, false≢true}
@@ -110,6 +110,11 @@ module _ {S : Type 0} {steps : S → Option (Bor (List ℕ)) → S → Type 0} (
             let n : Bor (List ℕ) = record { ref_ptr = (0, 0); now = [] } in
             let within : h.0 < p.len = omega (arith, chunks.1 m.0, h.1) in
             absurd (not_there h.0 (p.at h.0) _ (p.reads h.0 n within) (each (p.at h.0) (m.1 (λ a b f' k. (says a.0 b f' k).1) h.0)) (chunks.2 h.0) h.2)
+
+-- A run along the addresses of one list is one along those of an equal list.
+pub chunks_of : {S : Type 0} {steps : S → Option (Bor (List ℕ)) → S → Type 0} (p : Run steps) (cut list : List ℕ)
+    → IsChunksExactRun p address_size cut → cut ≡ list → IsChunksExactRun p address_size list
+chunks_of p cut list run e = subst (λ (l : List ℕ). IsChunksExactRun p address_size l) e run
 
 -- Any two answers that fit the contract of a call are equal ------------------------------------------------------
 

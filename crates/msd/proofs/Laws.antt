@@ -51,6 +51,9 @@ met_smaller v least h = go (ltb least 256) refl
         let s : min v least ≡ v = omega arith in
         rw (e, s, lt-ltb v 256 h)
 
+pub smaller_met : (v least r : ℕ) → v < 256 → r ≡ min v least → met r ≡ smaller v (met least)
+smaller_met v least r h e = rw e (met_smaller v least h)
+
 -- pairs --------------------------------------------------------------------------------------------------------
 
 -- What lies behind the first pair, as the code lends it on.

@@ -3,12 +3,14 @@ ghost use Rattle.std.specs.Prelude.{◌≡◌, ◌+◌, ◌≤◌, length};
 ghost use Rattle.octets.specs.Octets.{over, placed};
 
 // `src` over the start of `out`.
-#[tactic(auto, unfolding(crate::specs::Octets::over))]
 pub fn copy(out: &mut [u8], src: &[u8])
     requires { length src.now ≤ length out.old }
     ensures copied { out.new ≡ over src.now out.old }
 {
-    out[..src.len()].copy_from_slice(src);
+    // One by one, and not by the library's method: that asks for `memmove`, and the archive asks for no name but `memcpy` and `memset`.
+    for i in 0..src.len() {
+        out[i] = src[i];
+    }
 }
 
 // `src` from the place `at` on.

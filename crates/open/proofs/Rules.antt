@@ -1,7 +1,7 @@
 -- What a reader can cite of the answer to an OPEN object: accepted exactly if no rule is broken, refused by a number in a form's name exactly if that rule is broken
 -- and none before it; SRv6's answers are those of document 01 alone; when there is a limit. The first part holds of any list of rules in an order, by induction, and of
 -- the table since no two rows have one number and form (computed); what is carried is found by cases of what is listed and there.
-use Rattle.std.specs.Prelude.{Option, None, Some}
+use Rattle.std.specs.Prelude.{Option, None, Some, Result}
 use Prim.Native.Nat.{ℕ, zero, suc}
 use mathlib.Core.Path.{◌≡◌, refl, sym, ap, ◌∙◌}
 use mathlib.Core.Logic.{◌↔◌, ◌⊎◌}
@@ -13,10 +13,13 @@ use Rattle.octets.proofs.Said.{both_true}
 use Rattle.objects.specs.Objects.{mpls_setup, srv6_setup}
 use Rattle.answers.specs.Numbers.{open_malformed, capability_missing, wrong_msd, not_usable}
 use Rattle.answers.proofs.First.{EachOf, NoneOf, none_first_of, first_of_none, first_of_keeps}
-use Rattle.answers.proofs.Determined.{determined}
 use Rattle.flag_positions.specs.declared.Positions.{Positions}
 use Rattle.session.specs.Opened.{Opened}
 use Rattle.session.specs.Sessions.{no_form, open_refused, without_srv6}
+use Rattle.session.specs.declared.opened.Carried.{Carried}
+use Rattle.session.specs.declared.opened.OpenRefusal.{OpenRefusal}
+use Rattle.session.specs.Answered.{opened_of}
+use Rattle.session.proofs.Laws.{opened_back}
 use Rattle.msd.specs.Msd.{max_segments_left, max_h_encaps}
 use Rattle.msd_limit.specs.Limits.{limit_by, present, only_ends}
 use Rattle.capability_mpls.specs.Mpls.{mpls_n_of, mpls_limit_of}
@@ -348,5 +351,5 @@ module _ (p : Positions) (s : List ℕ) where
       beside true (Some w) x e = e
 
   -- Any two answers that fit the contract of `read_open` are equal.
-  pub read_open_determined : (x y : Opened) → x ≡ open_of p s → y ≡ open_of p s → x ≡ y
-  read_open_determined x y = determined
+  pub read_open_determined : (x y : Result Carried OpenRefusal) → opened_of x ≡ open_of p s → opened_of y ≡ open_of p s → x ≡ y
+  read_open_determined x y e f = opened_back x y (e ∙ sym f)

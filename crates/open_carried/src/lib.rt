@@ -10,11 +10,9 @@ ghost use Rattle.session.specs.Answered.{opened_of, srv6_or_none_of, mpls_of};
 ghost use Rattle.open_carried.specs.Carried.{mpls_announced_by, srv6_by, joined_of};
 
 use answers::Reason;
-use capability::SRV6_FORM;
-use capability_mpls::MPLS_FORM;
 use flag_positions::Positions;
 use objects::{MPLS_SETUP, SRV6_SETUP};
-use session::{Carried, MplsHalf, OpenRefusal, Srv6Half};
+use session::{AtFault, Carried, MplsHalf, OpenRefusal, Srv6Half};
 use tlvs::Span;
 
 // The setup types of the two forms, as they are listed.
@@ -25,12 +23,12 @@ const SRV6: u8 = SRV6_SETUP as u8;
 // 2: a setup type is listed and its sub-TLV is not there.
 const MPLS_MISSING: OpenRefusal = OpenRefusal {
     reason: Reason::CapabilityMissing,
-    form: Some(MPLS_FORM),
+    form: Some(AtFault::Mpls),
 };
 
 const SRV6_MISSING: OpenRefusal = OpenRefusal {
     reason: Reason::CapabilityMissing,
-    form: Some(SRV6_FORM),
+    form: Some(AtFault::Srv6),
 };
 
 // Whether a setup type is listed.

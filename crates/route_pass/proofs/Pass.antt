@@ -1,6 +1,6 @@
 -- The pass: the places that it has gone over, the last first, with the frame from `at` on behind them, are the whole frame; each of them is a subobject of the
 -- form's type that breaks no rule. At the object's end that settles the rules on the frame and those of the subobjects. Assumes nothing.
-use Prim.Native.Nat.{ℕ, ◌+◌, ◌-◌, ◌<◌}
+use Prim.Native.Nat.{ℕ, ◌+◌, ◌-◌, ◌*◌, ◌/◌, ◌%◌, ◌≤◌, ◌<◌}
 use mathlib.Core.Path.{◌≡◌, refl, sym, ◌∙◌, ap, subst}
 use mathlib.Core.List.{List, [], ◌∷◌}
 use mathlib.Core.Bool.{Bool, true, false}
@@ -22,7 +22,7 @@ use Rattle.frame.proofs.Laws.{Over, over_starts, over_ends, over_next}
 use Rattle.frame.proofs.OneKind.{AllKind, none, next, kinds_unmixed, kinds_present}
 use Rattle.frame.specs.RuleChecks.{checks_by}
 use Rattle.route_walk.specs.Walk.{checks_at, subobject_checks, walk_of}
-use Rattle.route_pass.specs.Settled.{Settled}
+use Rattle.route_pass.specs.Settled.{Settled, SettledBy, stray_worth}
 
 -- The places gone over, turned round, before others.
 abbrev pub turned : List ℕ → List ℕ → List ℕ
@@ -50,6 +50,10 @@ pub record Gone (form : Form) (s : List ℕ) (ero n : Bool) (at count stray : �
 
 pub gone_starts : (form : Form) (s : List ℕ) (ero n : Bool) → Gone form s ero n header 0 0
 gone_starts form s ero n = record { places = []; rest = over_starts (behind []) s; good = tt; many = refl; strays = refl }
+
+-- A pass that settled nothing says nothing.
+pub unsettled : {form : Form} {s : List ℕ} {ero n : Bool} → SettledBy form s ero n 0
+unsettled h = absurd (omega (arith, h))
 
 -- one subobject more -------------------------------------------------------------------------------------------
 
@@ -132,3 +136,11 @@ module _ (form : Form) (s : List ℕ) (ero n : Bool) where
         frame = frame_good good (omega (arith, many)) d (ap (λ (a : Apart). a.whole) (sym whole)) ∙ ap (λ (x : ℕ). accepted_with x) many;
         walk = walk_good count good ∙ ap (λ (x : ℕ). carrying_both count x) strays;
       }
+
+  -- The same, of one number.
+  pub settled_by : {at count stray : ℕ} → Gone form s ero n at count stray → at ≡ length s → headed s ero ≡ true → count < 65536 → stray ≤ count
+      → SettledBy form s ero n (count + stray_worth * stray)
+  settled_by {at} {count} {stray} g e d few less h =
+      let low : (count + 65536 * stray) % 65536 ≡ count = omega (arith, few) in
+      let high : (count + 65536 * stray) / 65536 ≡ stray = omega (arith, few) in
+      rw (low, high) (settled g e d (omega (arith, h, less)))

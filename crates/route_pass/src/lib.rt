@@ -7,4 +7,4 @@ mod of_layout;
 mod seeing;
 
 pub use of_layout::Passed;
-pub use seeing::see;
+pub use seeing::{STRAY_WORTH, see};

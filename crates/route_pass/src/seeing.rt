@@ -5,9 +5,12 @@ ghost use Rattle.frame.specs.Frames.{headed};
 ghost use Rattle.route_pass.specs.Settled.{SettledBy};
 
 use super::of_layout::Passed;
-use answers::Counts;
 
-pub fn see<L: Passed>(s: &[u8], ero: bool, n: bool) -> Option<Counts>
+// What the pass hands back: the number of segments, and this many times the number of those that are stray; 0 where it has settled nothing. One number stays
+// out of memory, and leaves the loop its registers.
+pub const STRAY_WORTH: usize = octets::END16;
+
+pub fn see<L: Passed>(s: &[u8], ero: bool, n: bool) -> usize
     requires { (headed s.now ero ≡ true) × (length s.now < end16) }
     ensures settled { SettledBy L.layout s.now ero n result }
 {
@@ -21,26 +24,23 @@ pub fn see<L: Passed>(s: &[u8], ero: bool, n: bool) -> Option<Counts>
     while at != end {
         let h = subobject::head_at(form, s, ero, at);
         if h.kind != kind {
-            return None;
+            return 0;
         }
         if !L::is_sound(h, s, ero, n, at) {
-            return None;
+            return 0;
         }
         if end - at < h.size {
-            return None;
+            return 0;
         }
         if !subobject_sound::structure_sound(form, h, s, at) {
-            return None;
+            return 0;
         }
         if !L::label_sound(h, s, at) {
-            return None;
+            return 0;
         }
         stray += L::stray_of(h, s, at);
         count += 1;
         at += h.size;
     }
-    if count == 0 {
-        return None;
-    }
-    Some(Counts { count, stray })
+    count + STRAY_WORTH * stray
 }

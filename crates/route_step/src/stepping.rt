@@ -8,7 +8,7 @@ use forms::{Mpls, Srv6};
 use subobject::Segment;
 
 // Whether there is a segment, the segment, and the place behind it; after a refusal a segment of zeros, and the place asked for. They stand beside the result, and not in
-// it: a result that holds a segment goes through memory, and a step takes more than twice as long.
+// it: a result that holds a segment goes through memory, and a step takes 1.6 times as long.
 #[derive(Clone, Copy)]
 pub struct Stepped {
     pub answer: Result<(), Refusal>,

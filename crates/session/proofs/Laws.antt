@@ -7,13 +7,15 @@ use mathlib.Core.Path.{◌≡◌, refl, sym, ap, ◌∙◌}
 use mathlib.Core.Bool.{Bool, true, false, cond, ◌&&◌}
 use borrow.Author.Tests.{ne_eqb}
 use lib.Dec.{eqb}
-use Rattle.objects.specs.Objects.{mpls_setup}
+use Rattle.objects.specs.Objects.{mpls_setup, srv6_setup}
 use Rattle.octets.proofs.Said.{and_false}
 use Rattle.answers.proofs.Determined.{determined}
-use Rattle.answers.proofs.Results.{numbered}
+use Rattle.answers.proofs.Results.{numbered, number_apart}
 use Rattle.answers.specs.Numbers.{open_malformed}
 use Rattle.answers.specs.Reasons.{number_of}
 use Rattle.session.specs.Opened.{Opened}
+use Rattle.session.specs.declared.at_fault.AtFault.{AtFault}
+use Rattle.session.specs.declared.at_fault.AtFault.TheVariants.{Mpls, Srv6}
 use Rattle.session.specs.declared.opened.Srv6Half.{Srv6Half}
 use Rattle.session.specs.declared.opened.MplsHalf.{MplsHalf}
 use Rattle.session.specs.declared.opened.Carried.{Carried}
@@ -35,7 +37,22 @@ use Rattle.session.specs.Sessions.{
   sessions_of,
   session_under,
 }
-use Rattle.session.specs.Answered.{no_srv6, no_mpls, carried_of, refusal_of, answered_by, opened_of, srv6_half, mpls_half, both_halves, carried_in}
+use Rattle.session.specs.AtFault.{form_number}
+use Rattle.session.specs.Answered.{
+  no_srv6,
+  no_mpls,
+  carried_of,
+  refusal_of,
+  answered_by,
+  opened_of,
+  srv6_or_none_of,
+  srv6_of,
+  mpls_of,
+  srv6_half,
+  mpls_half,
+  both_halves,
+  carried_in,
+}
 use Rattle.session.specs.Parts.{srv6_between, mpls_between, sessions_between}
 
 -- A refused OPEN carries no SRv6, whatever else the answer holds.
@@ -105,16 +122,19 @@ pub agreed_between : {pcc pce : Option Carried} {x : Sessions} → x ≡ session
 agreed_between e o p f g = e ∙ (λ i. sessions_between (f i) (g i)) ∙ between o p
 
 -- What a result carries is what its record carries.
-pub carried_back : (c : Carried) → Some c ≡ carried_in (carried_of c)
-carried_back c = λ i. Some (record { srv6 = one c.srv6 i; mpls = other c.mpls i })
-  where
-    one : (h : Option Srv6Half) → h ≡ cond (is_some h) (Some (unwrap_or h no_srv6)) None
-    one None = refl
-    one (Some h) = refl
+srv6_there : (h : Option Srv6Half) → h ≡ cond (is_some h) (Some (unwrap_or h no_srv6)) None
+srv6_there None = refl
+srv6_there (Some h) = refl
 
-    other : (h : Option MplsHalf) → h ≡ cond (is_some h) (Some (unwrap_or h no_mpls)) None
-    other None = refl
-    other (Some h) = refl
+mpls_there : (h : Option MplsHalf) → h ≡ cond (is_some h) (Some (unwrap_or h no_mpls)) None
+mpls_there None = refl
+mpls_there (Some h) = refl
+
+pub halves_back : (c : Carried) → c ≡ both_halves (carried_of c)
+halves_back c = λ i. record { srv6 = srv6_there c.srv6 i; mpls = mpls_there c.mpls i }
+
+pub carried_back : (c : Carried) → Some c ≡ carried_in (carried_of c)
+carried_back c = λ i. Some (halves_back c i)
 
 pub refusal_carries_nothing : (e : OpenRefusal) → None ≡ carried_in (refusal_of e)
 refusal_carries_nothing e = rw (ne_eqb (number_of e.reason) 0 (numbered e.reason))
@@ -122,6 +142,47 @@ refusal_carries_nothing e = rw (ne_eqb (number_of e.reason) 0 (numbered e.reason
 pub result_back : (r : Result Carried OpenRefusal) → result_ok r ≡ carried_in (opened_of r)
 result_back (Ok c) = carried_back c
 result_back (Err e) = refusal_carries_nothing e
+
+-- No two forms at fault have one number, nor a form and none; so no two refusals have one record.
+form_at : ℕ → Option AtFault
+form_at n = cond (eqb n mpls_setup) (Some Mpls) (cond (eqb n srv6_setup) (Some Srv6) None)
+
+form_back : (f : Option AtFault) → form_at (form_number f) ≡ f
+unfolding form_at
+form_back None = refl
+form_back (Some Mpls) = refl
+form_back (Some Srv6) = refl
+
+pub form_apart : (f g : Option AtFault) → form_number f ≡ form_number g → f ≡ g
+form_apart f g e = sym (form_back f) ∙ ap form_at e ∙ form_back g
+
+pub refusal_back : (e f : OpenRefusal) → refusal_of e ≡ refusal_of f → e ≡ f
+refusal_back e f p =
+    let n = number_apart e.reason f.reason (ap (λ (o : Opened). o.number) p) in
+    let k = form_apart e.form f.form (ap (λ (o : Opened). o.form) p) in λ i. record { reason = n i; form = k i }
+
+-- Nor do two results, where what is accepted can be had back from its record.
+module _ {A : Type 0} (accepted : A → Opened) (inside : Opened → A) (accepts : (a : A) → (accepted a).number ≡ 0) (had : (a : A) → a ≡ inside (accepted a)) where
+  apart : (a : A) (e : OpenRefusal) → accepted a ≡ refusal_of e → ⊥
+  apart a e p = numbered e.reason (ap (λ (o : Opened). o.number) (sym p) ∙ accepts a)
+
+  answered_back : (x y : Result A OpenRefusal) → answered_by accepted x ≡ answered_by accepted y → x ≡ y
+  answered_back (Ok a) (Ok b) p = let q = had a ∙ ap inside p ∙ sym (had b) in λ i. Ok (q i)
+  answered_back (Ok a) (Err f) p = absurd (apart a f p)
+  answered_back (Err e) (Ok b) p = absurd (apart b e (sym p))
+  answered_back (Err e) (Err f) p = let q = refusal_back e f p in λ i. Err (q i)
+
+pub opened_back : (x y : Result Carried OpenRefusal) → opened_of x ≡ opened_of y → x ≡ y
+opened_back = answered_back carried_of both_halves (λ _. refl) halves_back
+
+pub srv6_or_none_back : (x y : Result (Option Srv6Half) OpenRefusal) → srv6_or_none_of x ≡ srv6_or_none_of y → x ≡ y
+srv6_or_none_back = answered_back (λ h. carried_of (record { srv6 = h; mpls = None })) (λ o. (both_halves o).srv6) (λ _. refl) srv6_there
+
+pub srv6_back : (x y : Result Srv6Half OpenRefusal) → srv6_of x ≡ srv6_of y → x ≡ y
+srv6_back = answered_back (λ h. carried_of (record { srv6 = Some h; mpls = None })) srv6_half (λ _. refl) (λ _. refl)
+
+pub mpls_back : (x y : Result MplsHalf OpenRefusal) → mpls_of x ≡ mpls_of y → x ≡ y
+mpls_back = answered_back (λ h. carried_of (record { srv6 = None; mpls = Some h })) mpls_half (λ _. refl) (λ _. refl)
 
 -- What `agree` ensures.
 abbrev pub Agreed : Option Carried → Option Carried → Sessions → Type 0

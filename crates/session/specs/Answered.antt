@@ -8,6 +8,7 @@ use Rattle.session.specs.declared.opened.Carried.{Carried}
 use Rattle.session.specs.declared.opened.OpenRefusal.{OpenRefusal}
 use Rattle.session.specs.Opened.{Opened}
 use Rattle.session.specs.Sessions.{no_form, open_refused}
+use Rattle.session.specs.AtFault.{form_number}
 
 -- A form that is not carried: N is 0 and there is no limit; neither flag, nor v or m.
 abbrev pub no_srv6 : Srv6Half
@@ -38,7 +39,7 @@ carried_of c =
 
 -- A refusal.
 abbrev pub refusal_of : OpenRefusal → Opened
-refusal_of e = open_refused (number_of e.reason) (unwrap_or e.form no_form)
+refusal_of e = open_refused (number_of e.reason) (form_number e.form)
 
 -- A result, by the record that its acceptance is.
 abbrev pub answered_by : {A : Type 0} → (A → Opened) → Result A OpenRefusal → Opened

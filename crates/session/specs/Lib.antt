@@ -1,4 +1,5 @@
 pub mod Opened
 pub mod Sessions
+pub mod AtFault
 pub mod Answered
 pub mod Parts

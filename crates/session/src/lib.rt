@@ -11,10 +11,12 @@ ghost use Rattle.session.specs.Sessions.{sessions_of, session_under};
 ghost use Rattle.session.specs.Answered.{carried_in};
 ghost use Rattle.session.specs.Parts.{srv6_between, mpls_between};
 
+mod at_fault;
 mod opened;
 
+pub use at_fault::{AtFault, NO_FORM};
 use objects::MPLS_SETUP;
-pub use opened::{Carried, MplsHalf, NO_FORM, NO_MPLS, NO_SRV6, OpenRefusal, Srv6Half};
+pub use opened::{Carried, MplsHalf, NO_MPLS, NO_SRV6, OpenRefusal, Srv6Half};
 
 // The session of a form: agreed or not, the PCC's N and limit; A and R agreed or not, the PCC's v and m. Of MPLS the last four are not there.
 #[derive(Clone, Copy)]

@@ -1,6 +1,8 @@
 // The answer to an OPEN object: what it carries of either form, or its refusal.
 ghost use Rattle.std.specs.Prelude.{◌≡◌};
+ghost use Rattle.session.specs.AtFault.{form_number};
 
+use super::at_fault::{AtFault, NO_FORM};
 use answers::{Reason, Refusal};
 
 // What is carried of SRv6: N, how many segments a route may have, A and R, H.Encaps' v and Segments Left's m.
@@ -28,11 +30,23 @@ pub struct Carried {
     pub mpls: Option<MplsHalf>,
 }
 
-// Why an OPEN is refused, and the setup type of the form at fault where a sub-TLV is.
+// Why an OPEN is refused, and the form at fault where a sub-TLV is.
 #[derive(Clone, Copy)]
 pub struct OpenRefusal {
     pub reason: Reason,
-    pub form: Option<usize>,
+    pub form: Option<AtFault>,
+}
+
+impl OpenRefusal {
+    // The form at fault as a number.
+    pub fn form_number(self) -> usize
+        ensures number { result ≡ form_number self.form }
+    {
+        match self.form {
+            None => NO_FORM,
+            Some(form) => form.number(),
+        }
+    }
 }
 
 // Among other refusals it names no place.
@@ -43,9 +57,6 @@ impl From<OpenRefusal> for Refusal {
         Refusal::from(refused.reason)
     }
 }
-
-// The form at fault as a number, where none is.
-pub const NO_FORM: usize = 0;
 
 // What a line or a record says of a form that is not carried.
 pub const NO_SRV6: Srv6Half = Srv6Half {

@@ -1,10 +1,10 @@
-// The SID and the NAI of a segment out of octets, for a form whose numbers the compiler knows. A number of octets that it knows is copied by a move or two,
-// any other by a call.
+// The SID and the NAI of a segment out of octets, for a form whose numbers the compiler knows.
 ghost use Rattle.std.specs.Prelude.{◌≡◌, cond, ◌+◌, ◌≤◌, length};
 ghost use Rattle.octets.specs.Octets.{part_of};
 ghost use Rattle.forms.specs.Forms.{nai_length};
 ghost use Rattle.subobject.specs.Layout.{sid_size, nai_size};
 
+use super::eights;
 use forms::Layout;
 
 // The SID at a place, if there is one.
@@ -13,7 +13,7 @@ pub fn sid<L: Layout>(s: &[u8], there: bool, at: usize) -> [u8; 16]
     ensures part { result ≡ part_of s.now at (cond there L.layout.sid 0) sid_size }
 {
     if there {
-        return octets::part(s, at, usize::from(L::form().sid));
+        return eights::run(s, at, usize::from(L::form().sid));
     }
     octets::part(s, at, 0)
 }
@@ -23,7 +23,7 @@ fn of_nt<L: Layout>(s: &[u8], nt: usize, at: usize) -> [u8; 40]
     requires { at + nai_length L.layout nt ≤ length s.now }
     ensures part { result ≡ part_of s.now at (nai_length L.layout nt) nai_size }
 {
-    octets::part(s, at, forms::nai_length(L::form(), nt))
+    eights::run(s, at, forms::nai_length(L::form(), nt))
 }
 
 // The same. Each NT stands in an arm of its own, so that the compiler knows how many octets its NAI has.

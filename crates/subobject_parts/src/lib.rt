@@ -3,6 +3,7 @@
 #![tactic(auto)]
 
 mod by_layout;
+mod eights;
 mod part;
 
 pub use by_layout::{nai, sid};

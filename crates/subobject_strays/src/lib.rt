@@ -139,7 +139,7 @@ pub fn stray_of(form: Form, h: Head, s: &[u8], at: usize) -> usize
     0
 }
 
-// The same for SRv6, in the pass over a route: with flags and reserved octets looked at one by one a long route takes half as long again.
+// The same for SRv6, in the pass over a route: flags and reserved octets as one number.
 pub fn stray_srv6(h: Head, s: &[u8], at: usize) -> usize
     requires { (at + srv6_form.fixed ≤ length s.now) × OfLength srv6_form h s.now at }
     ensures one { (result ≡ stray_one (strays_by srv6_form h s.now at)) × (result ≤ 1) }

@@ -54,9 +54,13 @@ pub fn front<L: Layout>(x: Lent<'_>) -> Option<usize>
     Some(usize::from(form.fixed) + usize::from(sid))
 }
 
-// The octets of the NAI for an NT.
+// The octets of the NAI for an NT. None and the longest, which are the most common, have an arm of their own, so that the compiler knows their numbers behind it.
 pub fn nai_octets<L: Layout>(nt: usize) -> usize
     ensures octets { (result ≡ nai_length L.layout nt) × (result ≤ 255) }
 {
-    forms::nai_length(L::form(), nt)
+    match nt {
+        forms::NO_NAI => forms::nai_length(L::form(), forms::NO_NAI),
+        forms::LINK_LOCAL => forms::nai_length(L::form(), forms::LINK_LOCAL),
+        _ => forms::nai_length(L::form(), nt),
+    }
 }

@@ -40,6 +40,6 @@ pub fn write<L: Layout>(out: &mut [u8], p: Piece<'_>)
     let last = structure(p.lent.structure);
     writer_fixed::fixed::<L>(out, p.head, p.size, p.lent.outline.behaviour);
     writer_parts::lay_sid::<L>(out, p.lent.sid, p.head.s == 0);
-    writer_parts::lay_nai::<L>(out, p.front, p.lent.nai, p.nai);
+    writer_parts::lay_nai::<L>(out, p.front, p.lent.nai, p.head.nt);
     writer_parts::lay_structure(out, p.front + p.nai, last, p.lent.outline.structured);
 }

@@ -2,6 +2,7 @@
 // lent buffer is no part: so it copies them in one go.
 ghost use Rattle.std.specs.Prelude.{◌≡◌, cond, ◌+◌, ◌≤◌, length, take};
 ghost use Rattle.octets.specs.Octets.{placed};
+ghost use Rattle.forms.specs.Forms.{nai_length};
 ghost use Rattle.subobject.specs.Layout.{nai_size, structure_size};
 
 use forms::Layout;
@@ -31,19 +32,28 @@ fn lay_first(out: &mut [u8], at: usize, nai: &[u8; 40], n: usize)
     octets::lay(out, at, &whole[..n]);
 }
 
-// The same. Each length stands in an arm of its own. It is built for each form by itself, and so into its one caller.
-pub fn lay_nai<L: Layout>(out: &mut [u8], at: usize, nai: &[u8; 40], n: usize)
-    requires { (n ≤ nai_size) × (at + n ≤ length out.old) }
-    ensures laid { out.new ≡ placed out.old at (take n nai.now) }
+// The NAI of an NT from the place `at` on.
+fn lay_nt<L: Layout>(out: &mut [u8], at: usize, nai: &[u8; 40], nt: usize)
+    requires { at + nai_length L.layout nt ≤ length out.old }
+    ensures laid { out.new ≡ placed out.old at (take (nai_length L.layout nt) nai.now) }
 {
-    match n {
-        0 => {}
-        forms::IPV4_NODE_SIZE => lay_first(out, at, nai, forms::IPV4_NODE_SIZE),
-        forms::IPV4_ADJACENCY_SIZE => lay_first(out, at, nai, forms::IPV4_ADJACENCY_SIZE),
-        forms::NODE_SIZE => lay_first(out, at, nai, forms::NODE_SIZE),
-        forms::ADJACENCY_SIZE => lay_first(out, at, nai, forms::ADJACENCY_SIZE),
-        forms::LINK_LOCAL_SIZE => lay_first(out, at, nai, forms::LINK_LOCAL_SIZE),
-        _ => lay_first(out, at, nai, n),
+    lay_first(out, at, nai, forms::nai_length(L::form(), nt));
+}
+
+// The same. Each NT stands in an arm of its own, so that the compiler knows how many octets its NAI has.
+#[tactic(auto, unfolding(forms::specs::Forms::nai_length))]
+pub fn lay_nai<L: Layout>(out: &mut [u8], at: usize, nai: &[u8; 40], nt: usize)
+    requires { at + nai_length L.layout nt ≤ length out.old }
+    ensures laid { out.new ≡ placed out.old at (take (nai_length L.layout nt) nai.now) }
+{
+    match nt {
+        forms::IPV4_NODE => lay_nt::<L>(out, at, nai, forms::IPV4_NODE),
+        forms::NODE => lay_nt::<L>(out, at, nai, forms::NODE),
+        forms::IPV4_ADJACENCY => lay_nt::<L>(out, at, nai, forms::IPV4_ADJACENCY),
+        forms::ADJACENCY => lay_nt::<L>(out, at, nai, forms::ADJACENCY),
+        forms::UNNUMBERED => lay_nt::<L>(out, at, nai, forms::UNNUMBERED),
+        forms::LINK_LOCAL => lay_nt::<L>(out, at, nai, forms::LINK_LOCAL),
+        _ => lay_first(out, at, nai, 0),
     }
 }
 

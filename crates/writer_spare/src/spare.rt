@@ -1,5 +1,6 @@
 // Octets kept for a part that is absent or shorter are 0.
 ghost use Rattle.std.specs.Prelude.{◌&&◌, ◌||◌, ◌≡◌, ◌*◌, ◌≤◌, length, take, drop};
+ghost use Rattle.forms.specs.Forms.{nai_length};
 ghost use Rattle.subobject.specs.Layout.{nai_size};
 ghost use Rattle.writer_spare.specs.Spare.{zeros};
 ghost use Rattle.writer_spare.specs.Lending.{lent_of};
@@ -56,29 +57,42 @@ fn behind(nai: &[u8; 40], n: usize) -> bool
     blank(&nai[n..])
 }
 
-// The same. Each length stands in an arm of its own, so that the compiler knows how many octets there are to look at. It is built for each form by itself, and so into
-// its one caller.
-fn nai_tidy<L: Layout>(nai: &[u8; 40], n: usize) -> bool
-    requires { n ≤ nai_size }
-    ensures tidy { result ≡ zeros (drop n nai.now) }
+// Whether the octets behind the NAI of an NT are 0.
+fn behind_nt<L: Layout>(nai: &[u8; 40], nt: usize) -> bool
+    ensures blank { result ≡ zeros (drop (nai_length L.layout nt) nai.now) }
 {
-    match n {
-        0 => behind(nai, 0),
-        forms::IPV4_NODE_SIZE => behind(nai, forms::IPV4_NODE_SIZE),
-        forms::IPV4_ADJACENCY_SIZE => behind(nai, forms::IPV4_ADJACENCY_SIZE),
-        forms::NODE_SIZE => behind(nai, forms::NODE_SIZE),
-        forms::ADJACENCY_SIZE => behind(nai, forms::ADJACENCY_SIZE),
-        forms::LINK_LOCAL_SIZE => behind(nai, forms::LINK_LOCAL_SIZE),
-        _ => behind(nai, n),
+    behind(nai, forms::nai_length(L::form(), nt))
+}
+
+// The same. Each NT stands in an arm of its own, so that the compiler knows how many octets there are to look at. The longest NAI and none, which are the most
+// common, are asked first, by their octets.
+#[tactic(auto, unfolding(forms::specs::Forms::nai_length))]
+fn nai_tidy<L: Layout>(nai: &[u8; 40], nt: usize) -> bool
+    ensures tidy { result ≡ zeros (drop (nai_length L.layout nt) nai.now) }
+{
+    let n = forms::nai_length(L::form(), nt);
+    if n == forms::LINK_LOCAL_SIZE {
+        return behind(nai, forms::LINK_LOCAL_SIZE);
+    }
+    if n == 0 {
+        return behind(nai, 0);
+    }
+    match nt {
+        forms::IPV4_NODE => behind_nt::<L>(nai, forms::IPV4_NODE),
+        forms::NODE => behind_nt::<L>(nai, forms::NODE),
+        forms::IPV4_ADJACENCY => behind_nt::<L>(nai, forms::IPV4_ADJACENCY),
+        forms::ADJACENCY => behind_nt::<L>(nai, forms::ADJACENCY),
+        forms::UNNUMBERED => behind_nt::<L>(nai, forms::UNNUMBERED),
+        forms::LINK_LOCAL => behind_nt::<L>(nai, forms::LINK_LOCAL),
+        _ => behind(nai, 0),
     }
 }
 
-// Whether the octets kept for an NAI of n octets and for four bit lengths are 0 where these do not stand.
-pub fn rest_tidy<L: Layout>(x: Lent<'_>, n: usize) -> bool
-    requires { n ≤ nai_size }
-    ensures tidy { let g = lent_of x.entry in result ≡ ((g.structured || zeros g.structure) && zeros (drop n g.nai)) }
+// Whether the octets kept for an NAI and for four bit lengths are 0 where these do not stand.
+pub fn rest_tidy<L: Layout>(x: Lent<'_>) -> bool
+    ensures tidy { let g = lent_of x.entry in result ≡ ((g.structured || zeros g.structure) && zeros (drop (nai_length L.layout g.nt) g.nai)) }
 {
     // A variable, since the borrow checker does not follow a lent array that a field shows as a slice.
     let bits = x.structure;
-    nai_tidy::<L>(x.nai, n) && (x.outline.structured || blank(bits))
+    nai_tidy::<L>(x.nai, usize::from(x.outline.nt)) && (x.outline.structured || blank(bits))
 }

@@ -1,6 +1,6 @@
 // What adding asks of a segment and of its place, test by test.
 ghost use Rattle.std.specs.Prelude.{◌≡◌, not, ◌&&◌, ◌||◌, ◌+◌, ◌≤◌, ◌<◌, ltb, drop};
-ghost use Rattle.subobject.specs.Layout.{nai_size};
+ghost use Rattle.forms.specs.Forms.{nai_length};
 ghost use Rattle.subobject.specs.Rules.{most_bits, sum_at, label_at, time_at, rule29, rule30};
 ghost use Rattle.subobject.specs.Segments.{bit};
 ghost use Rattle.writer_spare.specs.Spare.{zeros};
@@ -13,12 +13,11 @@ use subobject::Head;
 use writer_spare::Lent;
 
 // L or V in an RRO, octets kept for an NAI that is shorter or a structure that is absent not 0.
-pub fn misfit<L: Layout>(x: Lent<'_>, ero: bool, n: usize) -> bool
-    requires { n ≤ nai_size }
+pub fn misfit<L: Layout>(x: Lent<'_>, ero: bool) -> bool
     ensures misfit { let g = lent_of x.entry in
-        result ≡ ((not ero && (g.loose || g.verify)) || not ((g.structured || zeros g.structure) && zeros (drop n g.nai))) }
+        result ≡ ((not ero && (g.loose || g.verify)) || not ((g.structured || zeros g.structure) && zeros (drop (nai_length L.layout g.nt) g.nai))) }
 {
-    (!ero && (x.outline.loose || x.outline.verify)) || !writer_spare::rest_tidy::<L>(x, n)
+    (!ero && (x.outline.loose || x.outline.verify)) || !writer_spare::rest_tidy::<L>(x)
 }
 
 // Four bit lengths, where they are there, sum above 128.

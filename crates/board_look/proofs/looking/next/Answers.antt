@@ -6,7 +6,7 @@ use Rattle.answers.specs.declared.refusal.Refusal.{Refusal}
 use Rattle.answers.specs.Verdicts.{refusal_of}
 use Rattle.board_record.specs.Lent.{board_lent}
 use Rattle.board_rules.specs.Handed.{Handed, Refused, Path, Removed, handed_of}
-use Rattle.board_look.proofs.Looks.{searched, next_none, next_refused, next_level, next_removed, next_path}
+use Rattle.board_look.proofs.Looks.{searched, next_none, next_refused, next_level_on, next_removed, next_path}
 use Rattle.board_look.proofs.looking.next.Goals as goal
 
 pub returns-then-not-is_board : goal.returns-then-not-is_board
@@ -24,7 +24,7 @@ returns-in_err-next_rules c =
 
 pub returns-in_default : goal.returns-in_default
 returns-in_default c =
-    record { next = next_level (board_lent c.args.b) c.args.store.now c.args.s c.args.w c.if-not-is_board.ensures.board c.in_ok-next_rules.ensures.first c.in_default.ensures.next }
+    record { next = next_level_on (board_lent c.args.b) c.args.store.now c.args.s c.args.w c.if-not-is_board.ensures.board c.in_ok-next_rules.ensures.first c.in_default.ensures.next }
 
 pub returns-then-b-at-eq0 : goal.returns-then-b-at-eq0
 returns-then-b-at-eq0 c =

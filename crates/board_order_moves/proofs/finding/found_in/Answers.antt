@@ -1,5 +1,5 @@
 use native.Mathlib.Omega.{arith}
-use mathlib.Core.Path.{sym, ◌∙◌}
+use mathlib.Core.Path.{◌∙◌}
 use Rattle.board_record.specs.Search.{place_in}
 use Rattle.board_order_moves.proofs.Finds.{looked_all}
 use Rattle.board_order_moves.proofs.finding.found_in.Goals as goal

@@ -1,4 +1,3 @@
-use native.Mathlib.Omega.{arith}
 use mathlib.Core.Path.{◌∙◌}
 use Rattle.board_record.specs.Table.{table_of}
 use Rattle.board_record.proofs.Proper.{proper_is}

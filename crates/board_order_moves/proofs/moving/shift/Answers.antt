@@ -1,21 +1,18 @@
 use native.Mathlib.Omega.{arith}
-use mathlib.Core.Path.{◌≡◌, ap, ◌∙◌}
-use Prim.Native.Nat.{ℕ, ◌+◌, ◌-◌}
-use lib.ListN.{get_or}
-use Rattle.board_order_moves.proofs.Moves.{Shifting, shift_done}
+use Rattle.board_order_moves.proofs.Moves.{shifting_none, shifting_more, shift_done}
 use Rattle.board_order_moves.proofs.moving.shift.Goals as goal
 
+pub loop-i-init : goal.loop-i-init
+loop-i-init c = shifting_none _ _ c.told-order
+
+pub bounds-order-i : goal.bounds-order-i
+bounds-order-i c = omega (arith, c.loop-i-test.true, c.requires.1, c.loop-i.invariant.long)
+
+pub bounds-order-i-in-loop-i : goal.bounds-order-i-in-loop-i
+bounds-order-i-in-loop-i c = omega (arith, c.loop-i-test.true, c.requires.1, c.loop-i.invariant.long)
+
+pub loop-i-preserved : goal.loop-i-preserved
+loop-i-preserved c = shifting_more _ _ _ _ c.loop-i.invariant c.loop-i.auto.i (omega (arith, c.loop-i-test.true, c.requires.1))
+
 pub returns : goal.returns
-returns c =
-    let r = c.args.order.now in
-    let by = c.copy_within.ensures.by_index in
-    let s : Shifting r c.copy_within.new.self c.args.from c.args.to =
-    record {
-      long = c.copy_within.ensures.len ∙ c.told-order;
-      before = λ j l. by.1 j 0 l;
-      moved = λ j h l.
-          let e : c.args.from + 1 + (j - c.args.from) ≡ j + 1 = omega arith in
-          by.0 j 0 h (omega arith) ∙ ap (λ (k : ℕ). get_or r k 0) e;
-      behind = λ j h. by.2 j 0 (omega (arith, c.requires.0));
-    } in
-    record { shifted = shift_done _ _ _ _ c.requires.0 _ _ c.requires.1 (omega arith) (omega arith) s }
+returns c = record { shifted = shift_done _ _ _ _ c.requires.0 _ _ c.requires.1 (c.loop-i.auto.i-end c.requires.0) c.loop-i-test.false c.loop-i.invariant }

@@ -13,5 +13,5 @@ returns-in-Ok c = record { told = rw c.in-Ok.is (told_accepted (accepted_with 0)
 pub returns-in-Err : goal.returns-in-Err
 unfolding plain_line
 returns-in-Err c =
-    let e = c.in-Err.e in
+    let e = c.in-Err.refusal in
     record { told = rw c.in-Err.is (told_refused (refusal_of e) done_line (refused_numbered e) (rw c.number.ensures.number at c.refusal.ensures.told)) }

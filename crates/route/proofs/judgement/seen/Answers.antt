@@ -5,7 +5,11 @@ use Rattle.forms.specs.declared.Form.{Form}
 use Rattle.forms.proofs.Laws.{form_mpls, form_srv6}
 use Rattle.frame.proofs.Laws.{headed_sized}
 use Rattle.route_pass.specs.Settled.{SettledBy}
+use Rattle.route_pass.proofs.Pass.{unsettled}
 use Rattle.route.proofs.judgement.seen.Goals as goal
+
+pub returns-then-not-is_headed : goal.returns-then-not-is_headed
+returns-then-not-is_headed c = record { settled = unsettled }
 
 pub see-requires : goal.see-requires
 unfolding be16

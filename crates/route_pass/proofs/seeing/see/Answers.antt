@@ -1,4 +1,4 @@
-use Prim.Native.Nat.{◌-◌, ◌<◌}
+use Prim.Native.Nat.{◌-◌, ◌+◌, ◌*◌}
 use native.Mathlib.Omega.{arith}
 use mathlib.Core.Path.{◌≡◌, ◌∙◌, subst}
 use lib.ListN.{length}
@@ -6,9 +6,9 @@ use Rattle.forms.specs.declared.Form.{Form}
 use Rattle.subobject.specs.Layout.{expected_length}
 use Rattle.subobject.proofs.Laws.{sound_length}
 use Rattle.frame.proofs.Laws.{headed_sized, fits_made}
-use Rattle.route_pass.specs.Settled.{Settled}
+use Rattle.route_pass.specs.Settled.{SettledBy, stray_worth}
 use Rattle.route_pass.proofs.Laws.{rules_of, labels_of, strays_of, s_bit, head_of_lem}
-use Rattle.route_pass.proofs.Pass.{gone_on, good_made, settled}
+use Rattle.route_pass.proofs.Pass.{gone_on, good_made, settled_by, unsettled}
 use Rattle.route_pass.proofs.Labels.{gone_begun}
 use Rattle.route_pass.proofs.seeing.see.Goals as goal
 
@@ -40,6 +40,9 @@ head_at-h-requires g c =
     let inv = c.loop-at.invariant in
     omega (arith, h.four, inv.1, inv.2, c.loop-at-test.true)
 
+pub returns-then-h-kind : goal.returns-then-h-kind
+returns-then-h-kind g c = record { settled = unsettled }
+
 pub is_sound-requires : goal.is_sound-requires
 is_sound-requires g c =
     let read = c.head_at-h in
@@ -50,14 +53,23 @@ is_sound-requires g c =
       read.ensures.small.0,
     )
 
+pub returns-then-not-is_sound : goal.returns-then-not-is_sound
+returns-then-not-is_sound g c = record { settled = unsettled }
+
 pub overflow_sub-end : goal.overflow_sub-end
 overflow_sub-end g c = omega (arith, c.loop-at.invariant.1)
+
+pub returns-then-end-at : goal.returns-then-end-at
+returns-then-end-at g c = record { settled = unsettled }
 
 pub structure_sound-requires : goal.structure_sound-requires
 structure_sound-requires g c =
     let known = c.form-form.ensures.form in
     let rules = rules_of known _ _ _ (c.is_sound.ensures.sound (c.if-not-is_sound.false)) in
     (sound_length _ _ rules.2, omega (arith, c.if-end-at.false, c.loop-at.invariant.1))
+
+pub returns-then-not-structure_sound : goal.returns-then-not-structure_sound
+returns-then-not-structure_sound g c = record { settled = unsettled }
 
 pub label_sound-requires : goal.label_sound-requires
 label_sound-requires g c =
@@ -66,6 +78,9 @@ label_sound-requires g c =
       s_bit _ _ _ _ _ c.head_at-h.ensures.read,
       (sound_length _ _ rules.2, omega (arith, c.if-end-at.false, c.loop-at.invariant.1)),
     )
+
+pub returns-then-not-label_sound : goal.returns-then-not-label_sound
+returns-then-not-label_sound g c = record { settled = unsettled }
 
 pub stray_of-stray-requires : goal.stray_of-stray-requires
 unfolding expected_length
@@ -113,10 +128,21 @@ loop-at-preserved g c =
       gone_on inv.5 _ _ (omega (arith, inv.1, c.loop-at-test.true)) read.ensures.read fits good (strays_of known _ _ _ c.stray_of-stray.ensures.one.0),
     )
 
+pub overflow_mul-result : goal.overflow_mul-result
+overflow_mul-result g c =
+    let inv = c.loop-at.invariant in
+    omega (arith, inv.4, inv.3, inv.1, c.requires.1)
+
+pub overflow_add-result : goal.overflow_add-result
+overflow_add-result g c =
+    let inv = c.loop-at.invariant in
+    omega (arith, inv.4, inv.3, inv.1, c.requires.1)
+
 pub returns : goal.returns
 returns g c =
-    let some : 0 < c.loop-at.count = omega (arith, c.if-count-eq0.false) in
+    let inv = c.loop-at.invariant in
+    let x = c.loop-at.count + stray_worth * c.loop-at.stray in
     record {
-      settled = subst (λ (form : Form). Settled form c.args.s.now c.args.ero c.args.n c.loop-at.count c.loop-at.stray) c.form-form.ensures.form
-          (settled _ _ _ _ c.loop-at.invariant.5 c.loop-at-test.false c.requires.0 some);
+      settled = subst (λ (form : Form). SettledBy form c.args.s.now c.args.ero c.args.n x) c.form-form.ensures.form
+          (settled_by _ _ _ _ inv.5 c.loop-at-test.false c.requires.0 (omega (arith, inv.3, inv.1, c.requires.1)) inv.4);
     }

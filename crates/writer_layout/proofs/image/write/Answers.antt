@@ -6,6 +6,7 @@ use lib.Dec.{eqb}
 use lib.ListN.{length}
 use native.Mathlib.Omega.{arith}
 use Rattle.octets.proofs.Said.{cond_most}
+use Rattle.forms.specs.Forms.{nai_length}
 use Rattle.forms.proofs.Laws.{fixed_most, nai_most}
 use Rattle.subobject.specs.declared.head.Head.{Head}
 use Rattle.subobject.specs.Layout.{sid_length}
@@ -25,10 +26,8 @@ pub lay_sid-requires : goal.lay_sid-requires
 lay_sid-requires g c = let p = c.args.p in let q = c.requires in omega (arith, lent_room q.3 p.lent p.head (length c.args.out.now) q.0 q.2, c.fixed.auto.out)
 
 pub lay_nai-requires : goal.lay_nai-requires
-lay_nai-requires g c = let p = c.args.p in let q = c.requires in (
-  omega (arith, nai_most q.3 p.head.nt, q.5.nai),
-  omega (arith, lent_room q.3 p.lent p.head (length c.args.out.now) q.0 q.2, c.lay_sid.auto.out, c.fixed.auto.out, q.5.front, q.5.nai),
-)
+lay_nai-requires g c = let p = c.args.p in let q = c.requires in
+    omega (arith, lent_room q.3 p.lent p.head (length c.args.out.now) q.0 q.2, c.lay_sid.auto.out, c.fixed.auto.out, q.5.front)
 
 pub overflow_add-p : goal.overflow_add-p
 overflow_add-p g c = let p = c.args.p in let q = c.requires in
@@ -50,7 +49,7 @@ lay_structure-requires g c = let p = c.args.p in let q = c.requires in
 pub returns : goal.returns
 returns g c = let p = c.args.p in let q = c.requires in let h = p.head in let form = g.L.Layout.layout in record {
   written = written_subobject q.3 (lent_of p.lent) h c.structure-last.result c.args.out.now c.fixed.new.out c.lay_sid.new.out
-      c.lay_nai.new.out c.lay_structure.new.out form.fixed (sid_length form h.s) p.nai
-      p.lent.outline.structured p.lent.typed (lent_head form p.lent h q.0) c.structure-last.ensures.structure refl refl q.5.nai q.6 q.2 c.fixed.ensures.fixed
-      c.lay_sid.ensures.laid (c.lay_nai.ensures.laid ∙ rw q.5.front) (c.lay_structure.ensures.laid ∙ rw q.5.front);
+      c.lay_nai.new.out c.lay_structure.new.out form.fixed (sid_length form h.s) (nai_length form h.nt)
+      p.lent.outline.structured p.lent.typed (lent_head form p.lent h q.0) c.structure-last.ensures.structure refl refl refl q.6 q.2 c.fixed.ensures.fixed
+      c.lay_sid.ensures.laid (c.lay_nai.ensures.laid ∙ rw q.5.front) (c.lay_structure.ensures.laid ∙ rw (q.5.front, q.5.nai));
 }

@@ -52,7 +52,7 @@ returns-then-misfit-clause-number g c =
     let head = c.head_of-head.ensures.head ∙ ap (λ (f : Form). head_of_outline f c.args.x.outline) c.form.ensures.form in
     let front = some_front (barred form c.args.x.outline c.args.x.sid.now) (lead form c.args.x.outline) c.in_ok-front.front (sym c.in_ok-front.ensures.ok_part ∙ c.front.ensures.front) in
     let nai = c.nai_octets-nai.ensures.octets.0 ∙ ap (λ (h : Head). nai_length form h.nt) head in
-    let seven = misfit_unfit form x c.args.ero c.misfit.result c.nai_octets-nai.result c.args.x.typed front.0 nai c.misfit.ensures.misfit in
+    let seven = misfit_unfit form x c.args.ero c.misfit.result (nai_length form x.nt) c.args.x.typed front.0 refl c.misfit.ensures.misfit in
     simp (← eh, n.0, n.1, sym seven ∙ c.if-misfit.true)
 
 pub returns-then-overlong-clause-number : goal.returns-then-overlong-clause-number
@@ -66,7 +66,7 @@ returns-then-overlong-clause-number g c =
     let head = c.head_of-head.ensures.head ∙ ap (λ (f : Form). head_of_outline f c.args.x.outline) c.form.ensures.form in
     let front = some_front (barred form c.args.x.outline c.args.x.sid.now) (lead form c.args.x.outline) c.in_ok-front.front (sym c.in_ok-front.ensures.ok_part ∙ c.front.ensures.front) in
     let nai = c.nai_octets-nai.ensures.octets.0 ∙ ap (λ (h : Head). nai_length form h.nt) head in
-    let seven = misfit_unfit form x c.args.ero c.misfit.result c.nai_octets-nai.result c.args.x.typed front.0 nai c.misfit.ensures.misfit in
+    let seven = misfit_unfit form x c.args.ero c.misfit.result (nai_length form x.nt) c.args.x.typed front.0 refl c.misfit.ensures.misfit in
     let fit = sym seven ∙ c.if-misfit.false in
     let k = looking form c.args.x h c.in_ok-front.front c.nai_octets-nai.result (cond c.args.x.outline.structured structure_size 0) c.form.ensures.sized c.requires
     head front.0 front.1 c.nai_octets-nai.ensures.octets.0 refl in
@@ -85,7 +85,7 @@ returns-then-label_bad-clause-number g c =
     let head = c.head_of-head.ensures.head ∙ ap (λ (f : Form). head_of_outline f c.args.x.outline) c.form.ensures.form in
     let front = some_front (barred form c.args.x.outline c.args.x.sid.now) (lead form c.args.x.outline) c.in_ok-front.front (sym c.in_ok-front.ensures.ok_part ∙ c.front.ensures.front) in
     let nai = c.nai_octets-nai.ensures.octets.0 ∙ ap (λ (h : Head). nai_length form h.nt) head in
-    let seven = misfit_unfit form x c.args.ero c.misfit.result c.nai_octets-nai.result c.args.x.typed front.0 nai c.misfit.ensures.misfit in
+    let seven = misfit_unfit form x c.args.ero c.misfit.result (nai_length form x.nt) c.args.x.typed front.0 refl c.misfit.ensures.misfit in
     let fit = sym seven ∙ c.if-misfit.false in
     let k = looking form c.args.x h c.in_ok-front.front c.nai_octets-nai.result (cond c.args.x.outline.structured structure_size 0) c.form.ensures.sized c.requires
     head front.0 front.1 c.nai_octets-nai.ensures.octets.0 refl in
@@ -104,7 +104,7 @@ returns-then-time_bad-clause-number g c =
     let head = c.head_of-head.ensures.head ∙ ap (λ (f : Form). head_of_outline f c.args.x.outline) c.form.ensures.form in
     let front = some_front (barred form c.args.x.outline c.args.x.sid.now) (lead form c.args.x.outline) c.in_ok-front.front (sym c.in_ok-front.ensures.ok_part ∙ c.front.ensures.front) in
     let nai = c.nai_octets-nai.ensures.octets.0 ∙ ap (λ (h : Head). nai_length form h.nt) head in
-    let seven = misfit_unfit form x c.args.ero c.misfit.result c.nai_octets-nai.result c.args.x.typed front.0 nai c.misfit.ensures.misfit in
+    let seven = misfit_unfit form x c.args.ero c.misfit.result (nai_length form x.nt) c.args.x.typed front.0 refl c.misfit.ensures.misfit in
     let fit = sym seven ∙ c.if-misfit.false in
     let k = looking form c.args.x h c.in_ok-front.front c.nai_octets-nai.result (cond c.args.x.outline.structured structure_size 0) c.form.ensures.sized c.requires
     head front.0 front.1 c.nai_octets-nai.ensures.octets.0 refl in
@@ -123,7 +123,7 @@ returns-then-crowded-clause-number g c =
     let head = c.head_of-head.ensures.head ∙ ap (λ (f : Form). head_of_outline f c.args.x.outline) c.form.ensures.form in
     let front = some_front (barred form c.args.x.outline c.args.x.sid.now) (lead form c.args.x.outline) c.in_ok-front.front (sym c.in_ok-front.ensures.ok_part ∙ c.front.ensures.front) in
     let nai = c.nai_octets-nai.ensures.octets.0 ∙ ap (λ (h : Head). nai_length form h.nt) head in
-    let seven = misfit_unfit form x c.args.ero c.misfit.result c.nai_octets-nai.result c.args.x.typed front.0 nai c.misfit.ensures.misfit in
+    let seven = misfit_unfit form x c.args.ero c.misfit.result (nai_length form x.nt) c.args.x.typed front.0 refl c.misfit.ensures.misfit in
     let fit = sym seven ∙ c.if-misfit.false in
     let k = looking form c.args.x h c.in_ok-front.front c.nai_octets-nai.result c.ending.result c.form.ensures.sized c.requires
     head front.0 front.1 c.nai_octets-nai.ensures.octets.0 c.ending.ensures.ending in
@@ -152,7 +152,7 @@ returns-clause-number g c =
     let head = c.head_of-head.ensures.head ∙ ap (λ (f : Form). head_of_outline f c.args.x.outline) c.form.ensures.form in
     let front = some_front (barred form c.args.x.outline c.args.x.sid.now) (lead form c.args.x.outline) c.in_ok-front.front (sym c.in_ok-front.ensures.ok_part ∙ c.front.ensures.front) in
     let nai = c.nai_octets-nai.ensures.octets.0 ∙ ap (λ (h : Head). nai_length form h.nt) head in
-    let seven = misfit_unfit form x c.args.ero c.misfit.result c.nai_octets-nai.result c.args.x.typed front.0 nai c.misfit.ensures.misfit in
+    let seven = misfit_unfit form x c.args.ero c.misfit.result (nai_length form x.nt) c.args.x.typed front.0 refl c.misfit.ensures.misfit in
     let fit = sym seven ∙ c.if-misfit.false in
     let k = looking form c.args.x h c.in_ok-front.front c.nai_octets-nai.result c.ending.result c.form.ensures.sized c.requires
     head front.0 front.1 c.nai_octets-nai.ensures.octets.0 c.ending.ensures.ending in
