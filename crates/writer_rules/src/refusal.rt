@@ -61,7 +61,7 @@ pub fn adding<L: Layout>(
     let nai = writer_front::nai_octets::<L>(head.nt);
     nameless::<L>(head, nai)?;
     let front = writer_front::front::<L>(x).ok_or(Reason::LengthWrong)?;
-    if writer_tests::misfit::<L>(x, ero) {
+    if writer_tests::misfit_of_nt::<L>(x, ero) {
         return Err(Reason::LengthWrong);
     }
     if writer_tests::overlong(structure, outline.structured) {

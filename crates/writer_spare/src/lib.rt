@@ -5,4 +5,4 @@ mod lent;
 mod spare;
 
 pub use lent::Lent;
-pub use spare::{rest_tidy, sid_blank, sid_tidy};
+pub use spare::{rest_tidy, rest_tidy_of_nt, sid_blank, sid_tidy};

@@ -57,6 +57,32 @@ fn behind(nai: &[u8; 40], n: usize) -> bool
     blank(&nai[n..])
 }
 
+// The same. Each length stands in an arm of its own, so that the compiler knows how many octets there are to look at.
+fn nai_tidy<L: Layout>(nai: &[u8; 40], n: usize) -> bool
+    requires { n ≤ nai_size }
+    ensures tidy { result ≡ zeros (drop n nai.now) }
+{
+    match n {
+        0 => behind(nai, 0),
+        forms::IPV4_NODE_SIZE => behind(nai, forms::IPV4_NODE_SIZE),
+        forms::IPV4_ADJACENCY_SIZE => behind(nai, forms::IPV4_ADJACENCY_SIZE),
+        forms::NODE_SIZE => behind(nai, forms::NODE_SIZE),
+        forms::ADJACENCY_SIZE => behind(nai, forms::ADJACENCY_SIZE),
+        forms::LINK_LOCAL_SIZE => behind(nai, forms::LINK_LOCAL_SIZE),
+        _ => behind(nai, n),
+    }
+}
+
+// Whether the octets kept for an NAI of n octets and for four bit lengths are 0 where these do not stand.
+pub fn rest_tidy<L: Layout>(x: Lent<'_>, n: usize) -> bool
+    requires { n ≤ nai_size }
+    ensures tidy { let g = lent_of x.entry in result ≡ ((g.structured || zeros g.structure) && zeros (drop n g.nai)) }
+{
+    // A variable, since the borrow checker does not follow a lent array that a field shows as a slice.
+    let bits = x.structure;
+    nai_tidy::<L>(x.nai, n) && (x.outline.structured || blank(bits))
+}
+
 // Whether the octets behind the NAI of an NT are 0.
 fn behind_nt<L: Layout>(nai: &[u8; 40], nt: usize) -> bool
     ensures blank { result ≡ zeros (drop (nai_length L.layout nt) nai.now) }
@@ -67,7 +93,7 @@ fn behind_nt<L: Layout>(nai: &[u8; 40], nt: usize) -> bool
 // The same. Each NT stands in an arm of its own, so that the compiler knows how many octets there are to look at. The longest NAI and none, which are the most
 // common, are asked first, by their octets.
 #[tactic(auto, unfolding(forms::specs::Forms::nai_length))]
-fn nai_tidy<L: Layout>(nai: &[u8; 40], nt: usize) -> bool
+fn nai_tidy_of_nt<L: Layout>(nai: &[u8; 40], nt: usize) -> bool
     ensures tidy { result ≡ zeros (drop (nai_length L.layout nt) nai.now) }
 {
     let n = forms::nai_length(L::form(), nt);
@@ -88,11 +114,11 @@ fn nai_tidy<L: Layout>(nai: &[u8; 40], nt: usize) -> bool
     }
 }
 
-// Whether the octets kept for an NAI and for four bit lengths are 0 where these do not stand.
-pub fn rest_tidy<L: Layout>(x: Lent<'_>) -> bool
+// The same of the NAI of the segment's own NT.
+pub fn rest_tidy_of_nt<L: Layout>(x: Lent<'_>) -> bool
     ensures tidy { let g = lent_of x.entry in result ≡ ((g.structured || zeros g.structure) && zeros (drop (nai_length L.layout g.nt) g.nai)) }
 {
     // A variable, since the borrow checker does not follow a lent array that a field shows as a slice.
     let bits = x.structure;
-    nai_tidy::<L>(x.nai, usize::from(x.outline.nt)) && (x.outline.structured || blank(bits))
+    nai_tidy_of_nt::<L>(x.nai, usize::from(x.outline.nt)) && (x.outline.structured || blank(bits))
 }

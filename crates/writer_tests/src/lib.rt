@@ -6,4 +6,4 @@ mod place;
 mod test;
 
 pub use place::misplaced;
-pub use test::{crowded, label_bad, misfit, overlong, time_bad};
+pub use test::{crowded, label_bad, misfit, misfit_of_nt, overlong, time_bad};

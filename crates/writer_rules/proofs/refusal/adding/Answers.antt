@@ -41,9 +41,9 @@ returns-in_err-front-clause-number g c =
     ∙ none_err c.front.result e LengthWrong c.in_err-front.ensures.value c.in_err-front.ensures.ok_part
     ∙ simp (← eh, n.0, n.1, barred_unfit form x c.args.ero c.args.x.typed b)
 
-pub returns-then-misfit-clause-number : goal.returns-then-misfit-clause-number
+pub returns-then-misfit_of_nt-clause-number : goal.returns-then-misfit_of_nt-clause-number
 unfolding add_number
-returns-then-misfit-clause-number g c =
+returns-then-misfit_of_nt-clause-number g c =
     let x = lent_of c.args.x in
     let form = g.L.Layout.layout in
     let h = c.head_of-head.result in
@@ -52,8 +52,8 @@ returns-then-misfit-clause-number g c =
     let head = c.head_of-head.ensures.head ∙ ap (λ (f : Form). head_of_outline f c.args.x.outline) c.form.ensures.form in
     let front = some_front (barred form c.args.x.outline c.args.x.sid.now) (lead form c.args.x.outline) c.in_ok-front.front (sym c.in_ok-front.ensures.ok_part ∙ c.front.ensures.front) in
     let nai = c.nai_octets-nai.ensures.octets.0 ∙ ap (λ (h : Head). nai_length form h.nt) head in
-    let seven = misfit_unfit form x c.args.ero c.misfit.result (nai_length form x.nt) c.args.x.typed front.0 refl c.misfit.ensures.misfit in
-    simp (← eh, n.0, n.1, sym seven ∙ c.if-misfit.true)
+    let seven = misfit_unfit form x c.args.ero c.misfit_of_nt.result (nai_length form x.nt) c.args.x.typed front.0 refl c.misfit_of_nt.ensures.misfit in
+    simp (← eh, n.0, n.1, sym seven ∙ c.if-misfit_of_nt.true)
 
 pub returns-then-overlong-clause-number : goal.returns-then-overlong-clause-number
 unfolding add_number
@@ -66,8 +66,8 @@ returns-then-overlong-clause-number g c =
     let head = c.head_of-head.ensures.head ∙ ap (λ (f : Form). head_of_outline f c.args.x.outline) c.form.ensures.form in
     let front = some_front (barred form c.args.x.outline c.args.x.sid.now) (lead form c.args.x.outline) c.in_ok-front.front (sym c.in_ok-front.ensures.ok_part ∙ c.front.ensures.front) in
     let nai = c.nai_octets-nai.ensures.octets.0 ∙ ap (λ (h : Head). nai_length form h.nt) head in
-    let seven = misfit_unfit form x c.args.ero c.misfit.result (nai_length form x.nt) c.args.x.typed front.0 refl c.misfit.ensures.misfit in
-    let fit = sym seven ∙ c.if-misfit.false in
+    let seven = misfit_unfit form x c.args.ero c.misfit_of_nt.result (nai_length form x.nt) c.args.x.typed front.0 refl c.misfit_of_nt.ensures.misfit in
+    let fit = sym seven ∙ c.if-misfit_of_nt.false in
     let k = looking form c.args.x h c.in_ok-front.front c.nai_octets-nai.result (cond c.args.x.outline.structured structure_size 0) c.form.ensures.sized c.requires
     head front.0 front.1 c.nai_octets-nai.ensures.octets.0 refl in
     let fits = fits_by k c.args.ero fit in
@@ -85,8 +85,8 @@ returns-then-label_bad-clause-number g c =
     let head = c.head_of-head.ensures.head ∙ ap (λ (f : Form). head_of_outline f c.args.x.outline) c.form.ensures.form in
     let front = some_front (barred form c.args.x.outline c.args.x.sid.now) (lead form c.args.x.outline) c.in_ok-front.front (sym c.in_ok-front.ensures.ok_part ∙ c.front.ensures.front) in
     let nai = c.nai_octets-nai.ensures.octets.0 ∙ ap (λ (h : Head). nai_length form h.nt) head in
-    let seven = misfit_unfit form x c.args.ero c.misfit.result (nai_length form x.nt) c.args.x.typed front.0 refl c.misfit.ensures.misfit in
-    let fit = sym seven ∙ c.if-misfit.false in
+    let seven = misfit_unfit form x c.args.ero c.misfit_of_nt.result (nai_length form x.nt) c.args.x.typed front.0 refl c.misfit_of_nt.ensures.misfit in
+    let fit = sym seven ∙ c.if-misfit_of_nt.false in
     let k = looking form c.args.x h c.in_ok-front.front c.nai_octets-nai.result (cond c.args.x.outline.structured structure_size 0) c.form.ensures.sized c.requires
     head front.0 front.1 c.nai_octets-nai.ensures.octets.0 refl in
     let fits = fits_by k c.args.ero fit in
@@ -104,8 +104,8 @@ returns-then-time_bad-clause-number g c =
     let head = c.head_of-head.ensures.head ∙ ap (λ (f : Form). head_of_outline f c.args.x.outline) c.form.ensures.form in
     let front = some_front (barred form c.args.x.outline c.args.x.sid.now) (lead form c.args.x.outline) c.in_ok-front.front (sym c.in_ok-front.ensures.ok_part ∙ c.front.ensures.front) in
     let nai = c.nai_octets-nai.ensures.octets.0 ∙ ap (λ (h : Head). nai_length form h.nt) head in
-    let seven = misfit_unfit form x c.args.ero c.misfit.result (nai_length form x.nt) c.args.x.typed front.0 refl c.misfit.ensures.misfit in
-    let fit = sym seven ∙ c.if-misfit.false in
+    let seven = misfit_unfit form x c.args.ero c.misfit_of_nt.result (nai_length form x.nt) c.args.x.typed front.0 refl c.misfit_of_nt.ensures.misfit in
+    let fit = sym seven ∙ c.if-misfit_of_nt.false in
     let k = looking form c.args.x h c.in_ok-front.front c.nai_octets-nai.result (cond c.args.x.outline.structured structure_size 0) c.form.ensures.sized c.requires
     head front.0 front.1 c.nai_octets-nai.ensures.octets.0 refl in
     let fits = fits_by k c.args.ero fit in
@@ -123,8 +123,8 @@ returns-then-crowded-clause-number g c =
     let head = c.head_of-head.ensures.head ∙ ap (λ (f : Form). head_of_outline f c.args.x.outline) c.form.ensures.form in
     let front = some_front (barred form c.args.x.outline c.args.x.sid.now) (lead form c.args.x.outline) c.in_ok-front.front (sym c.in_ok-front.ensures.ok_part ∙ c.front.ensures.front) in
     let nai = c.nai_octets-nai.ensures.octets.0 ∙ ap (λ (h : Head). nai_length form h.nt) head in
-    let seven = misfit_unfit form x c.args.ero c.misfit.result (nai_length form x.nt) c.args.x.typed front.0 refl c.misfit.ensures.misfit in
-    let fit = sym seven ∙ c.if-misfit.false in
+    let seven = misfit_unfit form x c.args.ero c.misfit_of_nt.result (nai_length form x.nt) c.args.x.typed front.0 refl c.misfit_of_nt.ensures.misfit in
+    let fit = sym seven ∙ c.if-misfit_of_nt.false in
     let k = looking form c.args.x h c.in_ok-front.front c.nai_octets-nai.result c.ending.result c.form.ensures.sized c.requires
     head front.0 front.1 c.nai_octets-nai.ensures.octets.0 c.ending.ensures.ending in
     let fits = fits_by k c.args.ero fit in
@@ -152,8 +152,8 @@ returns-clause-number g c =
     let head = c.head_of-head.ensures.head ∙ ap (λ (f : Form). head_of_outline f c.args.x.outline) c.form.ensures.form in
     let front = some_front (barred form c.args.x.outline c.args.x.sid.now) (lead form c.args.x.outline) c.in_ok-front.front (sym c.in_ok-front.ensures.ok_part ∙ c.front.ensures.front) in
     let nai = c.nai_octets-nai.ensures.octets.0 ∙ ap (λ (h : Head). nai_length form h.nt) head in
-    let seven = misfit_unfit form x c.args.ero c.misfit.result (nai_length form x.nt) c.args.x.typed front.0 refl c.misfit.ensures.misfit in
-    let fit = sym seven ∙ c.if-misfit.false in
+    let seven = misfit_unfit form x c.args.ero c.misfit_of_nt.result (nai_length form x.nt) c.args.x.typed front.0 refl c.misfit_of_nt.ensures.misfit in
+    let fit = sym seven ∙ c.if-misfit_of_nt.false in
     let k = looking form c.args.x h c.in_ok-front.front c.nai_octets-nai.result c.ending.result c.form.ensures.sized c.requires
     head front.0 front.1 c.nai_octets-nai.ensures.octets.0 c.ending.ensures.ending in
     let fits = fits_by k c.args.ero fit in
